@@ -1,5 +1,5 @@
 -- The numbers of members, and of what stands behind them, are low enough.
-use Rattle.std.proofs.Common.{◌≡◌, ℕ, suc, ◌+◌, ◌-◌, ◌==◌, ◌<◌, ◌≤◌, Bool, true, false, not, ◌&&◌, ◌||◌, cond, Option, List, [], ◌∷◌, length, get_or, map, reverse, refl, sym, ap, ◌∙◌, subst, arith, eqb-true, eq-eqb}
+use Rattle.std.proofs.Common.{◌≡◌, ℕ, suc, ◌+◌, ◌-◌, ◌==◌, ◌<◌, ◌≤◌, Bool, true, false, not, ◌&&◌, ◌||◌, cond, Option, None, List, [], ◌∷◌, length, get_or, map, reverse, refl, sym, ap, ◌∙◌, subst, arith, eqb-true, eq-eqb}
 use Rattle.std.specs.Prelude.{ℤ, All, Any, filter, nat_le, ◌↔◌}
 use Rattle.std.specs.List.{list_any}
 use Rattle.std.proofs.lemmas.Bool.Decides.{nat_tests}
@@ -11,11 +11,11 @@ use Rattle.lr_rules.specs.declared.rule.Count.{Count}
 use Rattle.lr_rules.specs.declared.rule.Count.TheVariants as count
 use Rattle.lr_rules.specs.declared.rule.Naming.{Naming}
 use Rattle.lr_family.specs.declared.place.Place.{Place}
-use Rattle.lr_family.specs.declared.place.Place.TheVariants as at
 use Rattle.lr_family.specs.declared.stand.Member.{Member}
 use Rattle.lr_family.specs.declared.stand.Stand.{Stand}
 use Rattle.lr_family.specs.Places.{IsPlaceOf, AreNamed}
 use Rattle.lr_family.specs.Stands.{number_in}
+use Rattle.lr_family.proofs.Placed.{numbered_at}
 use Rattle.lr_chain.specs.Rotation.{places_of, is_left, is_expired, goes, going}
 use Rattle.lr_chain.specs.Ready.{HaveNames, HaveNext, HaveNewNames, IsCount, NoneTooHigh, HasTooHigh, IsTooHigh, is_highest, highest_path}
 use Rattle.lr_chain.proofs.Highest.{path_is}
@@ -34,14 +34,13 @@ pub all_reverse : (P : ℕ → Type 0) (xs : List ℕ) → All P xs → All P (r
 all_reverse P [] h = h
 all_reverse P (x ∷ xs) h = subst (All P) (sym (reverse-append (x ∷ []) xs)) (All-append P (reverse xs) (x ∷ []) (all_reverse P xs (All-tail P x xs h)) (All-cons P x [] (All-head P x xs h) (All-nil P)))
 
-bound_of : (n : Naming) (place : Place) (path : Path) → IsPlaceOf n place path → n.start + number_in place ≤ 4294967295
-bound_of n (at.Number k) path named = named.bound
-bound_of n (at.Stamp s k) path named = absurd named
+bound_of : (n : Naming) (place : Place) (path : Path) → n.dated ≡ None → IsPlaceOf n place path → n.start + number_in place ≤ 4294967295
+bound_of n place path numbered named = let m = numbered_at n place path numbered named in m.bound
 
-pub have_names : (n : Naming) (members : List Member) → AreNamed n members → HaveNames n (places_of members)
-have_names n members named = all_reverse (λ place. n.start + place ≤ 4294967295) (map (λ m. number_in m.place) members)
+pub have_names : (n : Naming) (members : List Member) → n.dated ≡ None → AreNamed n members → HaveNames n (places_of members)
+have_names n members numbered named = all_reverse (λ place. n.start + place ≤ 4294967295) (map (λ m. number_in m.place) members)
     (All-map (λ place. n.start + place ≤ 4294967295) (λ m. number_in m.place) members
-    (All-weaker (λ m. IsPlaceOf n m.place m.path) (λ m. n.start + number_in m.place ≤ 4294967295) (λ m. bound_of n m.place m.path) members named))
+    (All-weaker (λ m. IsPlaceOf n m.place m.path) (λ m. n.start + number_in m.place ≤ 4294967295) (λ m. bound_of n m.place m.path numbered) members named))
 
 none_at : {X : Type 0} (p : X → Bool) (xs : List X) (k : ℕ) (d : X) → k < length xs → list_any p xs ≡ false → p (get_or xs k d) ≡ false
 none_at p xs k d lt e = go (p (get_or xs k d)) refl
@@ -50,26 +49,26 @@ none_at p xs k d lt e = go (p (get_or xs k d)) refl
     go true h = let t : list_any p xs ≡ true = list_any_at p xs k d lt h in absurd (cc)
     go false h = h
 
-next_of : (n : Naming) (c : Count) (m : Member) → n.start ≤ 999999 → IsCount c → IsPlaceOf n m.place m.path → (c ≡ count.Always → is_highest n m ≡ false)
+next_of : (n : Naming) (c : Count) (m : Member) → n.dated ≡ None → n.start ≤ 999999 → IsCount c → IsPlaceOf n m.place m.path → (c ≡ count.Always → is_highest n m ≡ false)
     → is_left c (number_in m.place) ≡ false → n.start + (number_in m.place + 1) ≤ 4294967295
-next_of n (count.Keep k) m start small named low h = by_count (number_in m.place) h
+next_of n (count.Keep k) m numbered start small named low h = by_count (number_in m.place) h
   where
     by_count : (place : ℕ) → nat_le k place ≡ false → n.start + (place + 1) ≤ 4294967295
     by_count place h = let lt : place < k = grind (arith, nat_tests) in omega arith
-next_of n count.Always m start small named low h = by_bound (number_in m.place) (bound_of n m.place m.path named) (low refl)
+next_of n count.Always m numbered start small named low h = by_bound (number_in m.place) (bound_of n m.place m.path numbered named) (low refl)
   where
     by_bound : (place : ℕ) → n.start + place ≤ 4294967295 → (n.start + place == 4294967295) ≡ false → n.start + (place + 1) ≤ 4294967295
     by_bound place le ne = grind (arith, nat_tests)
 
-pub have_next : (n : Naming) (c : Count) (members : List Member) → n.start ≤ 999999 → IsCount c → AreNamed n members → NoneTooHigh n c members → HaveNext n c (places_of members)
-have_next n c members start small named low = all_reverse (λ place. is_left c place ≡ false → n.start + (place + 1) ≤ 4294967295) (map (λ m. number_in m.place) members)
+pub have_next : (n : Naming) (c : Count) (members : List Member) → n.dated ≡ None → n.start ≤ 999999 → IsCount c → AreNamed n members → NoneTooHigh n c members → HaveNext n c (places_of members)
+have_next n c members numbered start small named low = all_reverse (λ place. is_left c place ≡ false → n.start + (place + 1) ≤ 4294967295) (map (λ m. number_in m.place) members)
     (All-map (λ place. is_left c place ≡ false → n.start + (place + 1) ≤ 4294967295) (λ m. number_in m.place) members
-    (λ k d lt. next_of n c (get_or members k d) start small (named k d lt) (λ e. none_at (is_highest n) members k d lt (low e))))
+    (λ k d lt. next_of n c (get_or members k d) numbered start small (named k d lt) (λ e. none_at (is_highest n) members k d lt (low e))))
 
 -- so have the new places of those that go
-pub have_new_names : (n : Naming) (c : Count) (maxage : Option ℕ) (now : ℤ) (members : List Member) → n.start ≤ 999999 → IsCount c → AreNamed n members → NoneTooHigh n c members → HaveNewNames n (going c maxage now members)
-have_new_names n c maxage now members start small named low = all_reverse (λ place. n.start + (place + 1) ≤ 4294967295) (map (λ m. number_in m.place) (filter (goes c maxage now) members))
-    (All-map (λ place. n.start + (place + 1) ≤ 4294967295) (λ m. number_in m.place) (filter (goes c maxage now) members) (new_names members (λ k d lt. next_of n c (get_or members k d) start small (named k d lt) (λ e. none_at (is_highest n) members k d lt (low e)))))
+pub have_new_names : (n : Naming) (c : Count) (maxage : Option ℕ) (now : ℤ) (members : List Member) → n.dated ≡ None → n.start ≤ 999999 → IsCount c → AreNamed n members → NoneTooHigh n c members → HaveNewNames n (going c maxage now members)
+have_new_names n c maxage now members numbered start small named low = all_reverse (λ place. n.start + (place + 1) ≤ 4294967295) (map (λ m. number_in m.place) (filter (goes c maxage now) members))
+    (All-map (λ place. n.start + (place + 1) ≤ 4294967295) (λ m. number_in m.place) (filter (goes c maxage now) members) (new_names members (λ k d lt. next_of n c (get_or members k d) numbered start small (named k d lt) (λ e. none_at (is_highest n) members k d lt (low e)))))
   where
     new_names : (ms : List Member) → All (λ m. is_left c (number_in m.place) ≡ false → n.start + (number_in m.place + 1) ≤ 4294967295) ms → All (λ m. n.start + (number_in m.place + 1) ≤ 4294967295) (filter (goes c maxage now) ms)
     new_names [] h = All-nil (λ m. n.start + (number_in m.place + 1) ≤ 4294967295)
@@ -82,24 +81,24 @@ have_new_names n c maxage now members start small named low = all_reverse (λ pl
         go false e false r = r
 
 -- the told path is that of each member that stands highest
-pub too_high_is : (n : Naming) (stand : Stand) (c : Count) (members : List Member) (path told x : Path) → stand.there ≡ true → members ≡ stand.members → AreNamed n stand.members → HasTooHigh n c members path → told ≡ path
+pub too_high_is : (n : Naming) (stand : Stand) (c : Count) (members : List Member) (path told x : Path) → stand.there ≡ true → members ≡ stand.members → n.dated ≡ None → AreNamed n stand.members → HasTooHigh n c members path → told ≡ path
     → (told ≡ x) ↔ IsTooHigh n stand c x
-too_high_is n stand c members path told x there same named has is = (λ e. (there, has.0, some e), λ h. same_path h)
+too_high_is n stand c members path told x there same numbered named has is = (λ e. (there, has.0, some e), λ h. same_path h)
   where
     some : told ≡ x → Any (λ m. (n.start + number_in m.place ≡ 4294967295) × (m.path ≡ x)) stand.members
     some e = let a = Any-from_list_any (is_highest n) stand.members (sym (ap (list_any (is_highest n)) same) ∙ has.1) in
-        (a.0, a.1, a.2, a.3, (eqb-true (n.start + number_in a.1.place) 4294967295 a.4, path_is n a.1 (subst (λ (m : Member). IsPlaceOf n m.place m.path) a.3 (named a.0 a.1 a.2)) a.4 ∙ (sym has.2 ∙ (sym is ∙ e))))
+        (a.0, a.1, a.2, a.3, (eqb-true (n.start + number_in a.1.place) 4294967295 a.4, path_is n a.1 numbered (subst (λ (m : Member). IsPlaceOf n m.place m.path) a.3 (named a.0 a.1 a.2)) a.4 ∙ (sym has.2 ∙ (sym is ∙ e))))
 
     same_path : IsTooHigh n stand c x → told ≡ x
     same_path h = let a = h.2 in
-        is ∙ (has.2 ∙ (sym (path_is n a.1 (subst (λ (m : Member). IsPlaceOf n m.place m.path) a.3 (named a.0 a.1 a.2)) (eq-eqb (n.start + number_in a.1.place) 4294967295 a.4.0)) ∙ a.4.1))
+        is ∙ (has.2 ∙ (sym (path_is n a.1 numbered (subst (λ (m : Member). IsPlaceOf n m.place m.path) a.3 (named a.0 a.1 a.2)) (eq-eqb (n.start + number_in a.1.place) 4294967295 a.4.0)) ∙ a.4.1))
 
 -- where no member's path is told so, none stands highest
-pub none_too_high : (n : Naming) (stand : Stand) (c : Count) → stand.there ≡ true → AreNamed n stand.members → ((path : Path) → IsTooHigh n stand c path → ⊥) → NoneTooHigh n c stand.members
-none_too_high n stand c there named low e = go (list_any (is_highest n) stand.members) refl
+pub none_too_high : (n : Naming) (stand : Stand) (c : Count) → stand.there ≡ true → n.dated ≡ None → AreNamed n stand.members → ((path : Path) → IsTooHigh n stand c path → ⊥) → NoneTooHigh n c stand.members
+none_too_high n stand c there numbered named low e = go (list_any (is_highest n) stand.members) refl
   where
     go : (b : Bool) → list_any (is_highest n) stand.members ≡ b → list_any (is_highest n) stand.members ≡ false
-    go true h = absurd (low (highest_path n) ((too_high_is n stand c stand.members (highest_path n) (highest_path n) (highest_path n) there refl named (e, h, refl) refl).0 refl))
+    go true h = absurd (low (highest_path n) ((too_high_is n stand c stand.members (highest_path n) (highest_path n) (highest_path n) there refl numbered named (e, h, refl) refl).0 refl))
     go false h = h
 
 -- where none stands highest, no path is told so

@@ -52,7 +52,8 @@ fn stands_highest(naming: &Naming, member: &Member) -> bool
 
 /// The path of a member that has the highest number that there is.
 pub fn highest<'a>(naming: &Naming, members: &'a [Member]) -> Option<&'a Path>
-    requires { AreNamed naming.now members.now }
+    requires numbered { naming.now.dated ≡ None }
+    requires named { AreNamed naming.now members.now }
     ensures { MatchOption result (list_any (is_highest naming.now) members.now ≡ false) (λ path. (list_any (is_highest naming.now) members.now ≡ true) × (path.now ≡ highest_path naming.now)) }
 {
     for member in members {

@@ -19,7 +19,8 @@ use std::alloc::Global;
 
 // The path of a member whose number would have to become too high.
 fn too_high<'a>(naming: &Naming, count: Count, members: &'a [Member]) -> Option<&'a Path>
-    requires { AreNamed naming.now members.now }
+    requires numbered { naming.now.dated ≡ None }
+    requires named { AreNamed naming.now members.now }
     ensures { MatchOption result (NoneTooHigh naming.now count members.now) (λ path. HasTooHigh naming.now count members.now path.now) }
 {
     match count {

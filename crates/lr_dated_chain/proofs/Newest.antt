@@ -1,10 +1,8 @@
 -- Of members, the newest first, the first with a moment has the greatest serial number of those with it.
-use Rattle.std.proofs.Common.{◌≡◌, ◌⊎◌, inl, inr, ⊎_elim, ℕ, zero, suc, ℤ, ◌+◌, ◌<◌, ◌≤◌, ◌<ℤ◌, true, false, List, [], ◌∷◌, ◌++◌, length, take, drop, get_or, Option, Some, None, Ordering, Less, Equal, Greater, refl, sym, ap, ◌∙◌, subst, arith, append_assoc}
+use Rattle.std.proofs.Common.{◌≡◌, ◌⊎◌, inl, inr, ⊎_elim, ℕ, zero, suc, ℤ, ◌+◌, ◌<◌, ◌≤◌, ◌<ℤ◌, true, false, List, [], ◌∷◌, ◌++◌, length, take, drop, get_or, Option, Some, None, Less, refl, sym, ap, ◌∙◌, subst, arith, append_assoc}
 use Rattle.std.specs.Prelude.{◌↔◌, Any}
-use Rattle.std.specs.Ordering.{MatchOrdering, int_cmp}
 use Rattle.std.specs.List.{AllByRecursion}
 use Rattle.std.specs.List.Sorted.{IsStrictlySortedBy}
-use Rattle.std.proofs.lemmas.Cmp.{int_ranked}
 use Rattle.std.proofs.lemmas.Int.{ints}
 use Rattle.std.proofs.lemmas.List.{take_more, take_all, take-append-drop}
 use Rattle.std.proofs.lemmas.List.Elements.{All-head, All-tail}
@@ -17,7 +15,9 @@ use Rattle.lr_stamps.proofs.Naming.{one_member}
 use Rattle.lr_family.specs.declared.place.Place.{Place}
 use Rattle.lr_family.specs.declared.place.Place.TheVariants as at
 use Rattle.lr_family.specs.declared.stand.Member.{Member}
-use Rattle.lr_days.specs.Newest.{key_in, by_age, AreNewestFirst, IsDayOf, AreDated}
+use Rattle.lr_family.specs.Places.{IsPlaceOf, AreNamed}
+use Rattle.lr_family.specs.Stands.{key_in, by_newness, AreNewestFirst}
+use Rattle.lr_family.proofs.Newness.{key_below}
 use Rattle.lr_dated_chain.specs.Next.{HasStamp, HasAt, HasNoneAt, IsNewestAt, IsNext, has_serials}
 
 -- ---- one of a list
@@ -72,7 +72,7 @@ picked P Q (x ∷ xs) a (inr h) = picked P Q xs a.1 h
 
 -- ---- the first with the moment
 
-behind : (m : Member) (xs ys : List Member) → IsStrictlySortedBy by_age (xs ++ m ∷ ys) → AllByRecursion (λ y. by_age m y ≡ Less) ys
+behind : (m : Member) (xs ys : List Member) → IsStrictlySortedBy by_newness (xs ++ m ∷ ys) → AllByRecursion (λ y. by_newness m y ≡ Less) ys
 unfolding IsStrictlySortedBy
 behind m [] ys s = s.0
 behind m (x ∷ xs) ys s = behind m xs ys s.1
@@ -86,14 +86,6 @@ same_serial t k l e = cc
 lower : (t : ℤ) (k l : ℕ) → stamp_key t l <ℤ stamp_key t k → l ≤ k
 lower t k l lt = omega (arith, ints, lt)
 
-pub key_below : (a b : ℤ) → int_cmp b a ≡ Less → b <ℤ a
-key_below a b e = go (int_cmp b a) (int_ranked b a _ refl) e
-  where
-    go : (o : Ordering) → MatchOrdering o (b <ℤ a) (b ≡ a) (a <ℤ b) → o ≡ Less → b <ℤ a
-    go Less m e = m
-    go Equal m e = absurd (cc)
-    go Greater m e = absurd (cc)
-
 pub found : (members : List Member) (i : ℕ) (m : Member) (t : ℤ) (k : ℕ) → AreNewestFirst members → HasNoneAt (take i members) t → m ≡ get_or members i m → i < length members → m.place ≡ at.Stamp t k → IsNewestAt members t m.path k
 found members i m t k sorted none is lt place = record {
   here = subst (λ (ms : List Member). HasAt ms t k m.path) (sym parts) (any_in (IsAt t k m.path) (take i members ++ m ∷ drop (i + 1) members) (has_right (IsAt t k m.path) (take i members) (m ∷ drop (i + 1) members) (inl (place, refl))));
@@ -103,14 +95,14 @@ found members i m t k sorted none is lt place = record {
     parts : members ≡ take i members ++ m ∷ drop (i + 1) members
     parts = one_behind m members i is lt
 
-    older : AllByRecursion (λ y. by_age m y ≡ Less) (drop (i + 1) members)
-    older = behind m (take i members) (drop (i + 1) members) (subst (IsStrictlySortedBy by_age) parts sorted)
+    older : AllByRecursion (λ y. by_newness m y ≡ Less) (drop (i + 1) members)
+    older = behind m (take i members) (drop (i + 1) members) (subst (IsStrictlySortedBy by_newness) parts sorted)
 
     go : (l : ℕ) → HasOne (IsStamp t l) (take i members) ⊎ HasOne (IsStamp t l) (m ∷ drop (i + 1) members) → l ≤ k
     go l (inl h) = absurd (none l (any_in (IsStamp t l) (take i members) h))
     go l (inr (inl p)) = let e : k ≡ l = same_serial t k l (sym place ∙ p) in omega (arith, e)
     go l (inr (inr h)) =
-        let y = picked (IsStamp t l) (λ y. by_age m y ≡ Less) (drop (i + 1) members) older h in
+        let y = picked (IsStamp t l) (λ y. by_newness m y ≡ Less) (drop (i + 1) members) older h in
         lower t k l (subst (λ (p : Place). stamp_key t l <ℤ key_in p) place (subst (λ (p : Place). key_in p <ℤ key_in m.place) y.2 (key_below (key_in m.place) (key_in y.0.place) y.1)))
 
 pub none_first : (members : List Member) (t : ℤ) → HasNoneAt (take 0 members) t
@@ -140,12 +132,12 @@ next_behind members t x k new = record { above = λ l h. let i : l ≤ k = new.m
 
 -- ---- members that are dated
 
-one_dated : (n : Naming) (members : List Member) (t : ℤ) (k : ℕ) (x : Path) → AreDated n members → HasOne (IsAt t k x) members → IsDatedAt n t k x
+one_dated : (n : Naming) (members : List Member) (t : ℤ) (k : ℕ) (x : Path) → AreNamed n members → HasOne (IsAt t k x) members → IsDatedAt n t k x
 one_dated n [] t k x h a = absurd a
-one_dated n (m ∷ ms) t k x h (inl p) = subst (IsDatedAt n t k) p.1 (subst (λ (q : Place). IsDayOf n q m.path) p.0 (All-head (λ (m : Member). IsDayOf n m.place m.path) m ms h))
-one_dated n (m ∷ ms) t k x h (inr a) = one_dated n ms t k x (All-tail (λ (m : Member). IsDayOf n m.place m.path) m ms h) a
+one_dated n (m ∷ ms) t k x h (inl p) = subst (IsDatedAt n t k) p.1 (subst (λ (q : Place). IsPlaceOf n q m.path) p.0 (All-head (λ (m : Member). IsPlaceOf n m.place m.path) m ms h))
+one_dated n (m ∷ ms) t k x h (inr a) = one_dated n ms t k x (All-tail (λ (m : Member). IsPlaceOf n m.place m.path) m ms h) a
 
-dated_at : (n : Naming) (members : List Member) (t : ℤ) (k : ℕ) (x : Path) → AreDated n members → HasAt members t k x → IsDatedAt n t k x
+dated_at : (n : Naming) (members : List Member) (t : ℤ) (k : ℕ) (x : Path) → AreNamed n members → HasAt members t k x → IsDatedAt n t k x
 dated_at n members t k x h a = one_dated n members t k x h (one_in (IsAt t k x) members a)
 
 serials_of : (d : Option Format) (f : Format) (k : ℕ) → d ≡ Some f → IsSerial f k → (k ≡ 0) ⊎ (has_serials d ≡ true)
@@ -159,7 +151,7 @@ not_both : {A : Type 0} (b : _) → b ≡ true → b ≡ false → A
 not_both b p q = absurd (cc)
 
 -- the member with the greatest serial number that there is
-pub is_too_high : (n : Naming) (members : List Member) (t : ℤ) (x : Path) (k : ℕ) → or_none is_format n.dated ≡ true → AreDated n members → k ≤ 4294967295 → IsNewestAt members t x k → (p : Path)
+pub is_too_high : (n : Naming) (members : List Member) (t : ℤ) (x : Path) (k : ℕ) → or_none is_format n.dated ≡ true → AreNamed n members → k ≤ 4294967295 → IsNewestAt members t x k → (p : Path)
     → ((has_serials n.dated ≡ true) × (k ≡ 4294967295) × (p ≡ x)) ↔ HasAt members t 4294967295 p
 is_too_high n members t x k good dated small new p = (to, from)
   where
@@ -175,7 +167,7 @@ is_too_high n members t x k good dated small new p = (to, from)
         (⊎_elim (λ z. absurd (omega (arith, z))) (λ s. s) (with_serial n t 4294967295 p there), same, one_member n t 4294967295 p x good there here)
 
 -- the member of the moment, where the names have no serial numbers
-pub is_taken : (n : Naming) (members : List Member) (t : ℤ) (x : Path) (k : ℕ) → or_none is_format n.dated ≡ true → AreDated n members → IsNewestAt members t x k → (p : Path)
+pub is_taken : (n : Naming) (members : List Member) (t : ℤ) (x : Path) (k : ℕ) → or_none is_format n.dated ≡ true → AreNamed n members → IsNewestAt members t x k → (p : Path)
     → ((has_serials n.dated ≡ false) × (p ≡ x)) ↔ ((has_serials n.dated ≡ false) × HasAt members t 0 p)
 is_taken n members t x k good dated new p = (to, from)
   where

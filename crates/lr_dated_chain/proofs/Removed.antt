@@ -10,7 +10,7 @@ use Rattle.lr_family.specs.declared.place.Place.{Place}
 use Rattle.lr_family.specs.declared.place.Place.TheVariants as at
 use Rattle.lr_family.specs.declared.stand.Member.{Member}
 use Rattle.lr_scripts.specs.declared.removal.Removal.{Removal}
-use Rattle.lr_days.specs.Newest.{key_in}
+use Rattle.lr_family.specs.Stands.{key_in}
 use Rattle.lr_dated.specs.Steps.{Ranked, key_of, is_left, gone}
 use Rattle.lr_chain.specs.Rotation.{is_expired}
 use Rattle.lr_dated_chain.proofs.Steps.{map_reverse}

@@ -1,5 +1,5 @@
 -- What makes the rotation of a dated family ready, and its steps.
-use Rattle.std.specs.Prelude.{◌≡◌, ℕ, ℤ, pos, false, int_lt, List, [], ◌∷◌, ◌++◌, map, reverse, Option, None, if◌then◌else◌}
+use Rattle.std.specs.Prelude.{◌≡◌, ℕ, ℤ, pos, neg_ℤ, false, int_lt, List, [], ◌∷◌, ◌++◌, map, reverse, Option, None, if◌then◌else◌}
 use Rattle.lr_rules.specs.declared.path.Path.{Path}
 use Rattle.lr_rules.specs.declared.rule.Count.{Count}
 use Rattle.lr_rules.specs.declared.rule.Make.{Make}
@@ -21,10 +21,10 @@ use Rattle.lr_dated.specs.Steps.{Ranked, key_of, gone, dated_rotation}
 use Rattle.lr_dated.specs.Turned.{StandSo, IsDatedTurned}
 use Rattle.lr_dated_chain.specs.Next.{IsNext}
 
--- the moment of a place, and its serial number; a dated family has no numbers
+-- the moment of a place, and its serial number; a dated family has no numbers, which count as moments before 1970 as in the order of members
 abbrev pub seconds_in : Place → ℤ
 seconds_in (at.Stamp seconds serial) = seconds
-seconds_in (at.Number place) = pos 0
+seconds_in (at.Number place) = neg_ℤ (pos place)
 
 abbrev pub serial_in : Place → ℕ
 serial_in (at.Stamp seconds serial) = serial

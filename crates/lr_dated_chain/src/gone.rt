@@ -2,15 +2,14 @@
 ghost use Rattle.std.specs.Prelude.{◌≡◌, ◌≤◌, ◌<◌, ◌+◌, ◌^◌, ◌||◌, ℕ, ℤ, Option, [], ◌∷◌, ◌++◌, map, reverse, take, drop, length, int_lt, IfOk, OnOk, if◌then◌else◌};
 ghost use Rattle.lr_rules.specs.declared.path.Path.{Path};
 ghost use Rattle.lr_rules.specs.Dated.{stamp_key};
-ghost use Rattle.lr_days.specs.Newest.{key_in};
+ghost use Rattle.lr_family.specs.Stands.{key_in};
 ghost use Rattle.lr_chain.specs.Rotation.{is_expired};
 ghost use Rattle.lr_dated.specs.Steps.{is_left, gone};
 ghost use Rattle.lr_dated_chain.specs.Ready.{ranked, renamed, all_of, removal_of, plain_removal};
 
 use crate::target::Target;
 use lr_chain::is_expired;
-use lr_days::key_of;
-use lr_family::{Member, Place};
+use lr_family::{Member, Place, key_of};
 use lr_rules::{Count, Memory, Path};
 use lr_scripts::Removal;
 use std::alloc::Global;

@@ -7,7 +7,8 @@ ghost use Rattle.lr_rules.specs.declared.rule.Naming.{Naming};
 ghost use Rattle.lr_rules.specs.Dated.{IsDatedAt};
 ghost use Rattle.lr_family.specs.declared.stand.Member.{Member};
 ghost use Rattle.lr_chain.specs.declared.ready.Ready.{Ready};
-ghost use Rattle.lr_days.specs.Newest.{AreDated, AreNewestFirst};
+ghost use Rattle.lr_family.specs.Places.{AreNamed};
+ghost use Rattle.lr_family.specs.Stands.{AreNewestFirst};
 ghost use Rattle.lr_dated.specs.Steps.{AreFalling, AreDatedAt, dated_rotation};
 ghost use Rattle.lr_dated_chain.specs.Next.{IsNext};
 ghost use Rattle.lr_dated_chain.specs.Ready.{IsDatedReady, all_of, steps_of};
@@ -23,9 +24,9 @@ pub fn steps_of_dated()
 /// number.
 pub fn all_are_in_order()
     ensures falling { (n : Naming) (maxage : Option ℕ) (now seconds : ℤ) (serial : ℕ) (target : Path)
-        (members : List Member) → AreNewestFirst members → IsNext members seconds serial → AreDated n members
+        (members : List Member) → AreNewestFirst members → IsNext members seconds serial → AreNamed n members
         → IsDatedAt n seconds serial target → AreFalling (all_of maxage now seconds serial target members) }
     ensures dated { (n : Naming) (maxage : Option ℕ) (now seconds : ℤ) (serial : ℕ) (target : Path)
-        (members : List Member) → AreDated n members → IsDatedAt n seconds serial target
+        (members : List Member) → AreNamed n members → IsDatedAt n seconds serial target
         → AreDatedAt n (all_of maxage now seconds serial target members) }
 {}

@@ -4,7 +4,7 @@
 //! number that comes next, and its steps turn the family. Begin with `prepare`:
 //!
 //! ```text
-//! let stand = lr_days::stand(alloc, host, &family)?;
+//! let stand = family.stand(alloc, host)?;
 //! let ready = prepare(alloc, &family, &stand, Count::Keep(7), Some(30), Make::No, &clock)?;
 //! lr_chain::turn(host, &ready)?;                                // /var/log/app.log is /var/log/app.log-20240114
 //! lr_chain::retire(alloc, host, ready.retire.as_slice())?;

@@ -1,7 +1,7 @@
 // The newest member of a moment.
 ghost use Rattle.std.specs.Prelude.{◌≡◌, ◌↔◌, ℕ, Some, MatchOption};
 ghost use Rattle.lr_family.specs.declared.place.Place.TheVariants as at;
-ghost use Rattle.lr_days.specs.Newest.{AreNewestFirst};
+ghost use Rattle.lr_family.specs.Stands.{AreNewestFirst};
 ghost use Rattle.lr_dated_chain.specs.Next.{HasNoneAt, IsNewestAt};
 
 use lr_family::{Member, Place};

@@ -4,7 +4,8 @@ ghost use Rattle.lr_rules.specs.declared.path.Path.{Path};
 ghost use Rattle.lr_rules.specs.Limits.{is_format, or_none};
 ghost use Rattle.lr_rules.specs.Dated.{IsDatedAt};
 ghost use Rattle.lr_stamps.specs.Dated.{clock_seconds};
-ghost use Rattle.lr_days.specs.Newest.{AreDated, AreNewestFirst};
+ghost use Rattle.lr_family.specs.Places.{AreNamed};
+ghost use Rattle.lr_family.specs.Stands.{AreNewestFirst};
 ghost use Rattle.lr_chain.specs.Ready.{IsMissing};
 ghost use Rattle.lr_dated_chain.specs.Next.{IsNext};
 ghost use Rattle.lr_dated_chain.specs.Ready.{IsDatedReady, all_of, FitsWhereTheyStand, TurnsWhereTheyStand};
@@ -60,7 +61,7 @@ pub fn prepare(
 ) -> Result<Ready, PrepareStop>
     requires dated { IsSome family.now.naming.dated }
     requires format { or_none is_format family.now.naming.dated ≡ true }
-    requires named { AreDated family.now.naming stand.now.members }
+    requires named { AreNamed family.now.naming stand.now.members }
     requires newest { AreNewestFirst stand.now.members }
     ensures ready { IfOk result (IsDatedReady family.now.log family.now.naming count anew maxage clock.entry.now.now.seconds (clock_seconds family.now.naming.dated clock.entry.now) stand.now.members) }
     ensures fits { IfOk result (λ ready. (serial : ℕ) → FitsWhereTheyStand family.now.log family.now.naming count ready.target (all_of maxage clock.entry.now.now.seconds (clock_seconds family.now.naming.dated clock.entry.now) serial ready.target stand.now.members)) }

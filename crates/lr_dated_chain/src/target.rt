@@ -4,7 +4,8 @@ ghost use Rattle.lr_rules.specs.declared.path.Path.{Path};
 ghost use Rattle.lr_rules.specs.Limits.{is_format, or_none};
 ghost use Rattle.lr_rules.specs.Dated.{IsDatedAt};
 ghost use Rattle.lr_stamps.specs.Dated.{clock_seconds};
-ghost use Rattle.lr_days.specs.Newest.{AreDated, AreNewestFirst};
+ghost use Rattle.lr_family.specs.Places.{AreNamed};
+ghost use Rattle.lr_family.specs.Stands.{AreNewestFirst};
 ghost use Rattle.lr_dated_chain.specs.Next.{HasAt, IsNext, has_serials};
 ghost use Rattle.lr_dated_chain.specs.Refused.{IsStop};
 
@@ -128,7 +129,7 @@ pub fn target_of(
 ) -> Result<Target, PrepareStop>
     requires dated { IsSome family.now.naming.dated }
     requires format { or_none is_format family.now.naming.dated ≡ true }
-    requires named { AreDated family.now.naming members.now }
+    requires named { AreNamed family.now.naming members.now }
     requires newest { AreNewestFirst members.now }
     ensures seconds { IfOk result (λ t. t.seconds ≡ clock_seconds family.now.naming.dated clock.entry.now) }
     ensures named { IfOk result (λ t. IsDatedAt family.now.naming t.seconds t.serial t.path) }

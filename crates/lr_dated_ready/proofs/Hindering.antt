@@ -19,7 +19,7 @@ use Rattle.lr_family.specs.declared.place.Place.{Place}
 use Rattle.lr_family.specs.declared.place.Place.TheVariants as at
 use Rattle.lr_family.specs.declared.stand.Member.{Member}
 use Rattle.lr_family.specs.declared.stand.Stand.{Stand}
-use Rattle.lr_days.specs.Newest.{IsDayOf, AreDated}
+use Rattle.lr_family.specs.Places.{IsPlaceOf, AreNamed}
 use Rattle.lr_chain.specs.Ready.{IsMissing}
 use Rattle.lr_dated_chain.specs.Next.{HasStamp, HasAt, has_serials}
 use Rattle.lr_dated_chain.specs.Refused.{IsTooHigh, IsTaken}
@@ -69,10 +69,10 @@ kind_of why t k ms f e other = go (finds why t k ms)
 
 -- ---- among dated members
 
-dated_one : (n : Naming) (ms : List Member) (t : ℤ) (k : ℕ) (x : Path) → AreDated n ms → HasOne (IsAt t k x) ms → IsDatedAt n t k x
+dated_one : (n : Naming) (ms : List Member) (t : ℤ) (k : ℕ) (x : Path) → AreNamed n ms → HasOne (IsAt t k x) ms → IsDatedAt n t k x
 dated_one n [] t k x d h = absurd h
-dated_one n (m ∷ ms) t k x d (inl p) = subst (IsDatedAt n t k) p.1 (subst (λ (q : Place). IsDayOf n q m.path) p.0 (All-head (λ (m : Member). IsDayOf n m.place m.path) m ms d))
-dated_one n (m ∷ ms) t k x d (inr h) = dated_one n ms t k x (All-tail (λ (m : Member). IsDayOf n m.place m.path) m ms d) h
+dated_one n (m ∷ ms) t k x d (inl p) = subst (IsDatedAt n t k) p.1 (subst (λ (q : Place). IsPlaceOf n q m.path) p.0 (All-head (λ (m : Member). IsPlaceOf n m.place m.path) m ms d))
+dated_one n (m ∷ ms) t k x d (inr h) = dated_one n ms t k x (All-tail (λ (m : Member). IsPlaceOf n m.place m.path) m ms d) h
 
 -- a serial number above 0 stands in names that have them
 serials_there : (n : Naming) (t : ℤ) (k : ℕ) (x : Path) → 0 < k → IsDatedAt n t k x → has_serials n.dated ≡ true
@@ -81,7 +81,7 @@ serials_there n t k x lt a = ⊎_elim (λ z. absurd (omega (arith, lt, z))) (λ 
 at_most : (n : Naming) (t : ℤ) (k : ℕ) (x : Path) → IsDatedAt n t k x → k ≤ 4294967295
 at_most n t k x a = ⊎_elim (λ z. omega (arith, z)) (λ s. s.1) a.is.numbered
 
-module _ (n : Naming) (good : or_none is_format n.dated ≡ true) (ms : List Member) (named : AreDated n ms) (why : Path → Fault) (one : (x y : Path) → why x ∷ [] ≡ why y ∷ [] → x ≡ y) (t : ℤ) (k : ℕ) (p : Path) where
+module _ (n : Naming) (good : or_none is_format n.dated ≡ true) (ms : List Member) (named : AreNamed n ms) (why : Path → Fault) (one : (x y : Path) → why x ∷ [] ≡ why y ∷ [] → x ≡ y) (t : ℤ) (k : ℕ) (p : Path) where
   tells : HasAt ms t k p → fault_at why t k ms ≡ why p ∷ []
   tells h = go (finds why t k ms)
     where
@@ -137,7 +137,7 @@ module _ (n : Naming) (stand : Stand) (t : ℤ) where
       from true true e = absurd (kind_of too_high t 4294967295 stand.members (fault.NoDir p) e (λ x f. high_no_dir x p f))
       from true false e = absurd (kind_of taken t 0 stand.members (fault.NoDir p) e (λ x f. taken_no_dir x p f))
 
-  module _ (good : or_none is_format n.dated ≡ true) (named : AreDated n stand.members) where
+  module _ (good : or_none is_format n.dated ≡ true) (named : AreNamed n stand.members) where
     pub too_high_is : (p : Path) → IsTooHigh stand t p ↔ (dated_hindrances n stand t ≡ fault.TooHigh p ∷ [])
     too_high_is p = (to, from stand.there (has_serials n.dated))
       where

@@ -10,7 +10,7 @@ use Rattle.lr_rules.specs.Limits.{is_format, or_none}
 use Rattle.lr_stamps.specs.Dated.{clock_seconds}
 use Rattle.lr_family.specs.declared.stand.Member.{Member}
 use Rattle.lr_family.specs.declared.stand.Stand.{Stand}
-use Rattle.lr_days.specs.Newest.{AreDated}
+use Rattle.lr_family.specs.Places.{AreNamed}
 use Rattle.lr_chain.specs.declared.ready.PrepareStop.{PrepareStop}
 use Rattle.lr_chain.specs.declared.ready.PrepareStop.TheVariants as stop
 use Rattle.lr_chain.specs.declared.ready.Ready.{Ready}
@@ -27,7 +27,7 @@ pub ok_ready : (log : Path) (n : Naming) (c : Count) (anew : Make) (maxage : Opt
 ok_ready log n c anew maxage clock members (Ok ready) good h = ready_one log n c anew maxage clock members ready good h
 ok_ready log n c anew maxage clock members (Err e) good h = tt
 
-module _ (n : Naming) (stand : Stand) (t : ℤ) (good : or_none is_format n.dated ≡ true) (named : AreDated n stand.members) where
+module _ (n : Naming) (stand : Stand) (t : ℤ) (good : or_none is_format n.dated ≡ true) (named : AreNamed n stand.members) where
   pub ok_free : (r : Result Ready PrepareStop) → (r ≢ Err stop.Memory → (p : Path) → (r ≡ Err (stop.NoDir p)) ↔ IsMissing n stand p) → (r ≢ Err stop.Memory → (p : Path) → (r ≡ Err (stop.TooHigh p)) ↔ IsTooHigh stand t p)
       → (r ≢ Err stop.Memory → (p : Path) → (r ≡ Err (stop.Taken p)) ↔ IsTaken n stand t p) → OnOk r (dated_hindrances n stand t ≡ [])
   ok_free (Err e) dir high held = tt

@@ -10,7 +10,7 @@ use Rattle.lr_rules.specs.Limits.{is_format, or_none}
 use Rattle.lr_stamps.specs.Dated.{clock_seconds}
 use Rattle.lr_family.specs.declared.stand.Member.{Member}
 use Rattle.lr_family.specs.declared.stand.Stand.{Stand}
-use Rattle.lr_days.specs.Newest.{AreDated}
+use Rattle.lr_family.specs.Places.{AreNamed}
 use Rattle.lr_scripts.specs.declared.removal.Removal.{Removal}
 use Rattle.lr_chain.specs.declared.ready.Move.{Move}
 use Rattle.lr_chain.specs.declared.ready.Ready.{Ready}
@@ -48,7 +48,7 @@ ready_one log n c anew maxage clock members ready good r = same_ready ready.left
     retire : ready.retire ≡ dated_removals n c maxage clock members
     retire = r.retire_is ∙ (ap (λ (k : ℕ). removals k ready.target) serial ∙ ap (removals (next_serial members t)) target)
 
-pub ready_back : (log : Path) (n : Naming) (c : Count) (anew : Make) (maxage : Option ℕ) (clock : Clock) (stand : Stand) → IsSome n.dated → or_none is_format n.dated ≡ true → AreDated n stand.members
+pub ready_back : (log : Path) (n : Naming) (c : Count) (anew : Make) (maxage : Option ℕ) (clock : Clock) (stand : Stand) → IsSome n.dated → or_none is_format n.dated ≡ true → AreNamed n stand.members
     → dated_hindrances n stand (clock_seconds n.dated clock) ≡ [] → IsDatedReady log n c anew maxage clock.now.seconds (clock_seconds n.dated clock) stand.members (dated_ready log n c maxage clock anew stand.members)
 ready_back log n c anew maxage clock stand some good named free = record {
   no_leftovers = refl;

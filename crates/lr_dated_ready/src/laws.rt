@@ -11,7 +11,7 @@ ghost use Rattle.lr_rules.specs.Limits.{is_format, or_none};
 ghost use Rattle.lr_stamps.specs.Dated.{clock_seconds, MayHaveSerial};
 ghost use Rattle.lr_family.specs.declared.stand.Member.{Member};
 ghost use Rattle.lr_family.specs.declared.stand.Stand.{Stand};
-ghost use Rattle.lr_days.specs.Newest.{AreDated};
+ghost use Rattle.lr_family.specs.Places.{AreNamed};
 ghost use Rattle.lr_chain.specs.declared.ready.Ready.{Ready};
 ghost use Rattle.lr_chain.specs.Ready.{IsMissing};
 ghost use Rattle.lr_dated_chain.specs.Next.{IsNext};
@@ -41,7 +41,7 @@ pub fn ready_is_one()
         → IsDatedReady log n c anew maxage clock.now.seconds (clock_seconds n.dated clock) members ready
         → ready ≡ dated_ready log n c maxage clock anew members }
     ensures back { (log : Path) (n : Naming) (c : Count) (anew : Make) (maxage : Option ℕ) (clock : Clock) (stand : Stand)
-        → IsSome n.dated → or_none is_format n.dated ≡ true → AreDated n stand.members
+        → IsSome n.dated → or_none is_format n.dated ≡ true → AreNamed n stand.members
         → dated_hindrances n stand (clock_seconds n.dated clock) ≡ []
         → IsDatedReady log n c anew maxage clock.now.seconds (clock_seconds n.dated clock) stand.members (dated_ready log n c maxage clock anew stand.members) }
 {}
@@ -51,11 +51,11 @@ pub fn ready_is_one()
 pub fn hindrances_are()
     ensures no_dir { (n : Naming) (stand : Stand) (seconds : ℤ) (path : Path)
         → IsMissing n stand path ↔ (dated_hindrances n stand seconds ≡ fault.NoDir path ∷ []) }
-    ensures too_high { (n : Naming) (stand : Stand) (seconds : ℤ) (path : Path) → or_none is_format n.dated ≡ true → AreDated n stand.members
+    ensures too_high { (n : Naming) (stand : Stand) (seconds : ℤ) (path : Path) → or_none is_format n.dated ≡ true → AreNamed n stand.members
         → IsTooHigh stand seconds path ↔ (dated_hindrances n stand seconds ≡ fault.TooHigh path ∷ []) }
-    ensures taken { (n : Naming) (stand : Stand) (seconds : ℤ) (path : Path) → or_none is_format n.dated ≡ true → AreDated n stand.members
+    ensures taken { (n : Naming) (stand : Stand) (seconds : ℤ) (path : Path) → or_none is_format n.dated ≡ true → AreNamed n stand.members
         → IsTaken n stand seconds path ↔ (dated_hindrances n stand seconds ≡ fault.Taken path ∷ []) }
-    ensures none { (n : Naming) (stand : Stand) (seconds : ℤ) → or_none is_format n.dated ≡ true → AreDated n stand.members
+    ensures none { (n : Naming) (stand : Stand) (seconds : ℤ) → or_none is_format n.dated ≡ true → AreNamed n stand.members
         → ((path : Path) → (IsMissing n stand path → ⊥) × (IsTooHigh stand seconds path → ⊥) × (IsTaken n stand seconds path → ⊥))
         ↔ (dated_hindrances n stand seconds ≡ []) }
 {}

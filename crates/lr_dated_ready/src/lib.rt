@@ -5,7 +5,7 @@
 //! with `prepare_dated`:
 //!
 //! ```text
-//! let stand = lr_days::stand(alloc, host, &family)?;
+//! let stand = family.stand(alloc, host)?;
 //! let ready = prepare_dated(alloc, &family, &stand, Count::Keep(7), None, Make::No, &clock)?;
 //! ```
 //!

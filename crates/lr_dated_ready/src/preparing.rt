@@ -2,7 +2,8 @@
 ghost use Rattle.std.specs.Prelude.{◌≡◌, [], true, IsSome, IfOk, IfErr, OnOk};
 ghost use Rattle.lr_rules.specs.Limits.{is_format, or_none};
 ghost use Rattle.lr_stamps.specs.Dated.{clock_seconds};
-ghost use Rattle.lr_days.specs.Newest.{AreDated, AreNewestFirst};
+ghost use Rattle.lr_family.specs.Places.{AreNamed};
+ghost use Rattle.lr_family.specs.Stands.{AreNewestFirst};
 ghost use Rattle.lr_dated_ready.specs.Hindrances.{dated_hindrances, IsHindered};
 ghost use Rattle.lr_dated_ready.specs.Ready.{dated_ready};
 
@@ -25,7 +26,7 @@ pub fn prepare_dated(
 ) -> Result<Ready, PrepareStop>
     requires dated { IsSome family.now.naming.dated }
     requires format { or_none is_format family.now.naming.dated ≡ true }
-    requires named { AreDated family.now.naming stand.now.members }
+    requires named { AreNamed family.now.naming stand.now.members }
     requires newest { AreNewestFirst stand.now.members }
     ensures ready { IfOk result (λ ready. ready ≡ dated_ready family.now.log family.now.naming count maxage clock.entry.now anew stand.now.members) }
     ensures free { OnOk result (dated_hindrances family.now.naming stand.now (clock_seconds family.now.naming.dated clock.entry.now) ≡ []) }

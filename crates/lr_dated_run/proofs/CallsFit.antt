@@ -24,7 +24,7 @@ use Rattle.lr_host.specs.World.{Names, put, Past, world, names}
 use Rattle.lr_host.proofs.Each.{each_reverse}
 use Rattle.lr_host.proofs.Names.{put_here, put_other}
 use Rattle.lr_family.specs.declared.stand.Member.{Member}
-use Rattle.lr_days.specs.Newest.{AreDated}
+use Rattle.lr_family.specs.Places.{AreNamed}
 use Rattle.lr_copy.specs.declared.job.Job.{Job}
 use Rattle.lr_copy.specs.Fits.{ArePaths, HasPlace, IsStale}
 use Rattle.lr_dated.specs.Steps.{Ranked, is_left, gone, unlink, dated_rotation, AreDatedAt}
@@ -78,7 +78,7 @@ copy_paths rule job log n target t serial looks naming_is j family is = record {
 -- ---- over any names
 
 -- where its steps fit
-module _ (log : Path) (n : Naming) (c : Count) (maxage : Option ℕ) (members : List Member) (target : Path) (now t : ℤ) (serial : ℕ) (here : Names) (family : IsDatedFamily log n) (named : AreDated n members) (is : IsDatedAt n t serial target)
+module _ (log : Path) (n : Naming) (c : Count) (maxage : Option ℕ) (members : List Member) (target : Path) (now t : ℤ) (serial : ℕ) (here : Names) (family : IsDatedFamily log n) (named : AreNamed n members) (is : IsDatedAt n t serial target)
     (fit : FitAll here (reverse (dated_rotation c log target (all_of maxage now t serial target members)))) where
   abbrev all : List Ranked
   all = all_of maxage now t serial target members

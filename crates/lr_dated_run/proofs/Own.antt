@@ -14,7 +14,7 @@ use Rattle.lr_host.specs.Told.{Each}
 use Rattle.lr_host.proofs.Each.{each_append, each_reverse}
 use Rattle.lr_family.specs.declared.stand.Member.{Member}
 use Rattle.lr_family.specs.Parts.{part_of}
-use Rattle.lr_days.specs.Newest.{AreDated}
+use Rattle.lr_family.specs.Places.{AreNamed}
 use Rattle.lr_copy.specs.declared.job.Job.{Job}
 use Rattle.lr_copy.specs.Copying.{clearing}
 use Rattle.lr_chain.specs.Ready.{with_dir, move_step}
@@ -86,7 +86,7 @@ module _ (log : Path) (n : Naming) where
       cleared true = (unlink_own job.part a, tt)
       cleared false = tt
 
-pub rotation_own : (log : Path) (n : Naming) (c : Count) (maxage : Option ℕ) (members : List Member) (target : Path) (now t : ℤ) (serial : ℕ) (e : Entry) → AreDated n members → IsDatedAt n t serial target
+pub rotation_own : (log : Path) (n : Naming) (c : Count) (maxage : Option ℕ) (members : List Member) (target : Path) (now t : ℤ) (serial : ℕ) (e : Entry) → AreNamed n members → IsDatedAt n t serial target
     → IsIn e (dated_rotation c log target (all_of maxage now t serial target members)) → ChangesOwn log n e
 rotation_own log n c maxage members target now t serial e dated is i = changes_own log n e
     (each_in (ChangesDated log n) (dated_rotation c log target (all_of maxage now t serial target members)) e

@@ -8,7 +8,7 @@ use Rattle.lr_host.specs.declared.entry.Entry.TheVariants.{MakesDir}
 use Rattle.lr_host.specs.Lists.{IsIn}
 use Rattle.lr_laws.specs.Follow.{changed_paths}
 use Rattle.lr_family.specs.Parts.{part_of, IsDated}
-use Rattle.lr_days.specs.Newest.{AreDated}
+use Rattle.lr_family.specs.Places.{AreNamed}
 use Rattle.lr_chain.specs.Ready.{with_dir}
 use Rattle.lr_dated.specs.Steps.{Ranked}
 use Rattle.lr_dated_chain.specs.Ready.{all_of, IsDatedReady}
@@ -39,7 +39,7 @@ MakesItsDir t _ = ⊥
 
 -- Each member that was seen is a dated one. The rotation that is ready is theirs, to the stamp of some moment, and so are the directory and the copy.
 pub record HasDatedNames (t : Target) : Type 0 where
-  pub members : AreDated t.naming t.stand.members
+  pub members : AreNamed t.naming t.stand.members
   pub maxage : Option ℕ
   pub now : ℤ
   pub seconds : ℤ

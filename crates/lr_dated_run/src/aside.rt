@@ -10,7 +10,7 @@ ghost use Rattle.lr_host.specs.declared.entry.Entry.TheVariants.{Renames};
 ghost use Rattle.lr_host.specs.Lists.{IsIn};
 ghost use Rattle.lr_host.specs.Sets.{LogSet};
 ghost use Rattle.lr_family.specs.declared.stand.Member.{Member};
-ghost use Rattle.lr_days.specs.Newest.{AreDated};
+ghost use Rattle.lr_family.specs.Places.{AreNamed};
 ghost use Rattle.lr_chain.specs.Ready.{with_dir};
 ghost use Rattle.lr_copy.specs.declared.job.Job.{Job};
 ghost use Rattle.lr_copy.specs.Copying.{clearing};
@@ -40,7 +40,7 @@ pub fn seen_names_are_dated()
 /// renames and unlinks are the rotation to its dated name.
 pub fn dated_changes_are_own()
     ensures rename { (log : Path) (n : Naming) (c : Count) (maxage : Option ℕ) (members : List Member) (target : Path)
-        (now seconds : ℤ) (serial : ℕ) (e : Entry) → AreDated n members → IsDatedAt n seconds serial target
+        (now seconds : ℤ) (serial : ℕ) (e : Entry) → AreNamed n members → IsDatedAt n seconds serial target
         → IsIn e (dated_rotation c log target (all_of maxage now seconds serial target members)) → ChangesOwn log n e }
     ensures copy { (log : Path) (n : Naming) (job : Job) (target : Path) (seconds : ℤ) (serial : ℕ) (looks : List Entry) (e : Entry)
         → IsDatedJob log target n looks job → IsDatedAt n seconds serial target

@@ -1,7 +1,7 @@
 -- Members by their paths, and by their stamps and serial numbers.
 use Rattle.std.proofs.Common.{◌≡◌, ◌⊎◌, inl, inr, ℕ, ℤ, ◌<◌, Bool, true, false, bytes_eq, refl, sym, ◌∙◌, ap, subst, arith, List, [], ◌∷◌}
-use Rattle.std.specs.Prelude.{All}
-use Rattle.std.proofs.lemmas.List.Elements.{All-head, All-tail}
+use Rattle.std.specs.Prelude.{All, IsSome}
+use Rattle.std.proofs.lemmas.List.Elements.{All-head, All-tail, All-contains}
 use Rattle.std.proofs.lemmas.Slice.Eq.{bytes_eq-Decides}
 use Rattle.lr_rules.specs.declared.path.Path.{Path}
 use Rattle.lr_rules.specs.declared.rule.Naming.{Naming}
@@ -11,10 +11,12 @@ use Rattle.lr_stamps.proofs.Naming.{one_stamp_at}
 use Rattle.lr_host.specs.Fits.{IsFileAt}
 use Rattle.lr_host.specs.Lists.{IsIn}
 use Rattle.lr_host.specs.World.{Names}
+use Rattle.lr_host.proofs.Lists.{in_to}
 use Rattle.lr_family.specs.declared.place.Place.{Place}
 use Rattle.lr_family.specs.declared.place.Place.TheVariants as at
 use Rattle.lr_family.specs.declared.stand.Member.{Member}
-use Rattle.lr_days.specs.Newest.{IsDayOf, AreDated}
+use Rattle.lr_family.specs.Places.{IsPlaceOf, AreNamed}
+use Rattle.lr_family.proofs.Placed.{some_dated, no_number}
 use Rattle.lr_dated_chain.specs.Next.{IsNext}
 use Rattle.lr_dated_chain.proofs.Newest.{HasOne, IsStamp, any_in}
 use Rattle.lr_dated_seen.specs.Shown.{HasNone}
@@ -35,23 +37,17 @@ has_or_none x (m ∷ ms) = go (bytes_eq m.path x) refl (has_or_none x ms)
         clash : (b : Bool) → b ≡ true → b ≡ false → ⊥
         clash b p q = cc
 
--- a member has a path that is one's
-pub not_none : (x : Path) (m : Member) (ms : List Member) → HasNone ms x → IsIn m ms → m.path ≡ x → ⊥
-not_none x m [] none i e = i
-not_none x m (y ∷ ys) none (inl same) e = none.0 (sym e ∙ ap (λ (k : Member). k.path) (sym same))
-not_none x m (y ∷ ys) none (inr i) e = not_none x m ys none.1 i e
-
 -- ---- by stamps
 
 -- a member with this place has the path of a stamp and a serial number
-day_at : (n : Naming) (place : Place) (x : Path) → IsDayOf n place x → (t : ℤ) × (k : ℕ) × (place ≡ at.Stamp t k) × IsDatedAt n t k x
-day_at n (at.Stamp t k) x is = (t, k, refl, is)
-day_at n (at.Number p) x is = absurd is
+day_at : (n : Naming) (place : Place) (x : Path) → IsSome n.dated → IsPlaceOf n place x → (t : ℤ) × (k : ℕ) × (place ≡ at.Stamp t k) × IsDatedAt n t k x
+day_at n (at.Stamp t k) x some is = (t, k, refl, is)
+day_at n (at.Number p) x some is = absurd (no_number n p x some is)
 
-pub day_of : (n : Naming) (ms : List Member) (m : Member) → AreDated n ms → IsIn m ms → (t : ℤ) × (k : ℕ) × (m.place ≡ at.Stamp t k) × IsDatedAt n t k m.path
-day_of n [] m d i = absurd i
-day_of n (y ∷ ys) m d (inl same) = subst (λ (v : Member). (t : ℤ) × (k : ℕ) × (v.place ≡ at.Stamp t k) × IsDatedAt n t k v.path) same (day_at n y.place y.path (All-head (λ (m : Member). IsDayOf n m.place m.path) y ys d))
-day_of n (y ∷ ys) m d (inr i) = day_of n ys m (All-tail (λ (m : Member). IsDayOf n m.place m.path) y ys d) i
+pub day_of : (n : Naming) (ms : List Member) (m : Member) → IsSome n.dated → AreNamed n ms → IsIn m ms → (t : ℤ) × (k : ℕ) × (m.place ≡ at.Stamp t k) × IsDatedAt n t k m.path
+day_of n [] m some d i = absurd i
+day_of n (y ∷ ys) m some d (inl same) = subst (λ (v : Member). (t : ℤ) × (k : ℕ) × (v.place ≡ at.Stamp t k) × IsDatedAt n t k v.path) same (day_at n y.place y.path some (All-head (λ (m : Member). IsPlaceOf n m.place m.path) y ys d))
+day_of n (y ∷ ys) m some d (inr i) = day_of n ys m some (All-tail (λ (m : Member). IsPlaceOf n m.place m.path) y ys d) i
 
 one_of : (P : Member → Type 0) (ms : List Member) (m : Member) → IsIn m ms → P m → HasOne P ms
 one_of P [] m i p = i
@@ -63,14 +59,11 @@ of_one P [] h = absurd h
 of_one P (y ∷ ys) (inl p) = (y, inl refl, p)
 of_one P (y ∷ ys) (inr h) = let r = of_one P ys h in (r.0, inr r.1, r.2)
 
-same_stamp : (t u : ℤ) (k l : ℕ) → at.Stamp t k ≡ at.Stamp u l → (t ≡ u) × (k ≡ l)
-same_stamp t u k l e = (cc, cc)
-
-module _ (n : Naming) (good : or_none is_format n.dated ≡ true) (ms : List Member) (dated : AreDated n ms) (t : ℤ) (serial : ℕ) (next : IsNext ms t serial) where
+module _ (n : Naming) (good : or_none is_format n.dated ≡ true) (ms : List Member) (dated : AreNamed n ms) (t : ℤ) (serial : ℕ) (next : IsNext ms t serial) where
   -- a member with the moment has a lower serial number
   pub lower : (m : Member) (k : ℕ) (x : Path) → IsIn m ms → m.path ≡ x → IsDatedAt n t k x → k < serial
   lower m k x i e is =
-      let d = day_of n ms m dated i in
+      let d = day_of n ms m (some_dated n t k x is) dated i in
       let s = one_stamp_at n d.0 t d.1 k x good (subst (IsDatedAt n d.0 d.1) e d.3) is in
       next.above k (any_in (IsStamp t k) ms (one_of (IsStamp t k) ms m i (d.2 ∙ (ap (λ (u : ℤ). at.Stamp u d.1) s.0 ∙ ap (at.Stamp t) s.1))))
 
@@ -86,9 +79,7 @@ module _ (n : Naming) (good : or_none is_format n.dated ≡ true) (ms : List Mem
   pub stamped : (k : ℕ) → HasOne (IsStamp t k) ms → (m : Member) × IsIn m ms × IsDatedAt n t k m.path
   stamped k h =
       let r = of_one (IsStamp t k) ms h in
-      let d = day_of n ms r.0 dated r.1 in
-      let s = same_stamp t d.0 k d.1 (sym r.2 ∙ d.2) in
-      (r.0, r.1, subst (λ (u : ℤ). IsDatedAt n u k r.0.path) (sym s.0) (subst (λ (l : ℕ). IsDatedAt n d.0 l r.0.path) (sym s.1) d.3))
+      (r.0, r.1, subst (λ (p : Place). IsPlaceOf n p r.0.path) r.2 (All-contains (λ (m : Member). IsPlaceOf n m.place m.path) ms r.0 dated (in_to r.0 ms r.1)))
 
 pub there_at : (n : Names) (ms : List Member) (m : Member) → All (IsThere n) ms → IsIn m ms → IsFileAt n m.path
 there_at n [] m h i = absurd i

@@ -1,10 +1,11 @@
 -- The rotation of a dated family, behind looks that saw its log and its members.
 use Rattle.std.proofs.Common.{◌≡◌, ◌≢◌, inl, ℕ, ℤ, Bool, true, false, cond, refl, sym, ◌∙◌, ap, subst, List, [], ◌∷◌, map, reverse, Option, Some, None}
-use Rattle.std.specs.Prelude.{All, int_lt}
+use Rattle.std.specs.Prelude.{All, int_lt, IsSome}
 use Rattle.std.proofs.lemmas.List.Elements.{All-head, All-tail, All-weaker}
 use Rattle.lr_rules.specs.declared.clock.Clock.{Clock}
 use Rattle.lr_rules.specs.declared.path.Path.{Path}
 use Rattle.lr_rules.specs.declared.rule.Count.{Count}
+use Rattle.lr_rules.specs.declared.rule.Format.{Format}
 use Rattle.lr_rules.specs.declared.rule.Naming.{Naming}
 use Rattle.lr_rules.specs.Dated.{stamp_key, IsDatedAt}
 use Rattle.lr_stamps.specs.Dated.{clock_seconds}
@@ -20,7 +21,7 @@ use Rattle.lr_host.specs.Opening.{IsJournal}
 use Rattle.lr_host.specs.Quiet.{ChangeNothing, AreQuiet, Quiet}
 use Rattle.lr_host.specs.Released.{ByAge}
 use Rattle.lr_host.specs.Runs.{rules_of, SomeRule, has_begun}
-use Rattle.lr_host.specs.Sets.{LogSet, Dated, order}
+use Rattle.lr_host.specs.Sets.{LogSet, Dated, order, order_of}
 use Rattle.lr_host.specs.Steady.{NoneAttached}
 use Rattle.lr_host.specs.Steps.{FitAll}
 use Rattle.lr_host.specs.Told.{Made}
@@ -32,7 +33,8 @@ use Rattle.lr_host.proofs.Quiet.{IsAny, Moment, since_any, quiet_more, quiet_sti
 use Rattle.lr_laws.specs.Rotation.{IsPastAge}
 use Rattle.lr_laws.proofs.Moves.{some_rule}
 use Rattle.lr_family.specs.declared.stand.Member.{Member}
-use Rattle.lr_days.specs.Newest.{IsDayOf, AreDated, AreNewestFirst}
+use Rattle.lr_family.specs.Places.{IsPlaceOf, AreNamed}
+use Rattle.lr_family.specs.Stands.{AreNewestFirst}
 use Rattle.lr_dated.specs.Forward.{IsForwardFor}
 use Rattle.lr_dated.specs.Stays.{RotatesDated}
 use Rattle.lr_dated.specs.Steps.{Ranked, key_of, dated_rotation}
@@ -43,7 +45,8 @@ use Rattle.lr_dated.proofs.Whole.{HasStamp, one_stamp, keyed_by, keyed, moved_ot
 use Rattle.lr_chain.specs.Rotation.{is_expired}
 use Rattle.lr_dated_chain.specs.Next.{IsNext}
 use Rattle.lr_dated_chain.specs.Ready.{ranked, renamed, with_one, all_of}
-use Rattle.lr_dated_chain.proofs.Order.{dated_small, all_fall, all_dated}
+use Rattle.lr_family.proofs.Newness.{dated_small}
+use Rattle.lr_dated_chain.proofs.Order.{all_fall, all_dated}
 use Rattle.lr_rotations.specs.Shown.{SawDir}
 use Rattle.lr_rotations.proofs.Aged.{goes_by_age}
 use Rattle.lr_rotations.proofs.Moments.{quiet_journal}
@@ -111,7 +114,7 @@ module _ (p q : Past) (es : List Entry) (made : Made p es q) (still : ChangeNoth
 -- ---- the steps fit
 
 -- wherever the log and the members are files, and their directory is there
-pub fits_at : (log : Path) (n : Naming) (c : Count) (maxage : Option ℕ) (members : List Member) (target : Path) (now t : ℤ) (serial : ℕ) (m : Names) → IsDatedFamily log n → AreNewestFirst members → AreDated n members → IsNext members t serial → IsDatedAt n t serial target → IsFileAt m log → HasRoom m target → IsDirectoryAt m n.dir
+pub fits_at : (log : Path) (n : Naming) (c : Count) (maxage : Option ℕ) (members : List Member) (target : Path) (now t : ℤ) (serial : ℕ) (m : Names) → IsDatedFamily log n → AreNewestFirst members → AreNamed n members → IsNext members t serial → IsDatedAt n t serial target → IsFileAt m log → HasRoom m target → IsDirectoryAt m n.dir
     → All (IsThere m) members → FitAll m (reverse (dated_rotation c log target (all_of maxage now t serial target members)))
 fits_at log n c maxage members target now t serial m family newest_first named next is file room dir there = subst (FitAll m) (sym (steps_are c log target all))
     (removals_fit (HasStamp n) m c (entry.Renames log target ∷ []) (one_stamp n family.format)
@@ -131,6 +134,10 @@ fits_behind log n c maxage members target now t serial p q es family made still 
 
 -- ---- they are one rotation
 
+order_some : (d : Option Format) → order_of d ≡ Dated → IsSome d
+order_some None h = absurd (cc)
+order_some (Some f) h = refl
+
 -- what the paths name once the log has its new name
 abbrev moved : LogSet → Past → Path → Names
 moved s q target = changed (Moves s.log target) (names (world q))
@@ -142,12 +149,12 @@ module _ (s : LogSet) (p q : Past) (es : List Entry) (maxage : Option ℕ) (targ
       (λ r same. goes_by_age s p q es m.path (stamp_key t k) m r g made quiet attached (keyed s dated m.path t k is) (from_reverse (entry.Look m.path (Some m.seen)) es seen.1) (subst (λ (days : Option ℕ). is_expired days (world q).now m ≡ true) (sym same) old)
       (sym (moved_other (names (world q)) s.log target m.path (λ same. apart t k (subst (IsDatedAt s.naming t k) same is)) other) ∙ there)) rule
 
-  all_old : (ms : List Member) → AreDated s.naming ms → HasNone ms target → All (WasSeen (reverse es)) ms → AreOld s q (moved s q target) (map (ranked maxage (world q).now) ms)
+  all_old : (ms : List Member) → AreNamed s.naming ms → HasNone ms target → All (WasSeen (reverse es)) ms → AreOld s q (moved s q target) (map (ranked maxage (world q).now) ms)
   all_old [] d none seen = tt
   all_old (m ∷ ms) d none seen =
-      let day = day_of s.naming (m ∷ ms) m d (inl refl) in (
+      let day = day_of s.naming (m ∷ ms) m (order_some s.naming.dated dated) d (inl refl) in (
         one_old m day.0 day.1 day.3 (λ same. none.0 (sym same)) (All-head (WasSeen (reverse es)) m ms seen),
-        all_old ms (All-tail (λ (m : Member). IsDayOf s.naming m.place m.path) m ms d) none.1 (All-tail (WasSeen (reverse es)) m ms seen),
+        all_old ms (All-tail (λ (m : Member). IsPlaceOf s.naming m.place m.path) m ms d) none.1 (All-tail (WasSeen (reverse es)) m ms seen),
       )
 
 -- the log isn't tested

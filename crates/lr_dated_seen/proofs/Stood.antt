@@ -23,7 +23,7 @@ use Rattle.lr_host.proofs.Looked.{seen_file, seen_none, is_nothing, nothing_no_f
 use Rattle.lr_host.proofs.Names.{put_here}
 use Rattle.lr_host.proofs.Quiet.{moment, since_as, since_of, quiet_same}
 use Rattle.lr_family.specs.declared.stand.Member.{Member}
-use Rattle.lr_days.specs.Newest.{IsDayOf, AreDated}
+use Rattle.lr_family.specs.Places.{IsPlaceOf, AreNamed}
 use Rattle.lr_dated.specs.Forward.{IsNextSerial}
 use Rattle.lr_dated.specs.Steps.{Ranked, key_of}
 use Rattle.lr_dated.specs.Turned.{AreFiles, IsOutside, StandSo}
@@ -64,11 +64,11 @@ found log n members p q r es family journal none made still s same = record {
         let file = seen_file (world a.at) (names (world a.at) m.path) m.seen a.fits seen.0 in
         (file.0, same a.at a.since a.until m.path t k is ∙ file.1)
 
-    all_there : (ms : List Member) → AreDated n ms → All (WasSeen (reverse es)) ms → All (IsThere (names (world r))) ms
+    all_there : (ms : List Member) → AreNamed n ms → All (WasSeen (reverse es)) ms → All (IsThere (names (world r))) ms
     all_there [] d h = All-nil (IsThere (names (world r)))
     all_there (m ∷ ms) d h =
-        let y = day_of n (m ∷ ms) m d (inl refl) in
-        All-cons (IsThere (names (world r))) m ms (there m y.0 y.1 y.3 (All-head (WasSeen (reverse es)) m ms h)) (all_there ms (All-tail (λ (m : Member). IsDayOf n m.place m.path) m ms d) (All-tail (WasSeen (reverse es)) m ms h))
+        let y = day_of n (m ∷ ms) m family.dated d (inl refl) in
+        All-cons (IsThere (names (world r))) m ms (there m y.0 y.1 y.3 (All-head (WasSeen (reverse es)) m ms h)) (all_there ms (All-tail (λ (m : Member). IsPlaceOf n m.place m.path) m ms d) (All-tail (WasSeen (reverse es)) m ms h))
 
     unseen : (x : Path) (t : ℤ) (k : ℕ) → IsDatedAt n t k x → IsUnseen n.dir x (reverse es) → names (world r) x ≡ thing.Nothing
     unseen x t k is (gone h) =
@@ -120,18 +120,18 @@ files_with n one (m ∷ ms) f fs = go (int_lt (key_of one) (key_of m)) (files_wi
     go false r = (f, fs)
 
 -- a member's file and the log's under its new name
-pub moved_files : (log : Path) (n : Naming) (m : Names) (members : List Member) (target : Path) (maxage : Option ℕ) (now t : ℤ) (serial : ℕ) → IsDatedFamily log n → IsFileAt m log → AreDated n members → HasNone members target → All (IsThere m) members
+pub moved_files : (log : Path) (n : Naming) (m : Names) (members : List Member) (target : Path) (maxage : Option ℕ) (now t : ℤ) (serial : ℕ) → IsDatedFamily log n → IsFileAt m log → AreNamed n members → HasNone members target → All (IsThere m) members
     → AreFiles (changed (Moves log target) m) (all_of maxage now t serial target members)
 moved_files log n m members target maxage now t serial family file named none files =
     files_with (changed (Moves log target) m) (renamed t serial target) (map (ranked maxage now) members) (file.0, put_here (put m log thing.Nothing) target target (m log) refl ∙ file.1) (all members named none files)
   where
-    all : (ms : List Member) → AreDated n ms → HasNone ms target → All (IsThere m) ms → AreFiles (changed (Moves log target) m) (map (ranked maxage now) ms)
+    all : (ms : List Member) → AreNamed n ms → HasNone ms target → All (IsThere m) ms → AreFiles (changed (Moves log target) m) (map (ranked maxage now) ms)
     all [] d none files = tt
     all (y ∷ ys) d none files =
-        let day = day_of n (y ∷ ys) y d (inl refl) in
+        let day = day_of n (y ∷ ys) y family.dated d (inl refl) in
         let f = All-head (IsThere m) y ys files in (
           (f.0, moved_other m log target y.path (λ same. family.apart day.0 day.1 (subst (IsDatedAt n day.0 day.1) same day.3)) (λ same. none.0 (sym same)) ∙ f.1),
-          all ys (All-tail (λ (m : Member). IsDayOf n m.place m.path) y ys d) none.1 (All-tail (IsThere m) y ys files),
+          all ys (All-tail (λ (m : Member). IsPlaceOf n m.place m.path) y ys d) none.1 (All-tail (IsThere m) y ys files),
         )
 
 -- a path that none of all has is another than the one, and none of the others has it

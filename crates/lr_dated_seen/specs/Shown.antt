@@ -10,7 +10,8 @@ use Rattle.lr_host.specs.declared.thing.Kind.TheVariants as kind
 use Rattle.lr_host.specs.declared.thing.Seen.{Seen}
 use Rattle.lr_host.specs.Lists.{IsIn, IsNotIn}
 use Rattle.lr_family.specs.declared.stand.Member.{Member}
-use Rattle.lr_days.specs.Newest.{AreDated, AreNewestFirst}
+use Rattle.lr_family.specs.Places.{AreNamed}
+use Rattle.lr_family.specs.Stands.{AreNewestFirst}
 
 -- a look at the path saw a regular file
 abbrev pub SawFile : Path → List Entry → Type 0
@@ -37,6 +38,6 @@ pub data IsUnseen (dir x : Path) (ts : List Entry) : Type 0 where
 -- Looks among these entries, in any order, show that these dated members stand, each a regular file, the newest first, and that no other does.
 pub record ShownDated (n : Naming) (members : List Member) (ts : List Entry) : Type 0 where
   pub newest_first : AreNewestFirst members
-  pub named : AreDated n members
+  pub named : AreNamed n members
   pub files : All (WasSeen ts) members
   pub others : (x : Path) (seconds : ℤ) (serial : ℕ) → IsDatedAt n seconds serial x → HasNone members x → IsUnseen n.dir x ts

@@ -8,7 +8,8 @@ use Rattle.lr_host.specs.World.{Names, Past}
 use Rattle.lr_host.specs.Fits.{IsFileAt}
 use Rattle.lr_host.specs.Quiet.{AttachedOnlySince}
 use Rattle.lr_family.specs.declared.stand.Member.{Member}
-use Rattle.lr_days.specs.Newest.{AreDated, AreNewestFirst}
+use Rattle.lr_family.specs.Places.{AreNamed}
+use Rattle.lr_family.specs.Stands.{AreNewestFirst}
 use Rattle.lr_dated_seen.specs.Family.{IsNoDated}
 use Rattle.lr_dated_seen.specs.Shown.{HasNone}
 
@@ -23,6 +24,6 @@ IsThere m member = IsFileAt m member.path
 -- Under these names just these members of the dated family stand, the newest first, each a regular file; no other member's path names anything.
 pub record AreDatedThere (n : Naming) (m : Names) (members : List Member) : Type 0 where
   pub newest_first : AreNewestFirst members
-  pub named : AreDated n members
+  pub named : AreNamed n members
   pub files : All (IsThere m) members
   pub others : (x : Path) (seconds : ℤ) (serial : ℕ) → IsDatedAt n seconds serial x → HasNone members x → m x ≡ thing.Nothing

@@ -1,4 +1,4 @@
-// What the looks of `lr_days` show.
+// What the looks at dated members show.
 ghost use Rattle.std.specs.Prelude.{◌≡◌, ℕ, Bool, true, List};
 ghost use Rattle.std.specs.List.Sorted.{IsPermutation};
 ghost use Rattle.lr_rules.specs.declared.rule.Naming.{Naming};
@@ -6,8 +6,8 @@ ghost use Rattle.lr_host.specs.declared.entry.Entry.{Entry};
 ghost use Rattle.lr_host.specs.declared.entry.Entry.TheVariants as entry;
 ghost use Rattle.lr_host.specs.Lists.{IsIn};
 ghost use Rattle.lr_family.specs.declared.stand.Member.{Member};
+ghost use Rattle.lr_family.specs.Among.{ShowsMembers};
 ghost use Rattle.lr_family.specs.Listed.{ShowsListing};
-ghost use Rattle.lr_days.specs.Among.{ShowsMembers};
 ghost use Rattle.lr_dated_seen.specs.Shown.{ShownDated};
 
 /// Where the directory was listed anywhere among all entries, the looks at the members among its names, which

@@ -70,7 +70,7 @@ member_at g seen (h ∷ hs) (inl same) e = one h.seen refl
 member_at g seen (h ∷ hs) (inr i) e = let r = member_at g seen hs i e in (r.0, in_back r.0 (seen_at h.spot h.seen) (flat_map member_of hs) r.1, r.2)
 
 -- the path of a member is one of theirs
-not_none : (x : Path) (m : Member) (ms : List Member) → IsNotIn x (map (λ (m : Member). m.path) ms) → IsIn m ms → m.path ≡ x → ⊥
+pub not_none : (x : Path) (m : Member) (ms : List Member) → IsNotIn x (map (λ (m : Member). m.path) ms) → IsIn m ms → m.path ≡ x → ⊥
 not_none x m [] none i e = i
 not_none x m (y ∷ ys) none (inl same) e = none.0 (sym e ∙ ap (λ (k : Member). k.path) (sym same))
 not_none x m (y ∷ ys) none (inr i) e = not_none x m ys none.1 i e

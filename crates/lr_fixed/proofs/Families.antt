@@ -3,7 +3,6 @@ use Rattle.std.proofs.Common.{◌≡◌, ℕ, ◌+◌, Bool, true, false, inl, i
 use Rattle.std.specs.List.Sorted.{IsPermutation}
 use Rattle.std.proofs.lemmas.List.Sorted.{IsPermutation-sym}
 use Rattle.lr_rules.specs.declared.path.Path.{Path}
-use Rattle.lr_rules.specs.declared.rule.Format.{Format}
 use Rattle.lr_rules.specs.declared.rule.Naming.{Naming}
 use Rattle.lr_rules.specs.Limits.{is_format, or_none}
 use Rattle.lr_host.specs.declared.entry.Entry.{Entry}
@@ -14,16 +13,14 @@ use Rattle.lr_family.specs.declared.stand.Stand.{Stand}
 use Rattle.lr_family.specs.declared.stand.StandStop.{StandStop}
 use Rattle.lr_family.specs.declared.stand.StandStop.TheVariants as stop
 use Rattle.lr_family.specs.Among.{ShowsIn, ShowsNoneIn}
-use Rattle.lr_days.specs.Among.{ShowsIn as ShowsDaysIn, ShowsNoneIn as ShowsNoDaysIn}
 use Rattle.lr_family.specs.Listed.{ShowsListing, NotListed}
 use Rattle.lr_host.specs.Counted.{calls_in}
 use Rattle.lr_host.proofs.Counts.{calls_on}
-use Rattle.lr_looks.specs.Families.{HadMemory, AllHadMemory, FamilySight, Stood, Stopped, WasListed, WasNotListed, ShowsBy, ShowsNoneBy, ShowsMembersIn, ShowsFamily, behind_listing, with_listing, not_listed, ShowFamilies, family_fault, family_faults}
+use Rattle.lr_looks.specs.Families.{HadMemory, AllHadMemory, FamilySight, Stood, Stopped, WasListed, WasNotListed, ShowsMembersIn, ShowsFamily, behind_listing, with_listing, not_listed, ShowFamilies, family_fault, family_faults}
 use Rattle.lr_looks.specs.Found.{FoundLog, HaveBounds}
 use Rattle.lr_fixed.proofs.Listings.{OneListing, one_listing, listing_or_none, AreSame, KnownAlike, more_alike}
-use Rattle.lr_fixed.proofs.Days.{days_same, days_stop_same, days_or_stop}
 use Rattle.lr_fixed.proofs.Members.{stands_same, stops_same, stands_or_stops}
-use Rattle.lr_fixed.proofs.Parts.{parts_same, behind_never, days_never}
+use Rattle.lr_fixed.proofs.Parts.{parts_same, behind_never}
 use Rattle.lr_fixed.proofs.Peeled.{front_same, then_same, joined_same, one_look}
 
 -- the two are one, and so are their entries and what comes behind
@@ -44,38 +41,21 @@ stand_same a b p q r s =
     ∙ (ap {B = Stand} (λ (x : List Member). record { there = b.there; parent = b.parent; members = x; parts = a.parts }) r
     ∙ ap {B = Stand} (λ (x : List Path). record { there = b.there; parent = b.parent; members = b.members; parts = x }) s))
 
--- what the looks at the numbered members among names, and at their part files, showed
-abbrev ShowsNumbers : Naming → Bool → Bool → List (List ℕ) → FamilySight → List Entry → Type 0
-ShowsNumbers n there parent names (Stood stand) ts = ShowsIn n there parent names stand ts
-ShowsNumbers n there parent names (Stopped why) ts = ((why ≡ stop.Memory) × (ts ≡ [])) ⊎ ShowsNoneIn n there names why ts
-
--- at the dated ones
-abbrev ShowsDays : Naming → Bool → Bool → List (List ℕ) → FamilySight → List Entry → Type 0
-ShowsDays n there parent names (Stood stand) ts = ShowsDaysIn n there parent names stand ts
-ShowsDays n there parent names (Stopped why) ts = ((why ≡ stop.Memory) × (ts ≡ [])) ⊎ ShowsNoDaysIn n there names why ts
-
-abbrev ShowsAt : Option Format → Naming → Bool → Bool → List (List ℕ) → FamilySight → List Entry → Type 0
-ShowsAt None n there parent names s ts = ShowsNumbers n there parent names s ts
-ShowsAt (Some format) n there parent names s ts = ShowsDays n there parent names s ts
+-- what the looks at the members among names, and at their part files, showed
+abbrev ShowsAt : Naming → Bool → Bool → List (List ℕ) → FamilySight → List Entry → Type 0
+ShowsAt n there parent names (Stood stand) ts = ShowsIn n there parent names stand ts
+ShowsAt n there parent names (Stopped why) ts = ((why ≡ stop.Memory) × (ts ≡ [])) ⊎ ShowsNoneIn n there names why ts
 
 -- a listing tells no more to them than its names, and whether its directory and the parent are there
-at_listing : (n : Naming) (l : Listing) (s : FamilySight) (ts : List Entry) → ShowsMembersIn n l s ts → ShowsAt n.dated n l.there l.parent l.names s ts
-at_listing n l (Stood stand) ts h = by n.dated h
-  where
-    by : (d : Option Format) → ShowsBy d n l stand ts → ShowsAt d n l.there l.parent l.names (Stood stand) ts
-    by None h = h
-    by (Some format) h = h
-at_listing n l (Stopped why) ts h = by n.dated h
-  where
-    by : (d : Option Format) → ((why ≡ stop.Memory) × (ts ≡ [])) ⊎ ShowsNoneBy d n l why ts → ShowsAt d n l.there l.parent l.names (Stopped why) ts
-    by None h = h
-    by (Some format) h = h
+at_listing : (n : Naming) (l : Listing) (s : FamilySight) (ts : List Entry) → ShowsMembersIn n l s ts → ShowsAt n l.there l.parent l.names s ts
+at_listing n l (Stood stand) ts h = h
+at_listing n l (Stopped why) ts h = h
 
-module _ (n : Naming) (parent : Bool) (names more : List (List ℕ)) (perm : IsPermutation names more) (ts us vs ws : List Entry) (e : ts ++ vs ≡ us ++ ws) where
+module _ (n : Naming) (good : or_none is_format n.dated ≡ true) (parent : Bool) (names more : List (List ℕ)) (perm : IsPermutation names more) (ts us vs ws : List Entry) (e : ts ++ vs ≡ us ++ ws) where
   -- two stands are one
   both_stood : (there : Bool) (a b : Stand) → ShowsIn n there parent names a ts → ShowsIn n there parent more b us → One (Stood a) (Stood b) ts us vs ws
   both_stood true a b h g =
-      let r = stands_same n names more perm a.members b.members h.2.front g.2.front (h.2.back ++ vs) (g.2.back ++ ws) h.2.first g.2.first (then_same ts us vs ws h.2 g.2 e) in
+      let r = stands_same n good names more perm a.members b.members h.2.front g.2.front (h.2.back ++ vs) (g.2.back ++ ws) h.2.first g.2.first (then_same ts us vs ws h.2 g.2 e) in
       let q = parts_same n names more perm a.parts b.parts h.2.back g.2.back vs ws h.2.second g.2.second r.2 in
       (ap (λ s. Stood s) (stand_same a b (h.0 ∙ sym g.0) (h.1 ∙ sym g.1) r.0 q.0), joined_same ts us h.2 g.2 r.1 q.1, q.2)
   both_stood false a b h g = (
@@ -88,7 +68,7 @@ module _ (n : Naming) (parent : Bool) (names more : List (List ℕ)) (perm : IsP
   stood_or_none : (there : Bool) (a : Stand) (path : Path) → ShowsIn n there parent names a ts → ((stop.NotFile path ≡ stop.Memory) × (us ≡ [])) ⊎ ShowsNoneIn n there more (stop.NotFile path) us → ⊥
   stood_or_none there a path h (inl g) = cc (g.0)
   stood_or_none true a path h (inr (inl g)) = cc (g.0)
-  stood_or_none true a path h (inr (inr (inl g))) = stands_or_stops n names more perm a.members path h.2.front us (h.2.back ++ vs) ws h.2.first g (sym (append_assoc h.2.front h.2.back vs) ∙ (sym (ap (λ x. x ++ vs) h.2.joined) ∙ e))
+  stood_or_none true a path h (inr (inr (inl g))) = stands_or_stops n good names more perm a.members path h.2.front us (h.2.back ++ vs) ws h.2.first g (sym (append_assoc h.2.front h.2.back vs) ∙ (sym (ap (λ x. x ++ vs) h.2.joined) ∙ e))
   stood_or_none true a path h (inr (inr (inr g))) = behind_never n more path us g
   stood_or_none false a path h (inr g) = g
 
@@ -101,83 +81,31 @@ module _ (n : Naming) (parent : Bool) (names more : List (List ℕ)) (perm : IsP
   both_stopped true path other (inr (inr h)) (inr (inl g)) = absurd (cc (g.0))
   both_stopped true path other (inr (inr (inr h))) (inr (inr g)) = absurd (behind_never n names path ts h)
   both_stopped true path other (inr (inr (inl h))) (inr (inr (inr g))) = absurd (behind_never n more other us g)
-  both_stopped true path other (inr (inr (inl h))) (inr (inr (inl g))) = let r = stops_same n names more perm path other ts us vs ws h g e in (ap (λ p. Stopped (stop.NotFile p)) r.0, r.1, r.2)
+  both_stopped true path other (inr (inr (inl h))) (inr (inr (inl g))) = let r = stops_same n good names more perm path other ts us vs ws h g e in (ap (λ p. Stopped (stop.NotFile p)) r.0, r.1, r.2)
   both_stopped false path other (inr h) (inr g) = absurd h
-
-module _ (n : Naming) (good : or_none is_format n.dated ≡ true) (parent : Bool) (names more : List (List ℕ)) (perm : IsPermutation names more) (ts us vs ws : List Entry) (e : ts ++ vs ≡ us ++ ws) where
-  -- two stands of a dated family are one
-  days_stood : (there : Bool) (a b : Stand) → ShowsDaysIn n there parent names a ts → ShowsDaysIn n there parent more b us → One (Stood a) (Stood b) ts us vs ws
-  days_stood true a b h g =
-      let r = days_same n good names more perm a.members b.members h.2.front g.2.front (h.2.back ++ vs) (g.2.back ++ ws) h.2.first g.2.first (then_same ts us vs ws h.2 g.2 e) in
-      let q = parts_same n names more perm a.parts b.parts h.2.back g.2.back vs ws h.2.second g.2.second r.2 in
-      (ap (λ s. Stood s) (stand_same a b (h.0 ∙ sym g.0) (h.1 ∙ sym g.1) r.0 q.0), joined_same ts us h.2 g.2 r.1 q.1, q.2)
-  days_stood false a b h g = (
-    ap (λ s. Stood s) (stand_same a b (h.0 ∙ sym g.0) (h.1 ∙ sym g.1) (h.2.first.0 ∙ sym g.2.first.0) (h.2.second.0 ∙ sym g.2.second.0)),
-    joined_same ts us h.2 g.2 (h.2.first.1 ∙ sym g.2.first.1) (h.2.second.1 ∙ sym g.2.second.1),
-    front_same h.2.back g.2.back [] [] vs ws h.2.second.1 g.2.second.1 (front_same h.2.front g.2.front [] [] (h.2.back ++ vs) (g.2.back ++ ws) h.2.first.1 g.2.first.1 (then_same ts us vs ws h.2 g.2 e)),
-  )
-
-  -- not a stand and a member that is no file
-  days_or_none : (there : Bool) (a : Stand) (path : Path) → ShowsDaysIn n there parent names a ts → ((stop.NotFile path ≡ stop.Memory) × (us ≡ [])) ⊎ ShowsNoDaysIn n there more (stop.NotFile path) us → ⊥
-  days_or_none there a path h (inl g) = cc (g.0)
-  days_or_none true a path h (inr (inl g)) = cc (g.0)
-  days_or_none true a path h (inr (inr (inl g))) = days_or_stop n good names more perm a.members path h.2.front us (h.2.back ++ vs) ws h.2.first g (sym (append_assoc h.2.front h.2.back vs) ∙ (sym (ap (λ x. x ++ vs) h.2.joined) ∙ e))
-  days_or_none true a path h (inr (inr (inr g))) = days_never n more path us g
-  days_or_none false a path h (inr g) = g
-
-  -- two members that are no files are one
-  days_stopped : (there : Bool) (path other : Path) → ((stop.NotFile path ≡ stop.Memory) × (ts ≡ [])) ⊎ ShowsNoDaysIn n there names (stop.NotFile path) ts → ((stop.NotFile other ≡ stop.Memory) × (us ≡ [])) ⊎ ShowsNoDaysIn n there more (stop.NotFile other) us
-      → One (Stopped (stop.NotFile path)) (Stopped (stop.NotFile other)) ts us vs ws
-  days_stopped there path other (inl h) g = absurd (cc (h.0))
-  days_stopped there path other (inr h) (inl g) = absurd (cc (g.0))
-  days_stopped true path other (inr (inl h)) (inr g) = absurd (cc (h.0))
-  days_stopped true path other (inr (inr h)) (inr (inl g)) = absurd (cc (g.0))
-  days_stopped true path other (inr (inr (inr h))) (inr (inr g)) = absurd (days_never n names path ts h)
-  days_stopped true path other (inr (inr (inl h))) (inr (inr (inr g))) = absurd (days_never n more other us g)
-  days_stopped true path other (inr (inr (inl h))) (inr (inr (inl g))) = let r = days_stop_same n good names more perm path other ts us vs ws h g e in (ap (λ p. Stopped (stop.NotFile p)) r.0, r.1, r.2)
-  days_stopped false path other (inr h) (inr g) = absurd h
 
 -- a failed call counts
 no_call : {A : Type 0} (n : ℕ) → 1 + n ≡ 0 → A
 no_call n e = absurd (omega (arith, e))
 
--- the looks at numbered members show one thing
-numbers_one : (n : Naming) (there parent : Bool) (names more : List (List ℕ)) → IsPermutation names more → (s s' : FamilySight) → IsSure s → IsSure s' → (ts us vs ws : List Entry) → ShowsNumbers n there parent names s ts → ShowsNumbers n there parent more s' us → ts ++ vs ≡ us ++ ws
+-- the looks at members show one thing
+members_one : (n : Naming) → or_none is_format n.dated ≡ true → (there parent : Bool) (names more : List (List ℕ)) → IsPermutation names more → (s s' : FamilySight) → IsSure s → IsSure s' → (ts us vs ws : List Entry) → ShowsAt n there parent names s ts → ShowsAt n there parent more s' us → ts ++ vs ≡ us ++ ws
     → One s s' ts us vs ws
-numbers_one n there parent names more perm (Stood a) (Stood b) p q ts us vs ws h g e = both_stood n parent names more perm ts us vs ws e there a b h g
-numbers_one n there parent names more perm (Stood a) (Stopped (stop.NotFile other)) p q ts us vs ws h g e = absurd (stood_or_none n parent names more perm ts us vs ws e there a other h g)
-numbers_one n there parent names more perm (Stood a) (Stopped (stop.Call k x)) p q ts us vs ws h g e = no_call 0 q.1
-numbers_one n there parent names more perm (Stood a) (Stopped stop.Memory) p q ts us vs ws h g e = absurd q.0
-numbers_one n there parent names more perm (Stopped (stop.NotFile path)) (Stood b) p q ts us vs ws h g e = absurd (stood_or_none n parent more names (IsPermutation-sym names more perm) us ts ws vs (sym e) there b path g h)
-numbers_one n there parent names more perm (Stopped (stop.NotFile path)) (Stopped (stop.NotFile other)) p q ts us vs ws h g e = both_stopped n parent names more perm ts us vs ws e there path other h g
-numbers_one n there parent names more perm (Stopped (stop.NotFile path)) (Stopped (stop.Call k x)) p q ts us vs ws h g e = no_call 0 q.1
-numbers_one n there parent names more perm (Stopped (stop.NotFile path)) (Stopped stop.Memory) p q ts us vs ws h g e = absurd q.0
-numbers_one n there parent names more perm (Stopped (stop.Call k x)) s' p q ts us vs ws h g e = no_call 0 p.1
-numbers_one n there parent names more perm (Stopped stop.Memory) s' p q ts us vs ws h g e = absurd p.0
-
--- and so do those at dated ones
-days_one : (n : Naming) (good : or_none is_format n.dated ≡ true) (there parent : Bool) (names more : List (List ℕ)) → IsPermutation names more → (s s' : FamilySight) → IsSure s → IsSure s' → (ts us vs ws : List Entry) → ShowsDays n there parent names s ts → ShowsDays n there parent more s' us → ts ++ vs ≡ us ++ ws
-    → One s s' ts us vs ws
-days_one n good there parent names more perm (Stood a) (Stood b) p q ts us vs ws h g e = days_stood n good parent names more perm ts us vs ws e there a b h g
-days_one n good there parent names more perm (Stood a) (Stopped (stop.NotFile other)) p q ts us vs ws h g e = absurd (days_or_none n good parent names more perm ts us vs ws e there a other h g)
-days_one n good there parent names more perm (Stood a) (Stopped (stop.Call k x)) p q ts us vs ws h g e = no_call 0 q.1
-days_one n good there parent names more perm (Stood a) (Stopped stop.Memory) p q ts us vs ws h g e = absurd q.0
-days_one n good there parent names more perm (Stopped (stop.NotFile path)) (Stood b) p q ts us vs ws h g e = absurd (days_or_none n good parent more names (IsPermutation-sym names more perm) us ts ws vs (sym e) there b path g h)
-days_one n good there parent names more perm (Stopped (stop.NotFile path)) (Stopped (stop.NotFile other)) p q ts us vs ws h g e = days_stopped n good parent names more perm ts us vs ws e there path other h g
-days_one n good there parent names more perm (Stopped (stop.NotFile path)) (Stopped (stop.Call k x)) p q ts us vs ws h g e = no_call 0 q.1
-days_one n good there parent names more perm (Stopped (stop.NotFile path)) (Stopped stop.Memory) p q ts us vs ws h g e = absurd q.0
-days_one n good there parent names more perm (Stopped (stop.Call k x)) s' p q ts us vs ws h g e = no_call 0 p.1
-days_one n good there parent names more perm (Stopped stop.Memory) s' p q ts us vs ws h g e = absurd p.0
-
-members_one : (d : Option Format) (n : Naming) → or_none is_format n.dated ≡ true → (there parent : Bool) (names more : List (List ℕ)) → IsPermutation names more → (s s' : FamilySight) → IsSure s → IsSure s' → (ts us vs ws : List Entry) → ShowsAt d n there parent names s ts → ShowsAt d n there parent more s' us → ts ++ vs ≡ us ++ ws
-    → One s s' ts us vs ws
-members_one None n good there parent names more perm s s' p q ts us vs ws h g e = numbers_one n there parent names more perm s s' p q ts us vs ws h g e
-members_one (Some format) n good there parent names more perm s s' p q ts us vs ws h g e = days_one n good there parent names more perm s s' p q ts us vs ws h g e
+members_one n good there parent names more perm (Stood a) (Stood b) p q ts us vs ws h g e = both_stood n good parent names more perm ts us vs ws e there a b h g
+members_one n good there parent names more perm (Stood a) (Stopped (stop.NotFile other)) p q ts us vs ws h g e = absurd (stood_or_none n good parent names more perm ts us vs ws e there a other h g)
+members_one n good there parent names more perm (Stood a) (Stopped (stop.Call k x)) p q ts us vs ws h g e = no_call 0 q.1
+members_one n good there parent names more perm (Stood a) (Stopped stop.Memory) p q ts us vs ws h g e = absurd q.0
+members_one n good there parent names more perm (Stopped (stop.NotFile path)) (Stood b) p q ts us vs ws h g e = absurd (stood_or_none n good parent more names (IsPermutation-sym names more perm) us ts ws vs (sym e) there b path g h)
+members_one n good there parent names more perm (Stopped (stop.NotFile path)) (Stopped (stop.NotFile other)) p q ts us vs ws h g e = both_stopped n good parent names more perm ts us vs ws e there path other h g
+members_one n good there parent names more perm (Stopped (stop.NotFile path)) (Stopped (stop.Call k x)) p q ts us vs ws h g e = no_call 0 q.1
+members_one n good there parent names more perm (Stopped (stop.NotFile path)) (Stopped stop.Memory) p q ts us vs ws h g e = absurd q.0
+members_one n good there parent names more perm (Stopped (stop.Call k x)) s' p q ts us vs ws h g e = no_call 0 p.1
+members_one n good there parent names more perm (Stopped stop.Memory) s' p q ts us vs ws h g e = absurd p.0
 
 -- at listings that say the same
 members_in_one : (n : Naming) → or_none is_format n.dated ≡ true → (l m : Listing) → AreSame l m → (s s' : FamilySight) → IsSure s → IsSure s' → (ts us vs ws : List Entry) → ShowsMembersIn n l s ts → ShowsMembersIn n m s' us → ts ++ vs ≡ us ++ ws → One s s' ts us vs ws
-members_in_one n good l m a s s' p q ts us vs ws h g e = members_one n.dated n good l.there l.parent l.names m.names a.names_are s s' p q ts us vs ws (at_listing n l s ts h)
-    (subst (λ (b : Bool). ShowsAt n.dated n b l.parent m.names s' us) (sym a.there_is) (subst (λ (b : Bool). ShowsAt n.dated n m.there b m.names s' us) (sym a.parent_is) (at_listing n m s' us g))) e
+members_in_one n good l m a s s' p q ts us vs ws h g e = members_one n good l.there l.parent l.names m.names a.names_are s s' p q ts us vs ws (at_listing n l s ts h)
+    (subst (λ (b : Bool). ShowsAt n b l.parent m.names s' us) (sym a.there_is) (subst (λ (b : Bool). ShowsAt n m.there b m.names s' us) (sym a.parent_is) (at_listing n m s' us g))) e
 
 -- ---- one family
 

@@ -1,10 +1,7 @@
-mod Ordered
-mod Spots
 mod Rising
 mod Peeled
 mod Called
 mod Members
-mod Days
 mod Parts
 mod Listings
 mod Families

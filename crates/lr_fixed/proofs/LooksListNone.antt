@@ -1,7 +1,6 @@
 -- Looks at paths list nothing: those for a literal word, at members, at part files, and at a directory that isn't listed then.
 use Rattle.std.proofs.Common.{◌≡◌, inl, inr, ℕ, Bool, true, false, List, [], ◌∷◌, map, Option, Some, None, Ok, Err, sym, ◌∙◌, subst}
 use Rattle.lr_rules.specs.declared.path.Path.{Path}
-use Rattle.lr_rules.specs.declared.rule.Format.{Format}
 use Rattle.lr_rules.specs.declared.rule.Naming.{Naming}
 use Rattle.lr_rules.specs.declared.fault.CallKind.{CallKind}
 use Rattle.lr_rules.specs.declared.fault.CallKind.TheVariants as call
@@ -13,23 +12,19 @@ use Rattle.lr_host.specs.Told.{Are}
 use Rattle.lr_family.specs.declared.listing.Listing.{Listing}
 use Rattle.lr_family.specs.declared.spot.Spot.{Spot}
 use Rattle.lr_family.specs.declared.stand.Member.{Member}
-use Rattle.lr_family.specs.declared.stand.Stand.{Stand}
 use Rattle.lr_family.specs.declared.stand.StandStop.{StandStop}
 use Rattle.lr_family.specs.declared.stand.StandStop.TheVariants as stop
 use Rattle.lr_family.specs.Among.{StandsAmong, ShowsMembers, ShowsNoneIn}
 use Rattle.lr_family.specs.Listed.{NotListedAt, NotListed}
-use Rattle.lr_family.specs.Looks.{Sight as Glance, look_of as glance_of, ShowsTo}
+use Rattle.lr_family.specs.Looks.{Sight, look_of, ShowsTo}
 use Rattle.lr_family.specs.Parts.{PartSight, part_look, ShowsParts, ShowsNoParts}
 use Rattle.lr_family.specs.Stops.{SomeStopped}
-use Rattle.lr_days.specs.declared.day.Day.{Day}
-use Rattle.lr_days.specs.Among.{ShowsMembers as ShowsDays, ShowsNoneIn as ShowsNoDaysIn}
-use Rattle.lr_days.specs.Looks.{Glance as DayGlance, look_of, ShowsTo as ShowsDaysTo, SomeStopped as SomeDayStopped}
 use Rattle.lr_glob.specs.declared.found.Found.{Found as Match}
 use Rattle.lr_glob.specs.declared.found.GlobStop.TheVariants as glob
 use Rattle.lr_glob.specs.Sights.{seen_at}
 use Rattle.lr_glob.specs.Words.{Gave, CallFailed, Begun}
 use Rattle.lr_looks.specs.Asked.{Word}
-use Rattle.lr_looks.specs.Families.{FamilySight, Stood, Stopped, ShowsBy, ShowsNoneBy, ShowsMembersIn}
+use Rattle.lr_looks.specs.Families.{FamilySight, Stood, Stopped, ShowsMembersIn}
 use Rattle.lr_looks.specs.Sights.{WordSight, ShowsWord}
 use Rattle.lr_fixed.proofs.CountedListings.{AreNoListings, none_both, none_empty}
 
@@ -68,7 +63,7 @@ literal_none w room (Err glob.Memory) ts plain h = begun_none w.text ts plain h
 
 -- ---- the looks at members
 
-sights_none : (gs : List Glance) → AreNoListings (map glance_of gs)
+sights_none : (gs : List Sight) → AreNoListings (map look_of gs)
 sights_none [] = tt
 sights_none (g ∷ gs) = (tt, sights_none gs)
 
@@ -107,44 +102,10 @@ none_in_none n true names why ts (inr (inl s)) = stops_none s.spots why ts s.loo
 none_in_none n true names why ts (inr (inr s)) = none_both ts (among_none n names s.0) (no_parts_none n names why) s.1
 none_in_none n false names why ts h = absurd h
 
--- ---- the looks at dated members
-
-glances_none : (gs : List DayGlance) → AreNoListings (map look_of gs)
-glances_none [] = tt
-glances_none (g ∷ gs) = (tt, glances_none gs)
-
-days_to_none : (days : List Day) (path : Path) (P : List Entry → Type 0) (ts : List Entry) → ((us : List Entry) → P us → AreNoListings us) → ShowsDaysTo days path P ts → AreNoListings ts
-days_to_none days path P ts f s = none_both ts (λ us e. subst AreNoListings (sym e) (glances_none s.before)) f s.looks
-
-days_stop_none : (days : List Day) (why : StandStop) (ts : List Entry) → SomeDayStopped days why ts → AreNoListings ts
-days_stop_none days (stop.Call kind path) ts s = days_to_none days path (Are []) ts none_empty s.1
-days_stop_none days (stop.NotFile path) ts s = days_to_none days path (Sees path IsNoFile) ts (sees_none path IsNoFile) s
-days_stop_none days stop.Memory ts s = subst AreNoListings (sym s.looks) (glances_none s.glances)
-
-days_none : (n : Naming) (there : Bool) (names : List _) (members : List Member) (ts : List Entry) → ShowsDays n there names members ts → AreNoListings ts
-days_none n true names members ts s = subst AreNoListings (sym s.looks.looks) (glances_none s.looks.glances)
-days_none n false names members ts h = none_empty ts h.1
-
-no_days_none : (n : Naming) (there : Bool) (names : List _) (why : StandStop) (ts : List Entry) → ShowsNoDaysIn n there names why ts → AreNoListings ts
-no_days_none n true names why ts (inl h) = none_empty ts h.1
-no_days_none n true names why ts (inr (inl s)) = days_stop_none s.days why ts s.looks
-no_days_none n true names why ts (inr (inr s)) = none_both ts (days_none n true names s.0) (no_parts_none n names why) s.1
-no_days_none n false names why ts h = absurd h
-
--- ---- numbered and dated ones
-
-by_none : (d : Option Format) (n : Naming) (l : Listing) (stand : Stand) (ts : List Entry) → ShowsBy d n l stand ts → AreNoListings ts
-by_none None n l stand ts h = none_both ts (members_none n l.there l.names stand.members) (parts_none n l.there l.names stand.parts) h.2
-by_none (Some format) n l stand ts h = none_both ts (days_none n l.there l.names stand.members) (parts_none n l.there l.names stand.parts) h.2
-
-none_by_none : (d : Option Format) (n : Naming) (l : Listing) (why : StandStop) (ts : List Entry) → ShowsNoneBy d n l why ts → AreNoListings ts
-none_by_none None n l why ts h = none_in_none n l.there l.names why ts h
-none_by_none (Some format) n l why ts h = no_days_none n l.there l.names why ts h
-
 pub members_in_none : (n : Naming) (l : Listing) (s : FamilySight) (ts : List Entry) → ShowsMembersIn n l s ts → AreNoListings ts
-members_in_none n l (Stood stand) ts h = by_none n.dated n l stand ts h
+members_in_none n l (Stood stand) ts h = none_both ts (members_none n l.there l.names stand.members) (parts_none n l.there l.names stand.parts) h.2
 members_in_none n l (Stopped why) ts (inl h) = none_empty ts h.1
-members_in_none n l (Stopped why) ts (inr h) = none_by_none n.dated n l why ts h
+members_in_none n l (Stopped why) ts (inr h) = none_in_none n l.there l.names why ts h
 
 -- ---- the looks at a directory that isn't listed
 

@@ -12,7 +12,6 @@ use Rattle.lr_host.specs.declared.thing.Seen.{Seen}
 use Rattle.lr_host.specs.declared.entry.Entry.{Entry}
 use Rattle.lr_family.specs.declared.stand.StandStop.TheVariants as stop
 use Rattle.lr_family.specs.Among.{StopsBehind}
-use Rattle.lr_days.specs.Among.{StopsBehind as StopsBehindDays}
 use Rattle.lr_family.specs.Parts.{IsPartAmong, AreParts, PartSight, part_look, part_in, PartsAmong, StopsBefore, ShowsNoParts}
 use Rattle.lr_family.proofs.Ordered.{same_rising}
 use Rattle.lr_fixed.proofs.Peeled.{front_same, saw_same}
@@ -75,9 +74,6 @@ before_never (x ∷ xs) path (inr e) = cc
 shown_never : (n : Naming) (names : List (List ℕ)) (path : Path) (ts : List Entry) → ShowsNoParts n names (stop.NotFile path) ts → ⊥
 shown_never n names path ts (inl h) = let e = h.0 in cc
 shown_never n names path ts (inr s) = before_never s.after path s.stopped
-
-pub days_never : (n : Naming) (names : List (List ℕ)) (path : Path) (ts : List Entry) → StopsBehindDays n names (stop.NotFile path) ts → ⊥
-days_never n names path ts s = shown_never n names path s.1.back s.1.second
 
 pub behind_never : (n : Naming) (names : List (List ℕ)) (path : Path) (ts : List Entry) → StopsBehind n names (stop.NotFile path) ts → ⊥
 behind_never n names path ts s = shown_never n names path s.1.back s.1.second

@@ -4,7 +4,6 @@ use Rattle.std.specs.Prelude.{◌≤◌, IfOk, IfErr, OnOk}
 use Rattle.std.proofs.lemmas.List.{append-nil, length-append, map-append, take-append-le}
 use Rattle.std.proofs.lemmas.Option.{get_or_from_slice_get}
 use Rattle.lr_rules.specs.declared.path.Path.{Path}
-use Rattle.lr_rules.specs.declared.rule.Format.{Format}
 use Rattle.lr_rules.specs.declared.rule.Naming.{Naming}
 use Rattle.lr_host.specs.declared.entry.Entry.{Entry}
 use Rattle.lr_host.specs.declared.journal.Journal.{Journal}
@@ -16,22 +15,21 @@ use Rattle.lr_family.specs.declared.stand.StandStop.{StandStop}
 use Rattle.lr_family.specs.declared.stand.StandStop.TheVariants as stop
 use Rattle.lr_family.specs.Among.{ShowsIn, ShowsNoneIn}
 use Rattle.lr_family.specs.Places.{AreNamed}
-use Rattle.lr_days.specs.Among.{ShowsIn as ShowsDaysIn, ShowsNoneIn as ShowsNoDaysIn}
-use Rattle.lr_days.specs.Newest.{AreDated, AreNewestFirst}
+use Rattle.lr_family.specs.Stands.{AreNewestFirst, IsFailedCall}
 use Rattle.lr_kept.proofs.Elements.{same_read}
 use Rattle.lr_looks.proofs.Known.{read_last}
 use Rattle.lr_rules.specs.declared.fault.Fault.{Fault}
 use Rattle.lr_rules.specs.Limits.{is_format, or_none}
 use Rattle.lr_host.specs.Told.{Counts, NoneFell, Rose}
-use Rattle.lr_family.specs.Stands.{IsFailedCall}
+
 use Rattle.lr_looks.specs.declared.found.Found.{Found}
 use Rattle.lr_host.specs.Counted.{AddsFaults}
 use Rattle.lr_host.proofs.Counts.{free_none, adds_free, adds_call}
 use Rattle.lr_looks.specs.Found.{FoundLog, found_in, all_found_in, Hold}
-use Rattle.lr_looks.specs.Families.{ShowFamilies, HadMemory, AllHadMemory, stop_fault, family_fault, family_faults, LookedLog, looked_at, looked_by, looked_of, LookedAtFamilies, LookedAtSomeFamilies, FamilySight, Stood, Stopped, sight_of, ShowsBy, ShowsNoneBy, ShowsMembersIn, ShowsFamily, behind_listing, with_listing, not_listed}
+use Rattle.lr_looks.specs.Families.{ShowFamilies, HadMemory, AllHadMemory, stop_fault, family_fault, family_faults, LookedLog, looked_at, looked_by, looked_of, LookedAtFamilies, LookedAtSomeFamilies, FamilySight, Stood, Stopped, sight_of, ShowsMembersIn, ShowsFamily, behind_listing, with_listing, not_listed}
 use Rattle.lr_looks.specs.Internal.{TakesListing, before, taken, LacksListing, IsAt, NoListing, lacks, unadded, FamilyPart, AddsLooked, AddsFamily, AddsFamilies, LooksBySets}
 use Rattle.lr_plan.specs.declared.looks.SetLooks.{SetLooks}
-use Rattle.lr_plan.specs.Planned.{AreMembersBy}
+use Rattle.lr_plan.specs.Planned.{AreMembersOf}
 use Rattle.lr_looks.specs.Sets.{HaveLooks}
 
 -- the listing at the place is the one that was read
@@ -47,33 +45,19 @@ behind known after n place x s ts us at (taken l new same is p shown) m =
     let one : l ≡ x = same_read (known ++ l ∷ []) (length known) l x (read_last known l) (subst (λ (k : ℕ). slice_get (known ++ l ∷ []) k ≡ Some x) p (subst (λ (ls : List Listing). slice_get ls place ≡ Some x) is at)) in
     with_listing l new same is (record { front = ts; back = us; joined = refl; first = shown; second = subst (λ (k : Listing). ShowsMembersIn n k s us) (sym one) m })
 
--- what was seen of a numbered family
-pub numbers_told : (n : Naming) (x : Listing) (r : Result Stand StandStop) {o p : Option Journal} → n.dated ≡ None → IfOk r (λ stand. Left (ShowsIn n x.there x.parent x.names stand) o p) → IfErr r (λ why. Left (ShowsNoneIn n x.there x.names why) o p)
-    → Left (ShowsMembersIn n x (sight_of r)) o p
-numbers_told n x (Ok stand) e told stopped = left_as told (λ ts h. subst (λ d. ShowsBy d n x stand ts) (sym e) h)
-numbers_told n x (Err why) e told stopped = left_as stopped (λ ts h. inr (subst (λ d. ShowsNoneBy d n x why ts) (sym e) h))
-
--- of a dated one
-pub days_told : (n : Naming) (format : Format) (x : Listing) (r : Result Stand StandStop) {o p : Option Journal} → n.dated ≡ Some format → IfOk r (λ stand. Left (ShowsDaysIn n x.there x.parent x.names stand) o p) → IfErr r (λ why. Left (ShowsNoDaysIn n x.there x.names why) o p)
-    → Left (ShowsMembersIn n x (sight_of r)) o p
-days_told n format x (Ok stand) e told stopped = left_as told (λ ts h. subst (λ d. ShowsBy d n x stand ts) (sym e) h)
-days_told n format x (Err why) e told stopped = left_as stopped (λ ts h. inr (subst (λ d. ShowsNoneBy d n x why ts) (sym e) h))
+-- what was seen of the members
+pub members_told : (n : Naming) (x : Listing) (r : Result Stand StandStop) {o p : Option Journal} → IfOk r (λ stand. Left (ShowsIn n x.there x.parent x.names stand) o p) → IfErr r (λ why. Left (ShowsNoneIn n x.there x.names why) o p) → Left (ShowsMembersIn n x (sight_of r)) o p
+members_told n x (Ok stand) told stopped = told
+members_told n x (Err why) told stopped = left_as stopped (λ ts h. inr h)
 
 pub family_told : (known after : List Listing) (n : Naming) (dir : Path) (place : ℕ) (x : Listing) (s : FamilySight) {o m p : Option Journal} → dir ≡ n.dir → slice_get after place ≡ Some x → Left (TakesListing known dir after place) o m
     → Left (ShowsMembersIn n x s) m p → Left (ShowsFamily known n after s) o p
 family_told known after n dir place x s e at l told = left_then l told (λ ts us h g. behind known after n place x s ts us at (subst (λ (d : Path). TakesListing known d after place ts) e h) g)
 
--- ---- the names of members
-
--- those of a numbered family have the paths of their places
-pub numbers_named : (n : Naming) (r : Result Stand StandStop) → n.dated ≡ None → IfOk r (λ stand. AreNamed n stand.members) → IfOk r (λ stand. AreMembersBy n.dated n stand.members)
-numbers_named n (Ok stand) e h = subst (λ d. AreMembersBy d n stand.members) (sym e) h
-numbers_named n (Err why) e h = tt
-
--- those of a dated one have the paths of their stamps, the newest first, and its format meets the limits
-pub days_named : (n : Naming) (format : Format) (r : Result Stand StandStop) → n.dated ≡ Some format → or_none is_format n.dated ≡ true → IfOk r (λ stand. AreDated n stand.members) → IfOk r (λ stand. AreNewestFirst stand.members) → IfOk r (λ stand. AreMembersBy n.dated n stand.members)
-days_named n format (Ok stand) e limits h newest = subst (λ d. AreMembersBy d n stand.members) (sym e) (subst (λ d. or_none is_format d ≡ true) e limits, h, newest)
-days_named n format (Err why) e limits h newest = tt
+-- what is asked of the members
+pub members_are : (n : Naming) (r : Result Stand StandStop) → or_none is_format n.dated ≡ true → IfOk r (λ stand. AreNamed n stand.members) → IfOk r (λ stand. AreNewestFirst stand.members) → IfOk r (λ stand. AreMembersOf n stand.members)
+members_are n (Ok stand) limits named newest = record { format = limits; named = named; newest = newest }
+members_are n (Err why) limits named newest = tt
 
 pub family_lacks : (known after : List Listing) (n : Naming) (dir : Path) (why : StandStop) {o p : Option Journal} → dir ≡ n.dir → Left (LacksListing known dir why after) o p → Left (ShowsFamily known n after (Stopped why)) o p
 family_lacks known after n dir why e l = left_as l (λ ts h. go ts (subst (λ (d : Path). LacksListing known d why after ts) e h))

@@ -1,7 +1,6 @@
 -- What the looks at families showed, with no directory listed twice.
 use Rattle.std.specs.Prelude.{◌≡◌, ◌≤◌, ◌⊎◌, ℕ, List, [], ◌∷◌, ◌++◌, length, take, Option, Some, None, Result, Ok, Err, slice_get}
 use Rattle.lr_rules.specs.declared.path.Path.{Path}
-use Rattle.lr_rules.specs.declared.rule.Format.{Format}
 use Rattle.lr_rules.specs.declared.rule.Naming.{Naming}
 use Rattle.lr_rules.specs.declared.fault.Fault.{Fault}
 use Rattle.lr_rules.specs.declared.fault.Fault.TheVariants as fault
@@ -13,7 +12,6 @@ use Rattle.lr_family.specs.declared.stand.Stand.{Stand}
 use Rattle.lr_family.specs.declared.stand.StandStop.{StandStop}
 use Rattle.lr_family.specs.declared.stand.StandStop.TheVariants as stop
 use Rattle.lr_family.specs.Among.{ShowsIn, ShowsNoneIn}
-use Rattle.lr_days.specs.Among.{ShowsIn as ShowsDaysIn, ShowsNoneIn as ShowsNoDaysIn}
 use Rattle.lr_family.specs.Listed.{ShowsListing, NotListed}
 use Rattle.lr_looks.specs.Found.{FoundLog}
 
@@ -38,20 +36,10 @@ pub record WasListed (known : List Listing) (dir : Path) (l : Listing) : Type 0 
 abbrev pub WasNotListed : List Listing → Path → Type 0
 WasNotListed known dir = (l : Listing) → WasListed known dir l → ⊥
 
--- what stands among the names of a listing: numbered members, or dated ones where they have a format of dates, and their part files
-abbrev pub ShowsBy : Option Format → Naming → Listing → Stand → List Entry → Type 0
-ShowsBy None n l stand ts = ShowsIn n l.there l.parent l.names stand ts
-ShowsBy (Some format) n l stand ts = ShowsDaysIn n l.there l.parent l.names stand ts
-
--- why that isn't known
-abbrev pub ShowsNoneBy : Option Format → Naming → Listing → StandStop → List Entry → Type 0
-ShowsNoneBy None n l why ts = ShowsNoneIn n l.there l.names why ts
-ShowsNoneBy (Some format) n l why ts = ShowsNoDaysIn n l.there l.names why ts
-
 -- what the looks at the members among the names of a listing, and at their part files, showed; there may be no memory before the first
 abbrev pub ShowsMembersIn : Naming → Listing → FamilySight → List Entry → Type 0
-ShowsMembersIn n l (Stood stand) ts = ShowsBy n.dated n l stand ts
-ShowsMembersIn n l (Stopped why) ts = ((why ≡ stop.Memory) × (ts ≡ [])) ⊎ ShowsNoneBy n.dated n l why ts
+ShowsMembersIn n l (Stood stand) ts = ShowsIn n l.there l.parent l.names stand ts
+ShowsMembersIn n l (Stopped why) ts = ((why ≡ stop.Memory) × (ts ≡ [])) ⊎ ShowsNoneIn n l.there l.names why ts
 
 -- The looks at one family, behind some listings: its directory was listed before; or it is listed now, and known then; or it couldn't be, and isn't known.
 pub data ShowsFamily (known : List Listing) (n : Naming) (after : List Listing) (s : FamilySight) (ts : List Entry) : Type 0 where

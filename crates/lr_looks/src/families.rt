@@ -5,8 +5,8 @@ ghost use Rattle.lr_host.specs.Told.{Left, Onward, Rose};
 ghost use Rattle.lr_family.specs.Stands.{IsFailedCall};
 ghost use Rattle.lr_family.specs.declared.stand.StandStop.TheVariants as stop;
 ghost use Rattle.lr_host.specs.Counted.{AddsFaults};
-ghost use Rattle.lr_looks.specs.Families.{looked_at, ShowsMembersIn, ShowsFamily, sight_of, stop_fault, LookedAtSomeFamilies};
-ghost use Rattle.lr_plan.specs.Planned.{AreMembersBy};
+ghost use Rattle.lr_looks.specs.Families.{looked_at, ShowsFamily, sight_of, stop_fault, LookedAtSomeFamilies};
+ghost use Rattle.lr_plan.specs.Planned.{AreMembersOf};
 ghost use Rattle.lr_looks.specs.Found.{found_in, all_found_in, paths_of, HasBounds, HaveBounds};
 ghost use Rattle.lr_looks.specs.Internal.{AreListings, FamilyPart, AddsLooked, AddsFamily, AddsFamilies, LooksBySets, AreOf};
 ghost use Rattle.lr_looks.specs.Ready.{AreReady};
@@ -16,31 +16,11 @@ use crate::found::Found;
 use crate::listing::listing_at;
 use crate::listings::Listings;
 use indexmap::IndexMap;
-use lr_family::{Family, Listing, Stand, StandStop};
+use lr_family::{Family, Stand, StandStop};
 use lr_host::Host;
 use lr_plan::{LogLook, Looks, SetLooks};
 use lr_rules::{Fault, Listed, Memory, Path};
 use std::alloc::Global;
-
-// What stands of a family, numbered or dated, in a directory that was listed.
-fn stand_in<H: Host>(
-    alloc: Global,
-    host: &mut H,
-    family: &Family,
-    listing: &Listing,
-) -> Result<Stand, StandStop>
-    requires format { or_none is_format family.now.naming.dated ≡ true }
-    requires dir { listing.now.dir ≡ family.now.naming.dir }
-    ensures told { Left (ShowsMembersIn family.now.naming listing.now (sight_of result)) (H.told host.old) (H.told host.new) }
-    ensures named { IfOk result (λ stand. AreMembersBy family.now.naming.dated family.now.naming stand.members) }
-    ensures cause { IfErr result (λ why. IsFailedCall why → Rose (H.counts host.old).faults (H.counts host.new).faults) }
-    ensures counts { Onward (H.counts host.old) (H.counts host.new) }
-{
-    match &family.naming().dated {
-        Some(_) => lr_days::stand_in(alloc, host, family, listing),
-        None => family.stand_in(alloc, host, listing),
-    }
-}
 
 // What stands of a family, whose directory is listed where it wasn't before.
 fn stand_at<H: Host>(
@@ -54,12 +34,12 @@ fn stand_at<H: Host>(
     ensures told { result ≢ Err stop.Memory → Left (ShowsFamily listings.old.taken.items family.now.naming listings.new.taken.items (sight_of result)) (H.told host.old) (H.told host.new) }
     ensures part { Left (FamilyPart listings.old.taken.items family.now.naming (sight_of result)) (H.told host.old) (H.told host.new) }
     ensures known { result ≢ Err stop.Memory → AreListings listings.new }
-    ensures named { IfOk result (λ stand. AreMembersBy family.now.naming.dated family.now.naming stand.members) }
+    ensures named { IfOk result (λ stand. AreMembersOf family.now.naming stand.members) }
     ensures cause { IfErr result (λ why. IsFailedCall why → Rose (H.counts host.old).faults (H.counts host.new).faults) }
     ensures counts { Onward (H.counts host.old) (H.counts host.new) }
 {
     match listing_at(alloc, host, listings, &family.naming().dir) {
-        Ok(place) => stand_in(alloc, host, family, &listings.taken[place]),
+        Ok(place) => family.stand_in(alloc, host, &listings.taken[place]),
         Err(why) => Err(why),
     }
 }
@@ -91,7 +71,7 @@ fn add_look(
 ) -> Result<(), Memory>
     requires set { found.set < length sets.old.items }
     requires bounds { HasBounds (found_in found) }
-    requires named { AreMembersBy found.family.naming.dated found.family.naming stand.members }
+    requires named { AreMembersOf found.family.naming stand.members }
     ensures looked { OnOk result (AddsLooked (looked_at (found_in found) stand ∷ []) sets.old.items sets.new.items) }
     ensures many { OnOk result (length sets.new.items ≡ length sets.old.items) }
     ensures ready { OnOk result (AreReady sets.old.items → AreReady sets.new.items) }

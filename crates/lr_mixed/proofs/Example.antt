@@ -16,7 +16,7 @@ use Rattle.lr_host.specs.Lists.{IsIn}
 use Rattle.lr_host.specs.Looks.{Sees, IsFile}
 use Rattle.lr_host.proofs.Lists.{in_from}
 use Rattle.lr_family.specs.Kin.{IsKin}
-use Rattle.lr_days.specs.Newest.{AreNewestFirst}
+use Rattle.lr_family.specs.Stands.{AreNewestFirst}
 use Rattle.lr_rotations.specs.Weave.{Among, none, own, FirstWoven}
 use Rattle.lr_targets.specs.AllTurns.{StandsBetween}
 use Rattle.lr_targets.specs.Target.{IsGiven, Target, rotation_of}

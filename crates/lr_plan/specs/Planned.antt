@@ -17,7 +17,7 @@ use Rattle.lr_rules.specs.declared.rule.Naming.{Naming}
 use Rattle.lr_rules.specs.declared.rule.Rule.{Rule}
 use Rattle.lr_rules.specs.declared.rule.Way.{Way}
 use Rattle.lr_rules.specs.declared.rule.Way.TheVariants as way
-use Rattle.lr_rules.specs.Limits.{is_format}
+use Rattle.lr_rules.specs.Limits.{is_format, or_none}
 use Rattle.lr_rules.specs.Names.{aside_path}
 use Rattle.lr_stamps.specs.Dated.{clock_seconds}
 use Rattle.lr_host.specs.declared.thing.Seen.{Seen}
@@ -30,7 +30,7 @@ use Rattle.lr_family.specs.declared.stand.Member.{Member}
 use Rattle.lr_family.specs.declared.stand.Stand.{Stand}
 use Rattle.lr_family.specs.Parts.{part_of}
 use Rattle.lr_family.specs.Places.{AreNamed}
-use Rattle.lr_days.specs.Newest.{AreDated, AreNewestFirst}
+use Rattle.lr_family.specs.Stands.{AreNewestFirst}
 use Rattle.lr_commands.specs.Commands.{spaced, script, where_so, mail, with_programs}
 use Rattle.lr_chain.specs.declared.ready.Ready.{Ready}
 use Rattle.lr_chain.specs.Ready.{IsCount, at_rest, with_dir, with_members, is_highest, highest_path}
@@ -252,16 +252,17 @@ pub record RunsNothing (rule : Rule) : Type 0 where
   pub preremove : rule.scripts.preremove ≡ None
   pub mail : rule.mail ≡ None
 
--- each member has the path of its place; dated ones stand in order, the newest first, and the format of the dates meets its limits
-abbrev pub AreMembersBy : Option Format → Naming → List Member → Type 0
-AreMembersBy None n members = AreNamed n members
-AreMembersBy (Some format) n members = (is_format format ≡ true) × AreDated n members × AreNewestFirst members
+-- Each member has the path of its place, they stand in order, the newest first, and a format of dates meets its limits.
+pub record AreMembersOf (n : Naming) (members : List Member) : Type 0 where
+  pub format : or_none is_format n.dated ≡ true
+  pub named : AreNamed n members
+  pub newest : AreNewestFirst members
 
 -- The look is one at the log, and its members are those of the log's naming, numbered or dated.
 pub record CanPlan (look : LogLook) : Type 0 where
   pub log : look.family.log ≡ look.path
   pub start : look.family.naming.start ≤ 999999
-  pub members : AreMembersBy look.family.naming.dated look.family.naming look.stand.members
+  pub members : AreMembersOf look.family.naming look.stand.members
 
 -- the count is one that a rule can have, and each of its looks can be planned for
 pub record CanPlanSet (rule : Rule) (looks : List LogLook) : Type 0 where

@@ -65,18 +65,18 @@ there_is true h = refl
 there_is false h = absurd (h refl)
 
 -- where no path is told, nothing hinders
-nothing_hinders : (rule : Rule) (look : LogLook) → AreNamed look.family.naming look.stand.members → ((path : Path) → IsMissing look.family.naming look.stand path → ⊥) → ((path : Path) → IsTooHigh look.family.naming look.stand rule.count path → ⊥)
+nothing_hinders : (rule : Rule) (look : LogLook) → look.family.naming.dated ≡ None → AreNamed look.family.naming look.stand.members → ((path : Path) → IsMissing look.family.naming look.stand path → ⊥) → ((path : Path) → IsTooHigh look.family.naming look.stand rule.count path → ⊥)
     → numbered_hindrances rule look ≡ []
-nothing_hinders rule look named dir low =
+nothing_hinders rule look numbered named dir low =
     let there = there_is look.stand.there (λ e. dir look.family.naming.dir (e, refl)) in
     none_by look.stand.there (is_too_high rule look) look.family.naming (λ e. dir look.family.naming.dir (e, refl))
-    (λ t h. high_none rule.count _ (none_too_high look.family.naming look.stand rule.count there named low) h)
+    (λ t h. high_none rule.count _ (none_too_high look.family.naming look.stand rule.count there numbered named low) h)
 
 -- where a rotation is ready, nothing hinders it
-pub ready_unhindered : (rule : Rule) (look : LogLook) (r : Result Ready PrepareStop) (ready : Ready) → AreNamed look.family.naming look.stand.members → r ≡ Ok ready
+pub ready_unhindered : (rule : Rule) (look : LogLook) (r : Result Ready PrepareStop) (ready : Ready) → look.family.naming.dated ≡ None → AreNamed look.family.naming look.stand.members → r ≡ Ok ready
     → (r ≢ Err prepare.Memory → (path : Path) → (r ≡ Err (prepare.NoDir path)) ↔ IsMissing look.family.naming look.stand path)
     → (r ≢ Err prepare.Memory → (path : Path) → (r ≡ Err (prepare.TooHigh path)) ↔ IsTooHigh look.family.naming look.stand rule.count path) → numbered_hindrances rule look ≡ []
-ready_unhindered rule look r ready named e dir high = nothing_hinders rule look named
+ready_unhindered rule look r ready numbered named e dir high = nothing_hinders rule look numbered named
     (λ path m. let f : r ≡ Err (prepare.NoDir path) = (dir (λ m. cc) path).1 m in absurd (cc))
     (λ path m. let f : r ≡ Err (prepare.TooHigh path) = (high (λ m. cc) path).1 m in absurd (cc))
 
@@ -92,43 +92,43 @@ high_by false high n e f = absurd (cc)
 dir_hinders : (rule : Rule) (look : LogLook) (path : Path) → IsMissing look.family.naming look.stand path → numbered_hindrances rule look ≡ fault.NoDir path ∷ []
 dir_hinders rule look path m = missing_by look.stand.there (is_too_high rule look) look.family.naming m.0 ∙ ap (λ (x : Path). fault.NoDir x ∷ []) (sym m.1)
 
-highest_has : (rule : Rule) (look : LogLook) (path : Path) → AreNamed look.family.naming look.stand.members → IsTooHigh look.family.naming look.stand rule.count path
+highest_has : (rule : Rule) (look : LogLook) (path : Path) → look.family.naming.dated ≡ None → AreNamed look.family.naming look.stand.members → IsTooHigh look.family.naming look.stand rule.count path
     → (is_too_high rule look ≡ true) × (highest_path look.family.naming ≡ path)
-highest_has rule look path named h =
+highest_has rule look path numbered named h =
     let a = h.2 in
     let top = eq-eqb (look.family.naming.start + number_in a.1.place) 4294967295 a.4.0 in
     let own = subst (λ (m : Member). IsPlaceOf look.family.naming m.place m.path) a.3 (named a.0 a.1 a.2) in
-    (high_some rule.count _ h.1 (list_any_at (is_highest look.family.naming) look.stand.members a.0 a.1 a.2 (ap (is_highest look.family.naming) a.3 ∙ top)), sym (path_is look.family.naming a.1 own top) ∙ a.4.1)
+    (high_some rule.count _ h.1 (list_any_at (is_highest look.family.naming) look.stand.members a.0 a.1 a.2 (ap (is_highest look.family.naming) a.3 ∙ top)), sym (path_is look.family.naming a.1 numbered own top) ∙ a.4.1)
 
-height_hinders : (rule : Rule) (look : LogLook) (path : Path) → AreNamed look.family.naming look.stand.members → IsTooHigh look.family.naming look.stand rule.count path
+height_hinders : (rule : Rule) (look : LogLook) (path : Path) → look.family.naming.dated ≡ None → AreNamed look.family.naming look.stand.members → IsTooHigh look.family.naming look.stand rule.count path
     → numbered_hindrances rule look ≡ fault.TooHigh path ∷ []
-height_hinders rule look path named h =
-    let k = highest_has rule look path named h in
+height_hinders rule look path numbered named h =
+    let k = highest_has rule look path numbered named h in
     high_by look.stand.there (is_too_high rule look) look.family.naming h.0 k.0 ∙ ap (λ (x : Path). fault.TooHigh x ∷ []) k.1
 
 -- what keeps a rotation from being prepared is what hinders it
-pub stop_hinders : (rule : Rule) (look : LogLook) (r : Result Ready PrepareStop) (stop : PrepareStop) → AreNamed look.family.naming look.stand.members → r ≡ Err stop
+pub stop_hinders : (rule : Rule) (look : LogLook) (r : Result Ready PrepareStop) (stop : PrepareStop) → look.family.naming.dated ≡ None → AreNamed look.family.naming look.stand.members → r ≡ Err stop
     → (r ≢ Err prepare.Memory → (path : Path) → (r ≡ Err (prepare.NoDir path)) ↔ IsMissing look.family.naming look.stand path)
     → (r ≢ Err prepare.Memory → (path : Path) → (r ≡ Err (prepare.TooHigh path)) ↔ IsTooHigh look.family.naming look.stand rule.count path)
     → ((path : Path) → r ≢ Err (prepare.Taken path)) → IsHindered (numbered_hindrances rule look) stop
-stop_hinders rule look r (prepare.Taken path) named e dir high taken = absurd (taken path e)
-stop_hinders rule look r (prepare.NoDir path) named e dir high taken = dir_hinders rule look path ((dir (λ m. cc) path).0 e)
-stop_hinders rule look r (prepare.TooHigh path) named e dir high taken = height_hinders rule look path named ((high (λ m. cc) path).0 e)
-stop_hinders rule look r prepare.Memory named e dir high taken = tt
+stop_hinders rule look r (prepare.Taken path) numbered named e dir high taken = absurd (taken path e)
+stop_hinders rule look r (prepare.NoDir path) numbered named e dir high taken = dir_hinders rule look path ((dir (λ m. cc) path).0 e)
+stop_hinders rule look r (prepare.TooHigh path) numbered named e dir high taken = height_hinders rule look path numbered named ((high (λ m. cc) path).0 e)
+stop_hinders rule look r prepare.Memory numbered named e dir high taken = tt
 
 -- where a rotation is ready, nothing hinders it
 pub ok_free : (clock : Clock) (rule : Rule) (look : LogLook) (r : Result Ready PrepareStop) → look.family.naming.dated ≡ None → AreNamed look.family.naming look.stand.members
     → (r ≢ Err prepare.Memory → (path : Path) → (r ≡ Err (prepare.NoDir path)) ↔ IsMissing look.family.naming look.stand path)
     → (r ≢ Err prepare.Memory → (path : Path) → (r ≡ Err (prepare.TooHigh path)) ↔ IsTooHigh look.family.naming look.stand rule.count path) → OnOk r (hindrances_by look.family.naming.dated clock rule look ≡ [])
 ok_free clock rule look (Err stop) numbered named dir high = tt
-ok_free clock rule look (Ok ready) numbered named dir high = sym (hindrances_are clock rule look numbered) ∙ ready_unhindered rule look (Ok ready) ready named refl dir high
+ok_free clock rule look (Ok ready) numbered named dir high = sym (hindrances_are clock rule look numbered) ∙ ready_unhindered rule look (Ok ready) ready numbered named refl dir high
 
 pub err_hindered : (clock : Clock) (rule : Rule) (look : LogLook) (r : Result Ready PrepareStop) → look.family.naming.dated ≡ None → AreNamed look.family.naming look.stand.members
     → (r ≢ Err prepare.Memory → (path : Path) → (r ≡ Err (prepare.NoDir path)) ↔ IsMissing look.family.naming look.stand path)
     → (r ≢ Err prepare.Memory → (path : Path) → (r ≡ Err (prepare.TooHigh path)) ↔ IsTooHigh look.family.naming look.stand rule.count path)
     → ((path : Path) → r ≢ Err (prepare.Taken path)) → IfErr r (IsHindered (hindrances_by look.family.naming.dated clock rule look))
 err_hindered clock rule look (Ok ready) numbered named dir high taken = tt
-err_hindered clock rule look (Err stop) numbered named dir high taken = subst (λ (fs : List Fault). IsHindered fs stop) (hindrances_are clock rule look numbered) (stop_hinders rule look (Err stop) stop named refl dir high taken)
+err_hindered clock rule look (Err stop) numbered named dir high taken = subst (λ (fs : List Fault). IsHindered fs stop) (hindrances_are clock rule look numbered) (stop_hinders rule look (Err stop) stop numbered named refl dir high taken)
 
 -- and the log's new path is short
 pub ok_short : (look : LogLook) (count : Count) (anew : Make) (r : Result Ready PrepareStop) (from : List ℕ) → look.family.naming.start ≤ 999999

@@ -1,21 +1,20 @@
 -- The stand that a rotation goes by: its members are what is asked of them, also where its directory is made; and what is said of a stand that is the same.
-use Rattle.std.proofs.Common.{◌≡◌, Bool, true, false, [], ◌∷◌, Option, Some, None, Ok, sym, ap, ◌∙◌, subst, arith}
+use Rattle.std.proofs.Common.{◌≡◌, Bool, true, false, [], ◌∷◌, Ok, sym, ap, ◌∙◌, subst, arith}
 use Rattle.std.specs.Prelude.{if◌then◌else◌}
 use Rattle.std.specs.List.Sorted.{IsStrictlySortedBy}
 use Rattle.lr_rules.specs.declared.clock.Clock.{Clock}
 use Rattle.lr_rules.specs.declared.fault.Fault.{Fault}
-use Rattle.lr_rules.specs.declared.rule.Format.{Format}
 use Rattle.lr_rules.specs.declared.rule.Naming.{Naming}
 use Rattle.lr_rules.specs.declared.rule.Rule.{Rule}
 use Rattle.lr_family.specs.declared.stand.Stand.{Stand}
-use Rattle.lr_days.specs.Newest.{AreNewestFirst}
+use Rattle.lr_family.specs.Stands.{AreNewestFirst}
 use Rattle.lr_chain.specs.declared.ready.Ready.{Ready}
 use Rattle.lr_chain.specs.declared.ready.PrepareStop.{PrepareStop}
 use Rattle.lr_chain.specs.Ready.{with_dir}
 use Rattle.lr_dated_ready.specs.Hindrances.{IsHindered}
 use Rattle.lr_plan.specs.declared.looks.LogLook.{LogLook}
 use Rattle.lr_planning.specs.Hindered.{fault_of}
-use Rattle.lr_plan.specs.Planned.{makes_dir, dir_of, empty_stand, stand_for, with_stand, standing, hindrances_by, hindrances, ready_by, ready_for, AreMembersBy, CanPlan}
+use Rattle.lr_plan.specs.Planned.{makes_dir, dir_of, empty_stand, stand_for, with_stand, standing, hindrances_by, hindrances, ready_by, ready_for, AreMembersOf, CanPlan}
 use Rattle.lr_planning.proofs.Hindrances.{fault_hinders}
 
 none_fall : AreNewestFirst []
@@ -23,12 +22,11 @@ unfolding IsStrictlySortedBy
 none_fall = tt
 
 -- no members meet all that is asked of members; the format of their dates meets its limits as before
-none_are : (d : Option Format) (n : Naming) (stand : Stand) → AreMembersBy d n stand.members → AreMembersBy d n []
-none_are None n stand h = λ at m lt. absurd (omega arith)
-none_are (Some format) n stand h = (h.0, (λ at m lt. absurd (omega arith)), none_fall)
+none_are : (n : Naming) (stand : Stand) → AreMembersOf n stand.members → AreMembersOf n []
+none_are n stand h = record { format = h.format; named = λ at m lt. absurd (omega arith); newest = none_fall }
 
-members_are : (made : Bool) (look : LogLook) → AreMembersBy look.family.naming.dated look.family.naming look.stand.members → AreMembersBy look.family.naming.dated look.family.naming (if made then empty_stand else look.stand).members
-members_are true look h = none_are look.family.naming.dated look.family.naming look.stand h
+members_are : (made : Bool) (look : LogLook) → AreMembersOf look.family.naming look.stand.members → AreMembersOf look.family.naming (if made then empty_stand else look.stand).members
+members_are true look h = none_are look.family.naming look.stand h
 members_are false look h = h
 
 standing_can : (rule : Rule) (look : LogLook) → CanPlan look → CanPlan (standing rule look)

@@ -1,5 +1,6 @@
 -- A log with dates that can't be rotated since a member has the name that it would get: the member was seen, and the acts spare it.
 use Rattle.std.proofs.Common.{◌≡◌, ◌≢◌, inl, inr, ⊎_elim, ℕ, suc, ◌+◌, Bool, true, false, cond, not, ◌&&◌, Option, Some, None, List, [], ◌∷◌, ◌++◌, map, reverse, slice_get, refl, sym, ap, ◌∙◌, subst}
+use Rattle.std.specs.Option.{is_some}
 use Rattle.std.specs.Str.{bytes_eq}
 use Rattle.std.proofs.lemmas.Bool.{and_left, and_right}
 use Rattle.std.specs.Prelude.{ℤ, filter, codes}
@@ -29,12 +30,11 @@ use Rattle.lr_host.proofs.Lists.{in_append, in_back, in_to}
 use Rattle.lr_host.proofs.Quiet.{quiet_still, still_in_order}
 use Rattle.lr_due.specs.declared.answer.Due.{Due}
 use Rattle.lr_due.specs.declared.answer.Due.TheVariants as due
-use Rattle.lr_family.specs.declared.place.Place.{Place}
-use Rattle.lr_family.specs.declared.place.Place.TheVariants as at
 use Rattle.lr_family.specs.declared.stand.Member.{Member}
 use Rattle.lr_family.specs.declared.stand.Stand.{Stand}
 use Rattle.lr_family.specs.Parts.{IsDated}
-use Rattle.lr_days.specs.Newest.{IsDayOf}
+use Rattle.lr_family.specs.Places.{IsPlaceOf}
+use Rattle.lr_family.proofs.Placed.{dated_at}
 use Rattle.lr_chain.specs.Ready.{highest_path}
 use Rattle.lr_dated_chain.specs.Next.{has_serials}
 use Rattle.lr_dated_ready.specs.Hindrances.{is_stamp, fault_at, too_high, taken, dated_hindrances}
@@ -250,12 +250,8 @@ module _ (state : Path) (rules : Rules) (sets : List SetLooks) (faults : List Fa
   member_seen = (barred.member, barred.path_is, All-contains (WasSeen looks) h.look.stand.members barred.member shown.files (in_to barred.member h.look.stand.members barred.among))
 
   -- its path is that of a dated member of the log, which was kept
-  at_place : (place : Place) (y : Path) → IsDayOf n place y → IsDated n y
-  at_place (at.Stamp seconds serial) y d = (seconds, serial, d)
-  at_place (at.Number place) y d = absurd d
-
   day : IsDated n path
-  day = subst (IsDated n) barred.path_is (at_place barred.member.place barred.member.path (All-contains (λ m. IsDayOf n m.place m.path) h.look.stand.members barred.member shown.named (in_to barred.member h.look.stand.members barred.among)))
+  day = subst (IsDated n) barred.path_is (dated_at n barred.member.place barred.member.path (ap is_some format.1) (All-contains (λ m. IsPlaceOf n m.place m.path) h.look.stand.members barred.member shown.named (in_to barred.member h.look.stand.members barred.among)))
 
   own : IsOwnName h.look.path n path
   own = dated_own h.look.path n day.0 day.1 path day.2

@@ -1,6 +1,7 @@
 -- What the looks showed of a family, whose directory may have been listed for another log before.
 use Rattle.std.proofs.Common.{◌≡◌, inl, inr, ⊎_elim, ℕ, ◌+◌, Bool, true, false, List, [], ◌∷◌, map, Option, Some, None, refl, sym, ◌∙◌, ap, subst}
 use Rattle.std.specs.List.Sorted.{IsPermutation}
+use Rattle.std.proofs.lemmas.List.Elements.{All-contains}
 use Rattle.std.proofs.lemmas.List.Sorted.{Contains-permutation, IsPermutation-sym}
 use Rattle.lr_rules.specs.declared.path.Path.{Path}
 use Rattle.lr_rules.specs.declared.rule.Format.{Format}
@@ -16,19 +17,17 @@ use Rattle.lr_host.specs.Looks.{Sees, IsDir, is_dir}
 use Rattle.lr_host.specs.Told.{Then}
 use Rattle.lr_host.proofs.Lists.{in_from, in_to, in_map, in_unmap, in_front, in_back, in_append}
 use Rattle.lr_family.specs.declared.listing.Listing.{Listing}
-use Rattle.lr_family.specs.declared.spot.Spot.{Spot}
 use Rattle.lr_family.specs.declared.stand.Member.{Member}
 use Rattle.lr_family.specs.declared.stand.Stand.{Stand}
-use Rattle.lr_family.specs.Among.{StandsAmong, ShowsMembers}
+use Rattle.lr_family.specs.Among.{StandsAmong, ShowsMembers, ShowsIn}
 use Rattle.lr_family.specs.Listed.{HasListed, ShowsListing}
-use Rattle.lr_family.specs.Looks.{Sight, look_of, seen_at, member_of}
-use Rattle.lr_family.specs.Named.{member_name}
 use Rattle.lr_family.specs.Parts.{part_if_file, part_seen, part_in, part_look, PartsAmong, ShowsParts}
-use Rattle.lr_family.specs.Spots.{path_at, spot_at, AreSpots}
-use Rattle.lr_family.specs.Stands.{number_in}
-use Rattle.lr_days.specs.Among.{StandsAmong as DaysAmong, ShowsMembers as ShowsDays}
+use Rattle.lr_family.specs.Places.{IsPlaceOf}
+use Rattle.lr_family.proofs.Placed.{numbered_at}
+use Rattle.lr_family.proofs.Rising.{spots_more}
+use Rattle.lr_family.proofs.Shown.{members_named, members_seen}
 use Rattle.lr_chain.specs.Rotation.{places_of}
-use Rattle.lr_looks.specs.Families.{FamilySight, Stood, Stopped, ShowsBy, ShowsFamily, behind_listing, with_listing, not_listed, ShowFamilies, LookedLog, looked_by, looked_of}
+use Rattle.lr_looks.specs.Families.{FamilySight, Stood, Stopped, ShowsFamily, behind_listing, with_listing, not_listed, ShowFamilies, LookedLog, looked_by, looked_of}
 use Rattle.lr_looks.specs.Found.{FoundLog}
 use Rattle.lr_dated_seen.specs.Shown.{ShownDated}
 use Rattle.lr_dated_seen.proofs.Shows.{members_shown as looks_shown}
@@ -99,20 +98,15 @@ module _ (all : List Entry) (dir : Path) (parent : Bool) (names : List (List ℕ
 
 -- ---- families
 
--- looks at the members among the names of a listing, numbered ones or dated ones
-abbrev pub StandBy : Option Format → Naming → List (List ℕ) → List Member → List Entry → Type 0
-StandBy None n names members ts = StandsAmong n names members ts
-StandBy (Some format) n names members ts = DaysAmong n names members ts
-
 -- The family's directory was seen, and listed with these names in some order. The looks at the members among them, and those at the part files, are among all entries.
-pub record IsListed (d : Option Format) (n : Naming) (stand : Stand) (all : List Entry) : Type 0 where
+pub record IsListed (n : Naming) (stand : Stand) (all : List Entry) : Type 0 where
   pub dir : SawDir n.dir all
   pub names : List (List ℕ)
   pub listed : List (List ℕ)
   pub same : IsPermutation listed names
   pub list : IsIn (entry.List n.dir listed) all
   pub front : List Entry
-  pub members : StandBy d n names stand.members front
+  pub members : StandsAmong n names stand.members front
   pub front_in : (e : Entry) → IsIn e front → IsIn e all
   pub back : List Entry
   pub parts : PartsAmong n names stand.parts back
@@ -126,15 +120,19 @@ pub record IsMissing (n : Naming) (stand : Stand) (all : List Entry) : Type 0 wh
   pub parent : SawParent n.dir stand.parent all
 
 -- by whether it is there
-abbrev pub WasToldBy : Option Format → Naming → Stand → List Entry → Type 0
-WasToldBy d n stand all = (stand.there ≡ true → IsListed d n stand all) × (stand.there ≡ false → IsMissing n stand all)
+abbrev pub WasTold : Naming → Stand → List Entry → Type 0
+WasTold n stand all = (stand.there ≡ true → IsListed n stand all) × (stand.there ≡ false → IsMissing n stand all)
 
--- whatever the looks at members show, of which none stands where the directory isn't there
-told_among : (all : List Entry) (n : Naming) (l : Listing) (stand : Stand) (d : Option Format) (M : Bool → List Entry → Type 0) (ts : List Entry) → ((us : List Entry) → M false us → stand.members ≡ []) → ((us : List Entry) → M true us → StandBy d n l.names stand.members us)
-    → ((e : Entry) → IsIn e ts → IsIn e all) → IsTold all n.dir l.there l.parent l.names → stand.there ≡ l.there → stand.parent ≡ l.parent → Then (M l.there) (ShowsParts n l.there l.names stand.parts) ts → WasToldBy d n stand all
-told_among all n l stand d M ts none some in_all told there parent h = go l.there there told h.first h.second
+told_by : (all : List Entry) (n : Naming) (l : Listing) (stand : Stand) (ts : List Entry) → ((e : Entry) → IsIn e ts → IsIn e all) → IsTold all n.dir l.there l.parent l.names → ShowsIn n l.there l.parent l.names stand ts → WasTold n stand all
+told_by all n l stand ts in_all told shows = go l.there there told h.first h.second
   where
-    go : (b : Bool) → stand.there ≡ b → IsTold all n.dir b l.parent l.names → M b h.front → ShowsParts n b l.names stand.parts h.back → WasToldBy d n stand all
+    there : stand.there ≡ l.there
+    there = shows.0
+
+    h : Then (ShowsMembers n l.there l.names stand.members) (ShowsParts n l.there l.names stand.parts) ts
+    h = shows.2
+
+    go : (b : Bool) → stand.there ≡ b → IsTold all n.dir b l.parent l.names → ShowsMembers n b l.names stand.members h.front → ShowsParts n b l.names stand.parts h.back → WasTold n stand all
     go true is t m p =
         let list = list_told all n.dir l.parent l.names t in (
           (λ yes. record {
@@ -144,7 +142,7 @@ told_among all n l stand d M ts none some in_all told there parent h = go l.ther
             same = list.1;
             list = list.2;
             front = h.front;
-            members = some h.front m;
+            members = m;
             front_in = λ e i. in_all e (subst (IsIn e) (sym h.joined) (in_front e h.front h.back i));
             back = h.back;
             parts = p;
@@ -154,29 +152,24 @@ told_among all n l stand d M ts none some in_all told there parent h = go l.ther
         )
     go false is t m p = (
       (λ yes. absurd (cc)),
-      λ no. record { members = none h.front m; parts = p.0; look = missing_told all n.dir l.parent l.names t; parent = subst (λ b. SawParent n.dir b all) (sym parent) (parent_told all n.dir l.parent l.names t) },
+      λ no. record { members = m.0; parts = p.0; look = missing_told all n.dir l.parent l.names t; parent = subst (λ b. SawParent n.dir b all) (sym shows.1) (parent_told all n.dir l.parent l.names t) },
     )
-
--- of a numbered family and of a dated one
-told_by : (all : List Entry) (n : Naming) (l : Listing) (stand : Stand) (ts : List Entry) → ((e : Entry) → IsIn e ts → IsIn e all) → IsTold all n.dir l.there l.parent l.names → (d : Option Format) → ShowsBy d n l stand ts → WasToldBy d n stand all
-told_by all n l stand ts in_all told None h = told_among all n l stand None (λ b. ShowsMembers n b l.names stand.members) ts (λ us m. m.0) (λ us m. m) in_all told h.0 h.1 h.2
-told_by all n l stand ts in_all told (Some format) h = told_among all n l stand (Some format) (λ b. ShowsDays n b l.names stand.members) ts (λ us m. m.0) (λ us m. m) in_all told h.0 h.1 h.2
 
 -- a family, whether its directory was listed before or is listed now
 family_told : (all : List Entry) (known : List Listing) (n : Naming) (after : List Listing) (stand : Stand) (s : FamilySight) (ts : List Entry) → s ≡ Stood stand → ((e : Entry) → IsIn e ts → IsIn e all) → AreTold all known → AreTold all after
-    → ShowsFamily known n after s ts → WasToldBy n.dated n stand all
+    → ShowsFamily known n after s ts → WasTold n stand all
 family_told all known n after stand s ts is in_all told next f = go (subst (λ (x : FamilySight). ShowsFamily known n after x ts) is f)
   where
-    go : ShowsFamily known n after (Stood stand) ts → WasToldBy n.dated n stand all
-    go (behind_listing l was same m) = told_by all n l stand ts in_all (subst (λ (x : Path). IsTold all x l.there l.parent l.names) was.same (told l (in_list known was.place l was.there))) n.dated m
+    go : ShowsFamily known n after (Stood stand) ts → WasTold n stand all
+    go (behind_listing l was same m) = told_by all n l stand ts in_all (subst (λ (x : Path). IsTold all x l.there l.parent l.names) was.same (told l (in_list known was.place l was.there))) m
     go (with_listing l new e same t) =
         told_by all n l stand t.back (λ x i. in_all x (subst (IsIn x) (sym t.joined) (in_back x t.front t.back i)))
-        (subst (λ (x : Path). IsTold all x l.there l.parent l.names) e (next l (subst (IsIn l) (sym same) (in_back l known (l ∷ []) (inl refl))))) n.dated t.second
+        (subst (λ (x : Path). IsTold all x l.there l.parent l.names) e (next l (subst (IsIn l) (sym same) (in_back l known (l ∷ []) (inl refl))))) t.second
     go (not_listed why new same e h) = absurd (cc)
 
 -- of each log that was looked at whole
 families_told : (all : List Entry) (known : List Listing) (fs : List FoundLog) (after : List Listing) (ss : List FamilySight) (ts : List Entry) → ((e : Entry) → IsIn e ts → IsIn e all) → AreTold all known → ShowFamilies known fs after ss ts
-    → (x : LookedLog) → IsIn x (looked_of fs ss) → WasToldBy x.naming.dated x.naming x.stand all
+    → (x : LookedLog) → IsIn x (looked_of fs ss) → WasTold x.naming x.stand all
 families_told all known [] after [] ts in_all told h x i = absurd i
 families_told all known [] after (s ∷ ss) ts in_all told h x i = absurd i
 families_told all known (f ∷ fs) after [] ts in_all told h x i = absurd i
@@ -191,58 +184,36 @@ families_told all known (f ∷ fs) after (s ∷ ss) ts in_all told h x i = ⊎_e
     next : AreTold all h.0
     next = told_next all known f.log.naming h.0 s h.1.front in_front_all told h.1.first
 
-    own : (r : FamilySight) → s ≡ r → IsIn x (looked_by f r) → WasToldBy x.naming.dated x.naming x.stand all
-    own (Stood stand) is (inl e) = subst (λ (y : LookedLog). WasToldBy y.naming.dated y.naming y.stand all) e (family_told all known f.log.naming h.0 stand s h.1.front is in_front_all told next h.1.first)
+    own : (r : FamilySight) → s ≡ r → IsIn x (looked_by f r) → WasTold x.naming x.stand all
+    own (Stood stand) is (inl e) = subst (λ (y : LookedLog). WasTold y.naming y.stand all) e (family_told all known f.log.naming h.0 stand s h.1.front is in_front_all told next h.1.first)
     own (Stood stand) is (inr none) = absurd none
     own (Stopped why) is none = absurd none
 
 pub all_told : (all : List Entry) (fs : List FoundLog) (after : List Listing) (ss : List FamilySight) (ts : List Entry) → ((e : Entry) → IsIn e ts → IsIn e all) → ShowFamilies [] fs after ss ts
-    → (x : LookedLog) → IsIn x (looked_of fs ss) → WasToldBy x.naming.dated x.naming x.stand all
+    → (x : LookedLog) → IsIn x (looked_of fs ss) → WasTold x.naming x.stand all
 all_told all fs after ss ts in_all h = families_told all [] fs after ss ts in_all (λ l i. absurd i) h
 
 -- ---- members
 
--- the members among names are those among the same names in another order
-spots_as : (n : Naming) (names listed : List (List ℕ)) (spots : List Spot) → IsPermutation listed names → AreSpots n names spots → AreSpots n listed spots
-spots_as n names listed spots same s = record {
-  places = s.places;
-  once = s.once;
-  all = λ place. (
-    λ c. let r = (s.all place).0 c in (r.0, Contains-permutation names listed (member_name n (n.start + place)) (IsPermutation-sym listed names same) r.1),
-    λ r. (s.all place).1 (r.0, Contains-permutation listed names (member_name n (n.start + place)) same r.1),
-  );
+-- looks at the members among names are those at the members among the same names in another order
+stands_as : (n : Naming) (names listed : List (List ℕ)) (members : List Member) (us : List Entry) → IsPermutation listed names → StandsAmong n names members us → StandsAmong n listed members us
+stands_as n names listed members us same s = record {
+  spots = s.spots;
+  spots_are = spots_more n names listed s.spots (λ name c. Contains-permutation names listed name (IsPermutation-sym listed names same) c) (λ name c. Contains-permutation listed names name same c) s.spots_are;
+  shown = s.shown;
   each = s.each;
-  rising = s.rising;
+  newest_first = s.newest_first;
+  looks = s.looks;
 }
 
--- a member that a look saw is the one of its place
-of_sight : (spot : Spot) (o : Option Seen) (m : Member) → IsIn m (seen_at spot o) → (spot.place ≡ number_in m.place) × (o ≡ Some m.seen)
-of_sight spot None m i = absurd i
-of_sight spot (Some seen) m (inl e) = (ap (λ (x : Member). number_in x.place) e, ap (λ (x : Member). Some x.seen) e)
-of_sight spot (Some seen) m (inr none) = absurd none
-
 -- what was seen of each member a look told
-sights_among : (n : Naming) (names : List (List ℕ)) (members : List Member) (us all : List Entry) → ((e : Entry) → IsIn e us → IsIn e all) → StandsAmong n names members us → SawMembers n members all
-sights_among n names members us all in_all s m i = in_all (entry.Look (path_at n (number_in m.place)) (Some m.seen))
-    (subst (IsIn (entry.Look (path_at n (number_in m.place)) (Some m.seen))) (sym s.looks.looks)
-    (subst (λ (e : Entry). IsIn e (map look_of s.looks.sights)) look (in_map look_of g.0 s.looks.sights g.1)))
-  where
-    g : (g : Sight) × IsIn g s.looks.sights × IsIn m (member_of g)
-    g = in_flat member_of s.looks.sights m (subst (IsIn m) s.looks.members_are (in_from m s.shown (Contains-permutation members s.shown m (IsPermutation-sym s.shown members s.each) (in_to m members i))))
-
-    of : (g.0.spot.place ≡ number_in m.place) × (g.0.seen ≡ Some m.seen)
-    of = of_sight g.0.spot g.0.seen m g.2
-
-    spot : (k : ℕ) × IsIn k s.spots_are.places × (spot_at n k ≡ g.0.spot)
-    spot = in_unmap (spot_at n) g.0.spot s.spots_are.places (in_from g.0.spot (map (spot_at n) s.spots_are.places)
-        (Contains-permutation s.spots (map (spot_at n) s.spots_are.places) g.0.spot (IsPermutation-sym (map (spot_at n) s.spots_are.places) s.spots s.spots_are.each)
-        (in_to g.0.spot s.spots (subst (IsIn g.0.spot) s.looks.each (in_map (λ (x : Sight). x.spot) g.0 s.looks.sights g.1)))))
-
-    path : g.0.spot.path ≡ path_at n (number_in m.place)
-    path = ap (λ (x : Spot). x.path) (sym spot.2) ∙ ap (path_at n) (ap (λ (x : Spot). x.place) spot.2 ∙ of.0)
-
-    look : look_of g.0 ≡ entry.Look (path_at n (number_in m.place)) (Some m.seen)
-    look = ap (λ (x : Path). entry.Look x g.0.seen) path ∙ ap (entry.Look (path_at n (number_in m.place))) of.1
+sights_among : (n : Naming) (names : List (List ℕ)) (members : List Member) (us all : List Entry) → n.dated ≡ None → ((e : Entry) → IsIn e us → IsIn e all) → StandsAmong n names members us → SawMembers n members all
+sights_among n names members us all numbered in_all s m i =
+    let c = in_to m members i in
+    let named = All-contains (λ (m : Member). IsPlaceOf n m.place m.path) members m (members_named n names members us all in_all s) c in
+    let seen = All-contains _ members m (members_seen n names members us all in_all s) c in
+    let place = numbered_at n m.place m.path numbered named in
+    subst (λ (x : Path). IsIn (entry.Look x (Some m.seen)) all) place.named seen.1
 
 -- ---- part files
 
@@ -282,19 +253,15 @@ ShownBy (Some format) n stand all = ShownDated n stand.members all
 abbrev pub WasShown : Naming → Stand → List Entry → Type 0
 WasShown n stand all = (stand.there ≡ true → SawDir n.dir all × ShownBy n.dated n stand all) × SawFiles stand.parts all × (stand.there ≡ false → IsMissing n stand all)
 
-shown_by : (all : List Entry) (n : Naming) (stand : Stand) (d : Option Format) → IsListed d n stand all → ShownBy d n stand all
-shown_by all n stand None l = (
-  stands_shown n l.listed stand.members l.front all l.front_in l.list
-      (record { spots = s.spots; spots_are = spots_as n l.names l.listed s.spots l.same s.spots_are; shown = s.shown; each = s.each; newest_first = s.newest_first; looks = s.looks }),
-  sights_among n l.names stand.members l.front all l.front_in s,
+shown_by : (all : List Entry) (n : Naming) (stand : Stand) (d : Option Format) → n.dated ≡ d → IsListed n stand all → ShownBy d n stand all
+shown_by all n stand None numbered l = (
+  stands_shown n l.listed stand.members l.front all numbered l.front_in l.list (stands_as n l.names l.listed stand.members l.front l.same l.members),
+  sights_among n l.names stand.members l.front all numbered l.front_in l.members,
 )
-  where
-    s : StandsAmong n l.names stand.members l.front
-    s = l.members
-shown_by all n stand (Some format) l = looks_shown n l.listed l.names stand.members l.front all l.same l.list l.front_in l.members
+shown_by all n stand (Some format) dated l = looks_shown n l.listed l.names stand.members l.front all l.same l.list l.front_in l.members
 
-was_shown : (all : List Entry) (n : Naming) (stand : Stand) → WasToldBy n.dated n stand all → WasShown n stand all
-was_shown all n stand told = ((λ there. let l = told.0 there in (l.dir, shown_by all n stand n.dated l)), parts stand.there refl, told.1)
+was_shown : (all : List Entry) (n : Naming) (stand : Stand) → WasTold n stand all → WasShown n stand all
+was_shown all n stand told = ((λ there. let l = told.0 there in (l.dir, shown_by all n stand n.dated refl l)), parts stand.there refl, told.1)
   where
     parts : (b : Bool) → stand.there ≡ b → SawFiles stand.parts all
     parts true there = let l = told.0 there in parts_shown all n l.names stand.parts l.back l.back_in l.parts

@@ -1,7 +1,6 @@
 -- All entries of the looks are looks and listings, so they change nothing.
 use Rattle.std.proofs.Common.{◌≡◌, inl, inr, ℕ, ◌+◌, ◌-◌, Bool, true, false, List, [], ◌∷◌, map, Option, Some, None, Ok, Err, take, length, sym, subst}
 use Rattle.lr_rules.specs.declared.path.Path.{Path}
-use Rattle.lr_rules.specs.declared.rule.Format.{Format}
 use Rattle.lr_rules.specs.declared.rule.Naming.{Naming}
 use Rattle.lr_rules.specs.declared.rule.Rule.{Rule}
 use Rattle.lr_rules.specs.declared.fault.CallKind.{CallKind}
@@ -17,7 +16,6 @@ use Rattle.lr_host.specs.declared.entry.Entry.TheVariants as entry
 use Rattle.lr_family.specs.declared.listing.Listing.{Listing}
 use Rattle.lr_family.specs.declared.spot.Spot.{Spot}
 use Rattle.lr_family.specs.declared.stand.Member.{Member}
-use Rattle.lr_family.specs.declared.stand.Stand.{Stand}
 use Rattle.lr_family.specs.declared.stand.StandStop.{StandStop}
 use Rattle.lr_family.specs.declared.stand.StandStop.TheVariants as stop
 use Rattle.lr_family.specs.Among.{ShowsMembers, ShowsNoneIn}
@@ -25,14 +23,11 @@ use Rattle.lr_family.specs.Listed.{HasListed, ShowsListing, NotListedAt, NotList
 use Rattle.lr_family.specs.Looks.{ShowsTo}
 use Rattle.lr_family.specs.Stops.{SomeStopped}
 use Rattle.lr_family.proofs.OnlyLooks.{IsLooking, AreLooking, looking_both, looking_none, looking_sees, looking_sights, looking_shown_parts, looking_no_parts, looks_quiet}
-use Rattle.lr_days.specs.declared.day.Day.{Day}
-use Rattle.lr_days.specs.Among.{ShowsMembers as ShowsDays, ShowsNoneIn as ShowsNoDaysIn}
-use Rattle.lr_days.specs.Looks.{Glance, look_of as look_at, ShowsTo as ShowsDaysTo, SomeStopped as SomeDayStopped}
 use Rattle.lr_glob.specs.Looking.{IsLooking as GlobIsLooking, AreLooking as GlobLooking}
 use Rattle.lr_glob.proofs.OnlyLooks.{comes_looks, stopped_looks}
 use Rattle.lr_plan.specs.declared.looks.SetLooks.{SetLooks}
 use Rattle.lr_looks.specs.Asked.{Word, asked_by}
-use Rattle.lr_looks.specs.Families.{FamilySight, Stood, Stopped, ShowsBy, ShowsNoneBy, ShowsMembersIn, ShowsFamily, behind_listing, with_listing, not_listed, ShowFamilies}
+use Rattle.lr_looks.specs.Families.{FamilySight, Stood, Stopped, ShowsMembersIn, ShowsFamily, behind_listing, with_listing, not_listed, ShowFamilies}
 use Rattle.lr_looks.specs.Found.{FoundLog}
 use Rattle.lr_looks.specs.Shown.{ShowsLooks, ShowsSomeLooks, at_words, at_families}
 use Rattle.lr_looks.specs.Sights.{WordSight, found_by, ShowsWord, ShowWords}
@@ -78,44 +73,10 @@ looking_none_in n true names why ts (inr (inl s)) = looking_stops s.spots why ts
 looking_none_in n true names why ts (inr (inr b)) = looking_both ts (looking_members n true names b.0) (looking_no_parts n names why) b.1
 looking_none_in n false names why ts h = absurd h
 
--- ---- the looks at dated members
-
-looking_glances : (gs : List Glance) → AreLooking (map look_at gs)
-looking_glances [] = tt
-looking_glances (g ∷ gs) = (tt, looking_glances gs)
-
-looking_days_to : (days : List Day) (path : Path) (P : List Entry → Type 0) (ts : List Entry) → ((us : List Entry) → P us → AreLooking us) → ShowsDaysTo days path P ts → AreLooking ts
-looking_days_to days path P ts f s = looking_both ts (λ us e. subst AreLooking (sym e) (looking_glances s.before)) f s.looks
-
-looking_days_stop : (days : List Day) (why : StandStop) (ts : List Entry) → SomeDayStopped days why ts → AreLooking ts
-looking_days_stop days (stop.Call kind path) ts s = looking_days_to days path (Are []) ts looking_none s.1
-looking_days_stop days (stop.NotFile path) ts s = looking_days_to days path (Sees path IsNoFile) ts (looking_sees path IsNoFile) s
-looking_days_stop days stop.Memory ts s = subst AreLooking (sym s.looks) (looking_glances s.glances)
-
-looking_days : (n : Naming) (there : Bool) (names : List _) (members : List Member) (ts : List Entry) → ShowsDays n there names members ts → AreLooking ts
-looking_days n true names members ts s = subst AreLooking (sym s.looks.looks) (looking_glances s.looks.glances)
-looking_days n false names members ts h = looking_none ts h.1
-
-looking_no_days_in : (n : Naming) (there : Bool) (names : List _) (why : StandStop) (ts : List Entry) → ShowsNoDaysIn n there names why ts → AreLooking ts
-looking_no_days_in n true names why ts (inl h) = looking_none ts h.1
-looking_no_days_in n true names why ts (inr (inl s)) = looking_days_stop s.days why ts s.looks
-looking_no_days_in n true names why ts (inr (inr b)) = looking_both ts (looking_days n true names b.0) (looking_no_parts n names why) b.1
-looking_no_days_in n false names why ts h = absurd h
-
--- ---- numbered and dated ones
-
-looking_by : (d : Option Format) (n : Naming) (l : Listing) (stand : Stand) (ts : List Entry) → ShowsBy d n l stand ts → AreLooking ts
-looking_by None n l stand ts h = looking_both ts (looking_members n l.there l.names stand.members) (looking_shown_parts n l.there l.names stand.parts) h.2
-looking_by (Some format) n l stand ts h = looking_both ts (looking_days n l.there l.names stand.members) (looking_shown_parts n l.there l.names stand.parts) h.2
-
-looking_none_by : (d : Option Format) (n : Naming) (l : Listing) (why : StandStop) (ts : List Entry) → ShowsNoneBy d n l why ts → AreLooking ts
-looking_none_by None n l why ts h = looking_none_in n l.there l.names why ts h
-looking_none_by (Some format) n l why ts h = looking_no_days_in n l.there l.names why ts h
-
 looking_members_in : (n : Naming) (l : Listing) (s : FamilySight) (ts : List Entry) → ShowsMembersIn n l s ts → AreLooking ts
-looking_members_in n l (Stood stand) ts h = looking_by n.dated n l stand ts h
+looking_members_in n l (Stood stand) ts h = looking_both ts (looking_members n l.there l.names stand.members) (looking_shown_parts n l.there l.names stand.parts) h.2
 looking_members_in n l (Stopped why) ts (inl h) = looking_none ts h.1
-looking_members_in n l (Stopped why) ts (inr h) = looking_none_by n.dated n l why ts h
+looking_members_in n l (Stopped why) ts (inr h) = looking_none_in n l.there l.names why ts h
 
 -- ---- the looks at directories
 

@@ -33,8 +33,7 @@ use Rattle.lr_family.specs.declared.stand.Member.{Member}
 use Rattle.lr_family.specs.declared.stand.Stand.{Stand}
 use Rattle.lr_family.specs.Kin.{IsKin}
 use Rattle.lr_family.specs.Parts.{part_of}
-use Rattle.lr_family.specs.Stands.{number_in}
-use Rattle.lr_days.specs.Newest.{AreNewestFirst}
+use Rattle.lr_family.specs.Stands.{number_in, AreNewestFirst}
 use Rattle.lr_glob.proofs.Seeking.{found_were_seen}
 use Rattle.lr_kept.specs.declared.choice.Choice.TheVariants.{Kept}
 use Rattle.lr_kept.proofs.Elements.{same_read}

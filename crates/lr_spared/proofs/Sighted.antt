@@ -4,7 +4,6 @@ use Rattle.std.specs.List.{flat_map}
 use Rattle.lr_rules.specs.declared.fault.Fault.{Fault}
 use Rattle.lr_rules.specs.declared.fault.Fault.TheVariants as fault
 use Rattle.lr_rules.specs.declared.path.Path.{Path}
-use Rattle.lr_rules.specs.declared.rule.Format.{Format}
 use Rattle.lr_rules.specs.declared.rule.Naming.{Naming}
 use Rattle.lr_rules.specs.declared.rule.Rule.{Rule}
 use Rattle.lr_host.specs.declared.entry.Entry.{Entry}
@@ -21,9 +20,6 @@ use Rattle.lr_family.specs.Among.{ShowsNoneIn}
 use Rattle.lr_family.specs.Listed.{NotListed}
 use Rattle.lr_family.specs.Parts.{StopsBefore, ShowsNoParts}
 use Rattle.lr_family.specs.Stops.{SomeStopped}
-use Rattle.lr_days.specs.declared.day.Day.{Day}
-use Rattle.lr_days.specs.Among.{ShowsNoneIn as ShowsNoDaysIn}
-use Rattle.lr_days.specs.Looks.{SomeStopped as SomeDayStopped}
 use Rattle.lr_glob.specs.declared.found.GlobStop.{GlobStop}
 use Rattle.lr_glob.specs.declared.found.GlobStop.TheVariants as glob
 use Rattle.lr_glob.proofs.Seeking.{found_were_seen}
@@ -32,7 +28,7 @@ use Rattle.lr_kept.specs.declared.choice.Choice.TheVariants.{Kept, Again, Member
 use Rattle.lr_plan.specs.declared.looks.SetLooks.{SetLooks}
 use Rattle.lr_looks.specs.Asked.{Word, asked_by}
 use Rattle.lr_looks.specs.Choices.{duplicate, overlap, barred, choice_fault, choice_faults, kept_of, is_file, kind_fault}
-use Rattle.lr_looks.specs.Families.{FamilySight, Stood, Stopped, ShowsNoneBy, ShowsMembersIn, ShowsFamily, behind_listing, with_listing, not_listed, ShowFamilies, stop_fault, family_fault, family_faults}
+use Rattle.lr_looks.specs.Families.{FamilySight, Stood, Stopped, ShowsMembersIn, ShowsFamily, behind_listing, with_listing, not_listed, ShowFamilies, stop_fault, family_fault, family_faults}
 use Rattle.lr_looks.specs.Found.{FoundLog}
 use Rattle.lr_looks.specs.Shown.{ShowsLooks}
 use Rattle.lr_looks.specs.Sights.{WordSight, missing, glob_fault, fault_of, faults_of}
@@ -88,12 +84,6 @@ module _ (x : Path) where
   spots_tell spots (stop.NotFile path) ts s t = some_back ts s.looks.front s.looks.back s.looks.joined (saw_no_file path s.looks.back (one_tells path t) s.looks.second)
   spots_tell spots stop.Memory ts s t = absurd t
 
-  days_tell : (days : List Day) (why : StandStop) (ts : List Entry) → SomeDayStopped days why ts → TellNoFile (stop_fault why) → SawSome ts
-  days_tell days (stop.Call kind path) ts s (inl same) = absurd (cc)
-  days_tell days (stop.Call kind path) ts s (inr none) = absurd none
-  days_tell days (stop.NotFile path) ts s t = some_back ts s.looks.front s.looks.back s.looks.joined (saw_no_file path s.looks.back (one_tells path t) s.looks.second)
-  days_tell days stop.Memory ts s t = absurd t
-
   -- those at its part files never stop so
   before_tells : (after : List Path) (why : StandStop) → StopsBefore after why → TellNoFile (stop_fault why) → ⊥
   before_tells [] why is t = memory_tells why is t
@@ -110,20 +100,10 @@ module _ (x : Path) where
   none_in_tells n true names why ts (inr (inr s)) t = absurd (parts_tell n names why s.1.back s.1.second t)
   none_in_tells n false names why ts h t = absurd h
 
-  no_days_in_tells : (n : Naming) (there : Bool) (names : List (List ℕ)) (why : StandStop) (ts : List Entry) → ShowsNoDaysIn n there names why ts → TellNoFile (stop_fault why) → SawSome ts
-  no_days_in_tells n true names why ts (inl h) t = absurd (memory_tells why h.0 t)
-  no_days_in_tells n true names why ts (inr (inl s)) t = days_tell s.days why ts s.looks t
-  no_days_in_tells n true names why ts (inr (inr s)) t = absurd (parts_tell n names why s.1.back s.1.second t)
-  no_days_in_tells n false names why ts h t = absurd h
-
-  none_by_tells : (d : Option Format) (n : Naming) (l : Listing) (why : StandStop) (ts : List Entry) → ShowsNoneBy d n l why ts → TellNoFile (stop_fault why) → SawSome ts
-  none_by_tells None n l why ts h t = none_in_tells n l.there l.names why ts h t
-  none_by_tells (Some format) n l why ts h t = no_days_in_tells n l.there l.names why ts h t
-
   members_tell : (n : Naming) (l : Listing) (s : FamilySight) (ts : List Entry) → ShowsMembersIn n l s ts → TellNoFile (family_fault s) → SawSome ts
   members_tell n l (Stood stand) ts h t = absurd t
   members_tell n l (Stopped why) ts (inl h) t = absurd (memory_tells why h.0 t)
-  members_tell n l (Stopped why) ts (inr h) t = none_by_tells n.dated n l why ts h t
+  members_tell n l (Stopped why) ts (inr h) t = none_in_tells n l.there l.names why ts h t
 
   -- its directory couldn't be listed
   listed_tells : (dir : Path) (why : StandStop) (ts : List Entry) → NotListed dir why ts → TellNoFile (stop_fault why) → SawSome ts

@@ -15,8 +15,6 @@ use Rattle.lr_host.specs.declared.entry.Entry.TheVariants as entry
 use Rattle.lr_host.specs.Fits.{IsPart}
 use Rattle.lr_host.specs.Lists.{IsIn}
 use Rattle.lr_host.proofs.Lists.{in_from, in_to, in_map, in_unmap, in_reverse, from_reverse}
-use Rattle.lr_family.specs.declared.place.Place.{Place}
-use Rattle.lr_family.specs.declared.place.Place.TheVariants as at
 use Rattle.lr_family.specs.declared.stand.Member.{Member}
 use Rattle.lr_family.specs.declared.stand.Stand.{Stand}
 use Rattle.lr_family.specs.Kin.{IsKin}
@@ -26,14 +24,14 @@ use Rattle.lr_family.specs.Places.{IsPlaceOf, AreNamed}
 use Rattle.lr_family.specs.Spots.{path_at}
 use Rattle.lr_family.specs.Stands.{number_in}
 use Rattle.lr_family.proofs.Paths.{name_part as numbered_part}
+use Rattle.lr_family.proofs.Placed.{numbered_at}
+use Rattle.lr_family.proofs.Shown.{not_none}
 use Rattle.lr_family.proofs.Unique.{joined_same}
 use Rattle.lr_chain.specs.Rotation.{places_of}
 use Rattle.lr_dated_seen.specs.Shown.{SawFile, WasSeen, HasNone, IsUnseen, unlisted, gone, no_dir, ShownDated}
 use Rattle.lr_dated_seen.proofs.Names.{name_of, name_part as dated_part}
-use Rattle.lr_dated_seen.proofs.Picking.{not_none}
 use Rattle.lr_rotations.specs.Shown.{Shown, IsUnseen as IsNumberUnseen, unlisted as number_unlisted, gone as number_gone, no_dir as number_no_dir}
 use Rattle.lr_seen.proofs.Listed.{ShownBy}
-use Rattle.lr_stood.proofs.Sought.{HavePlaces}
 
 -- ---- a log and its family
 
@@ -77,16 +75,12 @@ pub record WereSeen (n : Naming) (members : List Member) (all : List Entry) : Ty
   pub files : (m : Member) → IsIn m members → SawFile m.path all
   pub others : (x : Path) → IsMember n x → HasNone members x → IsUnseen n.dir x all
 
-member_at : (n : Naming) (place : Place) (x : Path) → IsPlaceOf n place x → IsMemberAt n (number_in place) x
-member_at n (at.Number place) x is = is
-member_at n (at.Stamp seconds serial) x none = absurd none
-
 module _ (n : Naming) (members : List Member) (all : List Entry) where
   numbered_seen : n.dated ≡ None → Shown n (places_of members) all → AreNamed n members → WereSeen n members all
   numbered_seen numbered s named = record { files = files; others = others }
     where
       at_place : (m : Member) → IsIn m members → IsMemberAt n (number_in m.place) m.path
-      at_place m i = member_at n m.place m.path (All-contains (λ (m : Member). IsPlaceOf n m.place m.path) members m named (in_to m members i))
+      at_place m i = numbered_at n m.place m.path numbered (All-contains (λ (m : Member). IsPlaceOf n m.place m.path) members m named (in_to m members i))
 
       files : (m : Member) → IsIn m members → SawFile m.path all
       files m i = subst (λ (x : Path). SawFile x all) (sym (at_place m i).named) (s.files (number_in m.place) (in_to (number_in m.place) (places_of members)
@@ -118,6 +112,6 @@ module _ (n : Naming) (members : List Member) (all : List Entry) where
       others x (inr (seconds, serial, is)) none = s.others x seconds serial is none
 
 -- those of a family, numbered or dated
-pub members_seen : (n : Naming) (stand : Stand) (all : List Entry) (d : Option Format) → n.dated ≡ d → ShownBy d n stand all → HavePlaces d n stand.members → WereSeen n stand.members all
+pub members_seen : (n : Naming) (stand : Stand) (all : List Entry) (d : Option Format) → n.dated ≡ d → ShownBy d n stand all → AreNamed n stand.members → WereSeen n stand.members all
 members_seen n stand all None numbered shown named = numbered_seen n stand.members all numbered shown.0 named
 members_seen n stand all (Some format) dated shown named = dated_seen n stand.members all format dated shown

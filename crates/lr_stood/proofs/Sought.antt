@@ -2,13 +2,10 @@
 use Rattle.std.proofs.Common.{◌≡◌, ◌⊎◌, inl, inr, ⊎_elim, ℕ, Bool, true, false, bytes_eq, List, [], ◌∷◌, map, Option, Some, None, refl, sym, subst}
 use Rattle.std.specs.List.{flat_map}
 use Rattle.std.specs.List.Sorted.{IsPermutation}
-use Rattle.std.proofs.lemmas.List.Elements.{All-append, All-nil, All-cons, All-head, All-tail}
 use Rattle.std.proofs.lemmas.List.Sorted.{Contains-permutation}
 use Rattle.std.proofs.lemmas.Slice.Eq.{bytes_eq-Decides}
 use Rattle.lr_rules.specs.declared.path.Path.{Path}
-use Rattle.lr_rules.specs.declared.rule.Format.{Format}
 use Rattle.lr_rules.specs.declared.rule.Naming.{Naming}
-use Rattle.lr_rules.specs.Names.{IsMemberAt}
 use Rattle.lr_host.specs.declared.thing.Kind.{Kind}
 use Rattle.lr_host.specs.declared.thing.Seen.{Seen}
 use Rattle.lr_host.specs.declared.entry.Entry.{Entry}
@@ -17,39 +14,14 @@ use Rattle.lr_host.specs.Lists.{IsIn}
 use Rattle.lr_host.specs.Looks.{IsFile}
 use Rattle.lr_host.proofs.Lists.{in_from, in_map, in_front, in_back}
 use Rattle.lr_family.specs.declared.listing.Listing.{Listing}
-use Rattle.lr_family.specs.declared.spot.Spot.{Spot}
-use Rattle.lr_family.specs.declared.stand.Member.{Member}
 use Rattle.lr_family.specs.declared.stand.Stand.{Stand}
-use Rattle.lr_family.specs.Among.{StandsAmong}
-use Rattle.lr_family.specs.Looks.{Sight, seen_at, member_of}
 use Rattle.lr_family.specs.Parts.{IsMembersPart, PartSight, part_if_file, part_seen, part_in, part_look, PartsAmong}
-use Rattle.lr_family.specs.Places.{IsPlaceOf, AreNamed}
-use Rattle.lr_family.specs.Spots.{HavePaths}
-use Rattle.lr_family.proofs.Placed.{spots_named, named_sorted}
+use Rattle.lr_family.specs.Places.{AreNamed}
+use Rattle.lr_family.proofs.Shown.{members_named}
 use Rattle.lr_dated_seen.specs.Shown.{IsUnlisted}
 use Rattle.lr_looks.specs.Families.{FamilySight, ShowFamilies, LookedLog, looked_of}
 use Rattle.lr_looks.specs.Found.{FoundLog}
-use Rattle.lr_seen.proofs.Listed.{StandBy, all_told}
-
--- ---- members
-
--- those of a numbered family have the paths of their places
-abbrev pub HavePlaces : Option Format → Naming → List Member → Type 0
-HavePlaces None n members = AreNamed n members
-HavePlaces (Some format) n members = Unit {0}
-
-sights_named : (n : Naming) (gs : List Sight) → HavePaths n (map (λ (g : Sight). g.spot) gs) → AreNamed n (flat_map member_of gs)
-sights_named n [] h = All-nil (λ (m : Member). IsPlaceOf n m.place m.path)
-sights_named n (g ∷ gs) h = All-append (λ (m : Member). IsPlaceOf n m.place m.path) (seen_at g.spot g.seen) (flat_map member_of gs)
-    (one g.seen) (sights_named n gs (All-tail (λ (s : Spot). IsMemberAt n s.place s.path) g.spot (map (λ (g : Sight). g.spot) gs) h))
-  where
-    one : (o : Option Seen) → AreNamed n (seen_at g.spot o)
-    one None = All-nil (λ (m : Member). IsPlaceOf n m.place m.path)
-    one (Some seen) = All-cons (λ (m : Member). IsPlaceOf n m.place m.path) _ [] (All-head (λ (s : Spot). IsMemberAt n s.place s.path) g.spot (map (λ (g : Sight). g.spot) gs) h) (All-nil (λ (m : Member). IsPlaceOf n m.place m.path))
-
-members_named : (n : Naming) (names : List (List ℕ)) (members : List Member) (ts : List Entry) → StandsAmong n names members ts → AreNamed n members
-members_named n names members ts s = named_sorted n s.shown members s.each
-    (subst (AreNamed n) (sym s.looks.members_are) (sights_named n s.looks.sights (subst (HavePaths n) (sym s.looks.each) (spots_named n names s.spots s.spots_are))))
+use Rattle.lr_seen.proofs.Listed.{all_told}
 
 -- ---- part files
 
@@ -97,23 +69,18 @@ parts_sought all n names listed parts ts in_all same list p = record { listed = 
 
 -- ---- families
 
--- It was listed, the members have the paths of their places where those are numbers, and their part files are those that were seen.
-pub record AreThose (d : Option Format) (n : Naming) (stand : Stand) (all : List Entry) : Type 0 where
-  pub members : HavePlaces d n stand.members
+-- It was listed, the members have the paths of their places, and their part files are those that were seen.
+pub record AreThose (n : Naming) (stand : Stand) (all : List Entry) : Type 0 where
+  pub members : AreNamed n stand.members
   pub parts : WereSought n stand.parts all
 
 -- so it is where its directory is there
 abbrev pub WasSought : Naming → Stand → List Entry → Type 0
-WasSought n stand all = stand.there ≡ true → AreThose n.dated n stand all
-
--- of a numbered family and of a dated one
-places_had : (n : Naming) (names : List (List ℕ)) (members : List Member) (ts : List Entry) → (d : Option Format) → StandBy d n names members ts → HavePlaces d n members
-places_had n names members ts None s = members_named n names members ts s
-places_had n names members ts (Some format) s = tt
+WasSought n stand all = stand.there ≡ true → AreThose n stand all
 
 -- of each log that was looked at whole
 pub all_sought : (all : List Entry) (fs : List FoundLog) (after : List Listing) (ss : List FamilySight) (ts : List Entry) → ((e : Entry) → IsIn e ts → IsIn e all) → ShowFamilies [] fs after ss ts
     → (x : LookedLog) → IsIn x (looked_of fs ss) → WasSought x.naming x.stand all
 all_sought all fs after ss ts in_all h x i there =
     let l = (all_told all fs after ss ts in_all h x i).0 there in
-    record { members = places_had x.naming l.names x.stand.members l.front x.naming.dated l.members; parts = parts_sought all x.naming l.names l.listed x.stand.parts l.back l.back_in l.same l.list l.parts }
+    record { members = members_named x.naming l.names x.stand.members l.front all l.front_in l.members; parts = parts_sought all x.naming l.names l.listed x.stand.parts l.back l.back_in l.same l.list l.parts }

@@ -15,9 +15,9 @@ returns c = λ names dir s.
     (subst (λ (m : Naming). path_fault m.dir ≡ None) c.naming.ensures c.bytes-dir.ensures.path)
     names c.args.count (places_of c.args.stand.now.members) (going c.args.count c.args.maxage c.args.now c.args.stand.now.members) (top_number c.args.family.now.naming c.args.count c.requires.start c.requires.count)
     (falls_all (places_of c.args.stand.now.members) s.falling)
-    (every_all (λ k. c.args.family.now.naming.start + k ≤ 4294967295) (places_of c.args.stand.now.members) (have_names c.args.family.now.naming c.args.stand.now.members c.requires.named))
+    (every_all (λ k. c.args.family.now.naming.start + k ≤ 4294967295) (places_of c.args.stand.now.members) (have_names c.args.family.now.naming c.args.stand.now.members c.requires.numbered c.requires.named))
     (every_all (λ k. is_left c.args.count k ≡ false → c.args.family.now.naming.start + (k + 1) ≤ 4294967295) (places_of c.args.stand.now.members)
-    (have_next c.args.family.now.naming c.args.count c.args.stand.now.members c.requires.start c.requires.count c.requires.named
-    (none_too_high c.args.family.now.naming c.args.stand.now c.args.count c.requires.there c.requires.named c.requires.low)))
+    (have_next c.args.family.now.naming c.args.count c.args.stand.now.members c.requires.numbered c.requires.start c.requires.count c.requires.named
+    (none_too_high c.args.family.now.naming c.args.stand.now c.args.count c.requires.there c.requires.numbered c.requires.named c.requires.low)))
     (going_are c.args.count c.args.maxage c.args.now c.args.stand.now.members s.falling)
     dir s

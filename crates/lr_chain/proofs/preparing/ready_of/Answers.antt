@@ -5,14 +5,14 @@ use Rattle.lr_chain.proofs.preparing.ready_of.Goals as goal
 
 pub put_members-requires-clause-named : goal.put_members-requires-clause-named
 put_members-requires-clause-named c =
-    subst (HaveNames c.args.family.now.naming) (sym (c.deref.ensures.value ∙ c.in_ok-places.ensures)) (have_names c.args.family.now.naming c.args.members.now c.requires.named)
+    subst (HaveNames c.args.family.now.naming) (sym (c.deref.ensures.value ∙ c.in_ok-places.ensures)) (have_names c.args.family.now.naming c.args.members.now c.requires.numbered c.requires.named)
 
 pub put_members-requires-clause-next : goal.put_members-requires-clause-next
 put_members-requires-clause-next c =
     subst (HaveNext c.args.family.now.naming c.args.count) (sym (c.deref.ensures.value ∙ c.in_ok-places.ensures))
-    (have_next c.args.family.now.naming c.args.count c.args.members.now c.requires.start c.requires.count c.requires.named c.requires.low)
+    (have_next c.args.family.now.naming c.args.count c.args.members.now c.requires.numbered c.requires.start c.requires.count c.requires.named c.requires.low)
 
 pub put_members-requires-clause-behind : goal.put_members-requires-clause-behind
 put_members-requires-clause-behind c =
     subst (HaveNewNames c.args.family.now.naming) (sym (c.deref-2.ensures.value ∙ c.in_ok-from.ensures))
-    (have_new_names c.args.family.now.naming c.args.count c.args.maxage _ c.args.members.now c.requires.start c.requires.count c.requires.named c.requires.low)
+    (have_new_names c.args.family.now.naming c.args.count c.args.maxage _ c.args.members.now c.requires.numbered c.requires.start c.requires.count c.requires.named c.requires.low)

@@ -1,7 +1,7 @@
 use Rattle.std.proofs.Common.{◌≡◌, ℕ, ℤ, ◌++◌, ◌∷◌, map, take, drop, sym, ◌∙◌, subst, false, int_lt, rules, FitsSigned, w64}
 use Rattle.std.proofs.lemmas.Int.{to_z-of_z}
 use Rattle.lr_rules.specs.Dated.{stamp_key}
-use Rattle.lr_days.specs.Newest.{key_in}
+use Rattle.lr_family.specs.Stands.{key_in}
 use Rattle.lr_dated_chain.specs.Ready.{ranked, renamed, all_of}
 use Rattle.lr_dated_chain.proofs.Removed.{placed_here, placed_last}
 use Rattle.lr_dated_chain.proofs.gone.later_than.Goals as goal

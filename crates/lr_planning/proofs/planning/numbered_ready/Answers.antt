@@ -1,5 +1,4 @@
 use Rattle.lr_plan.specs.Planned.{with_stand}
-use Rattle.lr_planning.proofs.Making.{numbers_are}
 use Rattle.lr_planning.proofs.Hindrances.{ok_free, err_hindered, ok_short}
 use Rattle.lr_planning.proofs.planning.numbered_ready.Goals as goal
 
@@ -8,8 +7,8 @@ returns-clause-short c = ok_short (with_stand c.args.stand.now c.args.look.now) 
 
 pub returns-clause-free : goal.returns-clause-free
 returns-clause-free c =
-    ok_free c.args.clock.now c.args.rule.now (with_stand c.args.stand.now c.args.look.now) c.prepare.result c.requires.numbered (numbers_are c.args.look.now.family.naming c.args.stand.now.members c.requires.numbered c.requires.look.members) c.prepare.ensures.no_dir c.prepare.ensures.too_high
+    ok_free c.args.clock.now c.args.rule.now (with_stand c.args.stand.now c.args.look.now) c.prepare.result c.requires.numbered c.requires.look.members.named c.prepare.ensures.no_dir c.prepare.ensures.too_high
 
 pub returns-clause-hindered : goal.returns-clause-hindered
 returns-clause-hindered c =
-    err_hindered c.args.clock.now c.args.rule.now (with_stand c.args.stand.now c.args.look.now) c.prepare.result c.requires.numbered (numbers_are c.args.look.now.family.naming c.args.stand.now.members c.requires.numbered c.requires.look.members) c.prepare.ensures.no_dir c.prepare.ensures.too_high c.prepare.ensures.taken
+    err_hindered c.args.clock.now c.args.rule.now (with_stand c.args.stand.now c.args.look.now) c.prepare.result c.requires.numbered c.requires.look.members.named c.prepare.ensures.no_dir c.prepare.ensures.too_high c.prepare.ensures.taken
