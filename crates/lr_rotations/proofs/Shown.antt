@@ -7,6 +7,7 @@ use Rattle.lr_rules.specs.declared.path.Path.{Path}
 use Rattle.lr_rules.specs.declared.rule.Naming.{Naming}
 use Rattle.lr_rules.specs.Names.{IsMemberAt}
 use Rattle.lr_rules.specs.Path.{joined}
+use Rattle.lr_host.specs.declared.thing.Kind.TheVariants as kind
 use Rattle.lr_host.specs.declared.entry.Entry.{Entry}
 use Rattle.lr_host.specs.declared.entry.Entry.TheVariants as entry
 use Rattle.lr_host.specs.Lists.{IsIn, IsNotIn}
@@ -40,7 +41,7 @@ stands_shown n names members us ts numbered in_ts list s = record {
   falling = subst IsStrictlyIncreasing (sym (reverse-reverse numbers)) (numbers_rise n members numbered named s.newest_first);
   named = λ place c. let f = member_at place c in subst (HasName n) f.2 f.3.bound;
   files = λ place c. let f = member_at place c in
-      let seen = All-contains _ members f.0 (members_seen n names members us ts in_ts s) (in_to f.0 members f.1) in
+      let seen = All-contains (λ (m : Member). (m.seen.kind ≡ kind.File) × IsIn (entry.Look m.path (Some m.seen)) ts) members f.0 (members_seen n names members us ts in_ts s) (in_to f.0 members f.1) in
       (f.0.seen, seen.0, subst (λ (x : Path). IsIn (entry.Look x (Some f.0.seen)) ts) (f.3.named ∙ ap (path_at n) f.2) seen.1);
   others = λ place has out. unseen place has (others_unseen n names members us ts in_ts s (path_at n place) (inl (numbered, (place, record { bound = has; named = refl })))
       (outside n place members has at_place (λ i. out (in_to place (places_of members) (in_reverse place numbers i)))));

@@ -29,7 +29,7 @@ use Rattle.lr_family.proofs.Shown.{members_named, members_seen}
 use Rattle.lr_chain.specs.Rotation.{places_of}
 use Rattle.lr_looks.specs.Families.{FamilySight, Stood, Stopped, ShowsFamily, behind_listing, with_listing, not_listed, ShowFamilies, LookedLog, looked_by, looked_of}
 use Rattle.lr_looks.specs.Found.{FoundLog}
-use Rattle.lr_dated_seen.specs.Shown.{ShownDated}
+use Rattle.lr_dated_seen.specs.Shown.{WasSeen, ShownDated}
 use Rattle.lr_dated_seen.proofs.Shows.{members_shown as looks_shown}
 use Rattle.lr_rotations.specs.Shown.{SawDir, Shown, SawMembers}
 use Rattle.lr_rotations.proofs.Shown.{stands_shown}
@@ -211,7 +211,7 @@ sights_among : (n : Naming) (names : List (List ℕ)) (members : List Member) (u
 sights_among n names members us all numbered in_all s m i =
     let c = in_to m members i in
     let named = All-contains (λ (m : Member). IsPlaceOf n m.place m.path) members m (members_named n names members us all in_all s) c in
-    let seen = All-contains _ members m (members_seen n names members us all in_all s) c in
+    let seen = All-contains (WasSeen all) members m (members_seen n names members us all in_all s) c in
     let place = numbered_at n m.place m.path numbered named in
     subst (λ (x : Path). IsIn (entry.Look x (Some m.seen)) all) place.named seen.1
 
