@@ -47,7 +47,7 @@ behind known after n place x s ts us at (taken l new same is p shown) m =
 
 -- what was seen of the members
 pub members_told : (n : Naming) (x : Listing) (r : Result Stand StandStop) {o p : Option Journal} → IfOk r (λ stand. Left (ShowsIn n x.there x.parent x.names stand) o p) → IfErr r (λ why. Left (ShowsNoneIn n x.there x.names why) o p) → Left (ShowsMembersIn n x (sight_of r)) o p
-members_told n x (Ok stand) told stopped = told
+members_told n x (Ok stand) told stopped = left_as told (λ ts h. h)
 members_told n x (Err why) told stopped = left_as stopped (λ ts h. inr h)
 
 pub family_told : (known after : List Listing) (n : Naming) (dir : Path) (place : ℕ) (x : Listing) (s : FamilySight) {o m p : Option Journal} → dir ≡ n.dir → slice_get after place ≡ Some x → Left (TakesListing known dir after place) o m
@@ -118,7 +118,7 @@ some_told (Err x) known f s l = left_as l (λ ts h. record {
 
 pub stop_counted : {T E : Type 0} (r : Result T E) (why : StandStop) (faults all : List Fault) (a b : Counts) → (IsFailedCall why → Rose a.faults b.faults) → NoneFell a b → OnOk r (all ≡ faults ++ stop_fault why) → OnOk r (AddsFaults faults all a b)
 stop_counted (Ok x) (stop.Call kind path) faults all a b rose le e = adds_call faults all kind path a b e (rose (record {})) le
-stop_counted (Ok x) (stop.NotFile path) faults all a b rose le e = adds_free faults all (stop_fault (stop.NotFile path)) a b e (record { calls = refl; scripts = refl; none_around = ((λ h. h), tt) }) le
+stop_counted (Ok x) (stop.NotFile path) faults all a b rose le e = adds_free faults all (stop_fault (stop.NotFile path)) a b e (record { calls = refl; scripts = refl; no_out = ((λ h. h), tt) }) le
 stop_counted (Ok x) stop.Memory faults all a b rose le e = adds_free faults all [] a b e free_none le
 stop_counted (Err x) why faults all a b rose le e = tt
 
