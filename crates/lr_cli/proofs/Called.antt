@@ -92,9 +92,9 @@ clock_shape zone s seconds clock same a b = ran clock
     (left_then a b (λ xs ys p q. record { front = xs; back = ys; joined = refl; first = subst (λ (z : ℤ). ShowsClock zone z clock xs) same p; second = tt }))
     (left_then a b (λ xs ys p q. run_behind clock xs ys (clock_quiet zone s clock xs p) q))
 
-pub clock_clocked : (zone : Zone) (s seconds : ℤ) (clock : Clock) (r : Result Told RunStop) {k l : Counts} → s ≡ seconds → HasClock zone s clock → IfOk r (λ told. AreCounted told.faults.items k l) → IfOk r (λ told. IsClocked zone seconds told.notices told.faults.items)
-clock_clocked zone s seconds clock (Ok told) same h c = with_clock clock (subst (λ (z : ℤ). HasClock zone z clock) same h) c.none_around
-clock_clocked zone s seconds clock (Err w) same h c = tt
+pub clock_clocked : (zone : Zone) (s seconds : ℤ) (clock : Clock) (r : Result Told RunStop) (k l : Counts) → s ≡ seconds → HasClock zone s clock → IfOk r (λ told. AreCounted told.faults.items k l) → IfOk r (λ told. IsClocked zone seconds told.notices told.faults.items)
+clock_clocked zone s seconds clock (Ok told) k l same h c = with_clock clock (subst (λ (z : ℤ). HasClock zone z clock) same h) c.none_around
+clock_clocked zone s seconds clock (Err w) k l same h c = tt
 
 -- none of the output among them
 out_around : (f : Fault) → (IsAround f → ⊥) → IsOut f → ⊥

@@ -49,7 +49,7 @@ module _ (request : Request) (zone : Zone) (seconds : ℤ) where
   behind_copies clock meaning rules ts us reads acts front same joined parts shown of_confs e = copied_by clock rules.sets
       (record { meaning = meaning; rules_are = same; entries = record { front = front; back = us; joined = joined; first = shown; second = record { front = reads; back = acts; joined = parts; first = of_confs; second = tt } } })
       (λ made. same_empties (IsCopyBy rules.sets clock) (front ++ us) ts joined (both_empty (IsCopyBy rules.sets clock) front us (quiet_empties (IsCopyBy rules.sets clock) front (clock_quiet zone seconds clock front shown))
-      (same_empties (IsCopyBy rules.sets clock) (reads ++ acts) us parts (both_empty (IsCopyBy rules.sets clock) reads acts (quiet_empties (IsCopyBy rules.sets clock) reads (confs_quiet request.confs meaning reads of_confs)) (e (made_later reads acts (subst AreMade parts (made_later front us (subst AreMade joined made))))))))
+      (same_empties (IsCopyBy rules.sets clock) (reads ++ acts) us parts (both_empty (IsCopyBy rules.sets clock) reads acts (quiet_empties (IsCopyBy rules.sets clock) reads (confs_quiet request.confs meaning reads of_confs)) (e (made_later reads acts (subst AreMade parts (made_later front us (subst AreMade joined made)))))))))
 
   -- a run was made
   reports_copies : (clock : Clock) (plan : Option Plan) (ts : List Entry) (us front : List Entry) (notices : List _) (faults : List Fault) → ts ≡ front ++ us → ShowsClock zone seconds clock front → Reports request clock plan notices faults us → Copies ts

@@ -21,8 +21,7 @@ use Rattle.lr_plan.specs.declared.plan.Plan.{Plan}
 use Rattle.lr_run.specs.Copied.{NoneOfCopy}
 use Rattle.lr_run.specs.Met.{IsNoOther, MetNothing}
 use Rattle.lr_run.specs.Runs.{dirs_in}
-use Rattle.lr_run.proofs.Rotating.{run_rotated, run_dated_rotated}
-use Rattle.lr_run.proofs.Turning.{run_turned, run_dated_turned}
+use Rattle.lr_run.proofs.Turning.{run_turned}
 use Rattle.lr_reached.specs.Ending.{NoneEnds}
 use Rattle.lr_reached.proofs.Ends.{last_ends}
 use Rattle.lr_cli.specs.declared.outcome.Outcome.{Outcome}
@@ -88,10 +87,7 @@ plan_rotates request zone seconds report j k es made none journal p clear = reco
   entries = es;
   made = made;
   plan = p;
-  each = λ x one by_rename numbers. run_rotated request.state (asking request.force request.mailer) p.clock p.rules p.own (past j) (past k) es (p.of_clock ++ p.reads) p.acts made journal joined quiet p.run met x one by_rename numbers;
-  each_dated = λ x one by_rename dates. run_dated_rotated request.state (asking request.force request.mailer) p.clock p.rules p.own (past j) (past k) es (p.of_clock ++ p.reads) p.acts made journal joined quiet p.run met x one by_rename dates;
-  copied = λ x one job by_copy numbers. run_turned request.state (asking request.force request.mailer) p.clock p.rules p.own (past j) (past k) es (p.of_clock ++ p.reads) p.acts made journal joined quiet p.run met x one job by_copy numbers;
-  copied_dated = λ x one job by_copy dates. run_dated_turned request.state (asking request.force request.mailer) p.clock p.rules p.own (past j) (past k) es (p.of_clock ++ p.reads) p.acts made journal joined quiet p.run met x one job by_copy dates;
+  each = λ x one. run_turned request.state (asking request.force request.mailer) p.clock p.rules p.own (past j) (past k) es (p.of_clock ++ p.reads) p.acts made journal joined quiet p.run met x one;
 }
   where
     joined : reverse es ≡ (p.of_clock ++ p.reads) ++ p.acts

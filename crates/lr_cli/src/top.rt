@@ -72,8 +72,8 @@ pub fn logrotate<H: Host, K: Sink>(
     ensures told { Says here.now words.now zone.now now result (H.told host.old) (H.told host.new) (K.taken out.old) (K.taken out.new) (K.faults out.old) (K.faults out.new) }
 
     // Where its faults tell of nothing that failed, and of nothing that stood where the plan was to make a directory, the call
-    // did its plan, and nothing else: its acts are the plan's, in order; each of its logs was rotated, or its family turned by a
-    // copy of it, file by file, where no writer was attached to a member; each that is made anew is named; the state tells of all
+    // did its plan, and nothing else: its acts are the plan's, in order; the family of each of its logs was turned, by its rename or
+    // by a copy, file by file, where no writer was attached to a member; each that is made anew is named; the state tells of all
     // of them, where no writer was attached to its paths; and all else was left alone. Faults of the configuration, of the looks
     // and of the plan may stand there, and no others do.
     ensures fulfilled { (request : Request) (report : Report) (before after : Journal) → AskFor here.now words.now request → request.debug ≡ false → without_out result ≡ Outcome.Done report → FailNothing request.state report.faults
@@ -103,8 +103,8 @@ pub fn logrotate<H: Host, K: Sink>(
     ensures tried { (request : Request) (report : Report) → AskFor here.now words.now request → request.debug ≡ true → without_out result ≡ Outcome.Done report → Left (TellsOfTry request zone.now now report) (H.told host.old) (H.told host.new) }
 
     // Where none ends a run, and none tells of a call that failed, of a program that ended badly, of a copy that broke off, or
-    // of what stood where the plan was to make a directory, each log that the plan renames was rotated, and the family of each
-    // that it copies was turned by the copy, file by file, whatever else is told: of other logs that aren't there, say.
+    // of what stood where the plan was to make a directory, the family of each log of the plan was turned, by its rename or by a
+    // copy, file by file, whatever else is told: of other logs that aren't there, say.
     ensures rotated { (request : Request) (report : Report) (before after : Journal) → AskFor here.now words.now request → request.debug ≡ false → without_out result ≡ Outcome.Done report → StopNothing request.state report.faults
         → H.told host.old ≡ Some before → H.told host.new ≡ Some after → IsJournal (past before) → MakesDirs request zone.now now report before after → RotatesAll request zone.now now report before after }
 

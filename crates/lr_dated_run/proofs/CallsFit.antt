@@ -1,5 +1,5 @@
 -- The calls of a dated rotation fit behind looks that showed the log and its members, whatever writers did.
-use Rattle.std.proofs.Common.{◌≡◌, ◌≢◌, ℕ, suc, ℤ, Bool, true, false, cond, ◌||◌, bytes_eq, refl, sym, ◌∙◌, ap, subst, List, [], ◌∷◌, ◌++◌, map, reverse, Option, Some, None}
+use Rattle.std.proofs.Common.{◌≡◌, ◌≢◌, ℕ, suc, ℤ, Bool, true, false, cond, ◌||◌, bytes_eq, refl, sym, ◌∙◌, ap, subst, List, [], ◌∷◌, ◌++◌, map, reverse, Option, Some, None, inr}
 use Rattle.std.specs.Prelude.{All}
 use Rattle.std.proofs.lemmas.List.Elements.{All-nil}
 use Rattle.std.proofs.lemmas.Slice.Eq.{bytes_eq-Decides}
@@ -35,13 +35,14 @@ use Rattle.lr_rotations.specs.Calls.{after_call, FitCalls, copy_calls}
 use Rattle.lr_rotations.specs.Shown.{SawDir}
 use Rattle.lr_rotations.proofs.Alike.{IsLike, like_self, AreLike, Reads, fit_like, afters, fit_both, fit_calls}
 use Rattle.lr_rotations.proofs.CopyFits.{copy_fits, copied_to, copied_other}
-use Rattle.lr_rotations.proofs.Fed.{IsTurn}
+use Rattle.lr_laws_family.proofs.Fed.{IsTurn}
 use Rattle.lr_targets.specs.Target.{IsMissingDir, IsDirSeenBy}
-use Rattle.lr_dated_seen.specs.Family.{IsDatedFamily}
-use Rattle.lr_dated_seen.specs.Shown.{SawFile, ShownDated}
-use Rattle.lr_dated_seen.specs.There.{IsThere}
-use Rattle.lr_dated_seen.proofs.Names.{stands_in}
-use Rattle.lr_dated_seen.proofs.Rotating.{HasRoom, file_stands, dir_stands, missing_free, fits_at, fits_behind}
+use Rattle.lr_laws_family.specs.Members.{IsFamily}
+use Rattle.lr_laws_family.specs.Shown.{SawFile, Shown}
+use Rattle.lr_laws_family.proofs.Picking.{IsThere}
+use Rattle.lr_laws_family.proofs.DatedNames.{stands_in}
+use Rattle.lr_dated_run.proofs.Rotating.{HasRoom, dir_stands, missing_free, fits_at, fits_behind}
+use Rattle.lr_laws_family.proofs.Stood.{file_stands}
 use Rattle.lr_dated_run.specs.Calls.{removal_calls, renamed_calls, copied_calls, IsDatedJob}
 use Rattle.lr_dated_run.proofs.PartFile.{part_parent, part_no_dated, part_no_log, part_no_dir}
 
@@ -66,10 +67,10 @@ reads_of n [] h = tt
 reads_of n (m ∷ ms) h = ((m.seconds, m.serial, h.0), reads_of n ms h.1)
 
 -- the paths of a copy
-pub copy_paths : (rule : Rule) (job : Job) (log : Path) (n : Naming) (target : Path) (t : ℤ) (serial : ℕ) (looks : List Entry) → naming_of rule log ≡ n → IsDatedJob log target n looks job → IsDatedFamily log n → IsDatedAt n t serial target → ArePaths job
+pub copy_paths : (rule : Rule) (job : Job) (log : Path) (n : Naming) (target : Path) (t : ℤ) (serial : ℕ) (looks : List Entry) → naming_of rule log ≡ n → IsDatedJob log target n looks job → IsFamily log n → IsDatedAt n t serial target → ArePaths job
 copy_paths rule job log n target t serial looks naming_is j family is = record {
   part_apart = λ e. part_no_log log n t serial target family is rule naming_is (sym j.part_is ∙ (e ∙ j.from_is));
-  to_apart = λ e. family.apart t serial (subst (IsDatedAt n t serial) (sym j.to_is ∙ (e ∙ j.from_is)) is);
+  to_apart = λ e. family.apart (inr (t, serial, subst (IsDatedAt n t serial) (sym j.to_is ∙ (e ∙ j.from_is)) is));
   part_not_to = λ e. part_no_dated log n t serial target family is t serial (subst (IsDatedAt n t serial) (sym (sym j.part_is ∙ (e ∙ j.to_is))) is);
   dir_is = j.dir_is ∙ sym (ap parent_of j.to_is ∙ stands_in log n t serial target family.kin family.format is family.dir);
   part_in = ap parent_of j.part_is ∙ (part_parent log n t serial target family is ∙ sym j.dir_is);
@@ -78,7 +79,7 @@ copy_paths rule job log n target t serial looks naming_is j family is = record {
 -- ---- over any names
 
 -- where its steps fit
-module _ (log : Path) (n : Naming) (c : Count) (maxage : Option ℕ) (members : List Member) (target : Path) (now t : ℤ) (serial : ℕ) (here : Names) (family : IsDatedFamily log n) (named : AreNamed n members) (is : IsDatedAt n t serial target)
+module _ (log : Path) (n : Naming) (c : Count) (maxage : Option ℕ) (members : List Member) (target : Path) (now t : ℤ) (serial : ℕ) (here : Names) (family : IsFamily log n) (named : AreNamed n members) (is : IsDatedAt n t serial target)
     (fit : FitAll here (reverse (dated_rotation c log target (all_of maxage now t serial target members)))) where
   abbrev all : List Ranked
   all = all_of maxage now t serial target members
@@ -134,7 +135,7 @@ module _ (log : Path) (n : Naming) (c : Count) (maxage : Option ℕ) (members : 
         at false e =
             let other : y ≢ job.to = λ is. (let yes : bytes_eq job.to y ≡ true = (bytes_eq-Decides job.to y).1 (sym is) in cc) in
             let by_rename : after_call here R y ≡ here y =
-            put_other (put here log thing.Nothing) target y (here log) (λ is. other (is ∙ sym j.to_is)) ∙ put_other here log y thing.Nothing (λ is. family.apart h.0 h.1 (subst (IsDatedAt n h.0 h.1) is h.2)) in
+            put_other (put here log thing.Nothing) target y (here log) (λ is. other (is ∙ sym j.to_is)) ∙ put_other here log y thing.Nothing (λ is. family.apart (inr (h.0, h.1, subst (IsDatedAt n h.0 h.1) is h.2))) in
             let by_copy : afters here (copy_calls job) y ≡ here y = copied_other job paths no_dir here place y (part_no y h) other in
             subst (λ v. IsLike v (afters here (copy_calls job) y)) (sym by_rename) (subst (IsLike (here y)) (sym by_copy) (like_self (here y)))
 
@@ -149,8 +150,8 @@ module _ (log : Path) (n : Naming) (c : Count) (maxage : Option ℕ) (members : 
 
 -- ---- behind the looks
 
-module _ (log : Path) (n : Naming) (c : Count) (maxage : Option ℕ) (members : List Member) (target : Path) (now t : ℤ) (serial : ℕ) (p q : Past) (es : List Entry) (family : IsDatedFamily log n) (journal : IsJournal p) (made : Made p es q) (still : ChangeNothing es) (saw : SawFile log (reverse es))
-    (shown : ShownDated n members (reverse es)) (next : IsNext members t serial) (is : IsDatedAt n t serial target) where
+module _ (log : Path) (n : Naming) (c : Count) (maxage : Option ℕ) (members : List Member) (target : Path) (now t : ℤ) (serial : ℕ) (p q : Past) (es : List Entry) (family : IsFamily log n) (journal : IsJournal p) (made : Made p es q) (still : ChangeNothing es) (saw : SawFile log (reverse es))
+    (shown : Shown n members (reverse es)) (next : IsNext members t serial) (is : IsDatedAt n t serial target) where
   -- the steps fit where the directory was seen
   fit_there : SawDir n.dir (reverse es) → FitAll (names (world q)) (reverse (dated_rotation c log target (all_of maxage now t serial target members)))
   fit_there dir = fits_behind log n c maxage members target now t serial p q es family made still saw dir shown next is
@@ -194,8 +195,8 @@ module _ (log : Path) (n : Naming) (c : Count) (maxage : Option ℕ) (members : 
         clash : (b : Bool) → b ≡ true → b ≡ false → ⊥
         clash b x y = cc
 
-pub renames_fit : (dir : Option (Path × Option ℕ)) (log : Path) (n : Naming) (c : Count) (maxage : Option ℕ) (members : List Member) (target : Path) (now t : ℤ) (serial : ℕ) (p q : Past) (es : List Entry) → IsDatedFamily log n → IsJournal p → Made p es q → ChangeNothing es → SawFile log (reverse es)
-    → IsDirSeenBy dir log n members None (reverse es) → ShownDated n members (reverse es) → IsNext members t serial → IsDatedAt n t serial target → FitCalls (names (world q)) (renamed_calls dir c log target (all_of maxage now t serial target members))
+pub renames_fit : (dir : Option (Path × Option ℕ)) (log : Path) (n : Naming) (c : Count) (maxage : Option ℕ) (members : List Member) (target : Path) (now t : ℤ) (serial : ℕ) (p q : Past) (es : List Entry) → IsFamily log n → IsJournal p → Made p es q → ChangeNothing es → SawFile log (reverse es)
+    → IsDirSeenBy dir log n members None (reverse es) → Shown n members (reverse es) → IsNext members t serial → IsDatedAt n t serial target → FitCalls (names (world q)) (renamed_calls dir c log target (all_of maxage now t serial target members))
 renames_fit None log n c maxage members target now t serial p q es family journal made still saw dir shown next is =
     by_rename log n c maxage members target now t serial (names (world q)) family shown.named is (fit_there log n c maxage members target now t serial p q es family journal made still saw shown next is dir)
 renames_fit (Some (dir, mode)) log n c maxage members target now t serial p q es family journal made still saw missing shown next is = (
@@ -203,8 +204,8 @@ renames_fit (Some (dir, mode)) log n c maxage members target now t serial p q es
   by_rename log n c maxage members target now t serial (put (names (world q)) dir thing.Directory) family shown.named is (fit_made log n c maxage members target now t serial p q es family journal made still saw shown next is None dir missing),
 )
 
-pub copies_fit : (rule : Rule) (dir : Option (Path × Option ℕ)) (job : Job) (log : Path) (n : Naming) (c : Count) (maxage : Option ℕ) (members : List Member) (target : Path) (now t : ℤ) (serial : ℕ) (p q : Past) (es : List Entry) → naming_of rule log ≡ n → IsDatedJob log target n (reverse es) job → IsDatedFamily log n → IsJournal p
-    → Made p es q → ChangeNothing es → SawFile log (reverse es) → IsDirSeenBy dir log n members (Some job) (reverse es) → ShownDated n members (reverse es) → IsNext members t serial → IsDatedAt n t serial target
+pub copies_fit : (rule : Rule) (dir : Option (Path × Option ℕ)) (job : Job) (log : Path) (n : Naming) (c : Count) (maxage : Option ℕ) (members : List Member) (target : Path) (now t : ℤ) (serial : ℕ) (p q : Past) (es : List Entry) → naming_of rule log ≡ n → IsDatedJob log target n (reverse es) job → IsFamily log n → IsJournal p
+    → Made p es q → ChangeNothing es → SawFile log (reverse es) → IsDirSeenBy dir log n members (Some job) (reverse es) → Shown n members (reverse es) → IsNext members t serial → IsDatedAt n t serial target
     → FitCalls (names (world q)) (copied_calls dir c job target (all_of maxage now t serial target members))
 copies_fit rule None job log n c maxage members target now t serial p q es naming_is j family journal made still saw dir shown next is =
     by_copy log n c maxage members target now t serial (names (world q)) family shown.named is (fit_there log n c maxage members target now t serial p q es family journal made still saw shown next is dir) rule job (reverse es) naming_is j

@@ -16,16 +16,14 @@ use Rattle.lr_laws.specs.Follow.{changed_paths}
 use Rattle.lr_laws.proofs.Outside.{in_reach_own, no_name_elsewhere, apart_outside}
 use Rattle.lr_copy.specs.declared.job.Job.{Job}
 use Rattle.lr_targets.specs.AllTurns.{IsStatePath, IsOfState, IsItsDir, AlsoDoes, IsOf, IsOfOther, StandsBetween, part_paths, dir_paths, paths_of, paths_of_others, other_paths}
-use Rattle.lr_rotations.specs.Members.{IsFamily, IsNoMember}
-use Rattle.lr_rotations.specs.Rotated.{AreOutside}
+use Rattle.lr_family.specs.Parts.{IsNumbered, IsDated}
+use Rattle.lr_laws_family.specs.Members.{IsNoMember}
 use Rattle.lr_targets.specs.Target.{Target, HasDir, rotation_of}
 use Rattle.lr_targets.proofs.Apart.{own_change}
 use Rattle.lr_targets.proofs.Others.{IsFileChange, own_turns}
 use Rattle.lr_rotations.proofs.Outside.{place_name}
-use Rattle.lr_dated_seen.specs.Family.{IsNoDated}
-use Rattle.lr_dated_turned.specs.Rotated.{AreDatedOutside}
 use Rattle.lr_dated_run.specs.Beside.{LiesBeside, IsBesideSet}
-use Rattle.lr_dated_run.specs.Own.{ChangesNames, HasAnyNames, HaveAnyNames}
+use Rattle.lr_dated_run.specs.Own.{ChangesNames, LieOutside, HasAnyNames, HaveAnyNames}
 use Rattle.lr_dated_run.proofs.Own.{dated_own, dated_change}
 
 -- all that is done to a log, numbered or dated, is on names of its set
@@ -124,20 +122,20 @@ in_names t h x (inr i) = ⊎_elim (part t.job refl) behind (in_append x (part_pa
     part (Some job) is (inr none) = absurd none
 
 module _ (log : Path) (n : Naming) where
-  numbered_out : IsFamily log n → (x : Path) → (IsOwnName log n x → ⊥) → (x ≢ log) × IsNoMember n x
-  numbered_out family x none = ((λ is. none (the_log is)), λ k i is. none (subst (IsOwnName log n) (sym is) (place_name log n k family.numbered i)))
-
-  dated_out : (x : Path) → (IsOwnName log n x → ⊥) → (x ≢ log) × IsNoDated n x
-  dated_out x none = ((λ is. none (the_log is)), λ t k at. none (dated_own log n t k x at))
+  -- what is no own name is neither the log nor a member
+  pub name_out : (x : Path) → (IsOwnName log n x → ⊥) → (x ≢ log) × IsNoMember n x
+  name_out x none = (
+    (λ is. none (the_log is)),
+    λ m. ⊎_elim
+        (λ (h : IsNumbered n x). none (subst (IsOwnName log n) (sym h.1.1.named) (place_name log n h.1.0 h.0 h.1.1.bound)))
+        (λ (h : IsDated n x). none (dated_own log n h.0 h.1 x h.2)) m,
+  )
 
   no_own : (t : Target) → HasAnyNames t → (Meet t.log t.naming log n → ⊥) → (x : Path) → IsIn x (paths_of t) → IsOwnName log n x → ⊥
   no_own t h apart x i own = apart (x, inr (in_names t h x i, own))
 
-  pub numbered_outside : (t : Target) → IsFamily log n → HasAnyNames t → (Meet t.log t.naming log n → ⊥) → AreOutside (paths_of t) log n
-  numbered_outside t family h apart x i = numbered_out family x (no_own t h apart x i)
-
-  pub dated_outside : (t : Target) → HasAnyNames t → (Meet t.log t.naming log n → ⊥) → AreDatedOutside (paths_of t) log n
-  dated_outside t h apart x i = dated_out x (no_own t h apart x i)
+  pub one_outside : (t : Target) → HasAnyNames t → (Meet t.log t.naming log n → ⊥) → LieOutside (paths_of t) log n
+  one_outside t h apart x i = name_out x (no_own t h apart x i)
 
   -- of all other logs, and of the state
   others_no_own : (ts : List Target) → HaveAnyNames ts → ((x : Target) → IsIn x ts → x.log ≢ log → Meet x.log x.naming log n → ⊥) → (y : Path) → IsIn y (paths_of_others log ts) → IsOwnName log n y → ⊥
@@ -157,8 +155,5 @@ module _ (log : Path) (n : Naming) where
     none_own x (inr (inl is)) own = no_part (inl (subst (IsOwnName log n) (sym is) own))
     none_own x (inr (inr i)) own = others_no_own ts h apart x i own
 
-    pub all_outside : IsFamily log n → AreOutside (other_paths state log ts) log n
-    all_outside family x i = numbered_out family x (none_own x i)
-
-    pub all_dated_outside : AreDatedOutside (other_paths state log ts) log n
-    all_dated_outside x i = dated_out x (none_own x i)
+    pub all_outside : LieOutside (other_paths state log ts) log n
+    all_outside x i = name_out x (none_own x i)

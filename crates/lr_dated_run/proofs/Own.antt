@@ -26,8 +26,8 @@ use Rattle.lr_targets.specs.AllTurns.{IsPartFile, AlsoDoes, IsOf}
 use Rattle.lr_targets.specs.Target.{Target, HasDir, IsDirSeen, unlinks, transfer_of, rotation_of}
 use Rattle.lr_targets.proofs.Rotating.{each_part}
 use Rattle.lr_targets.proofs.SeenFits.{has_dir}
-use Rattle.lr_rotations.proofs.Weaving.{each_in}
-use Rattle.lr_dated_seen.specs.Shown.{ShownDated}
+use Rattle.lr_laws_family.proofs.Weaving.{each_in}
+use Rattle.lr_laws_family.specs.Shown.{Shown}
 use Rattle.lr_dated_run.specs.Calls.{IsDatedJob}
 use Rattle.lr_dated_run.specs.Own.{IsDatedName, ChangesDated, ChangesOwn, ChangesNames, MakesItsDir, HasDatedNames, all_members}
 use Rattle.lr_dated_run.proofs.CallsFit.{dated_gone}
@@ -98,7 +98,7 @@ copy_own log n job target t serial looks e j is i = changes_own log n e
     (moved_own log n job (subst (IsDatedName log n) (sym j.part_is) (part_named log n t serial target is)) (subst (IsDatedName log n) (sym j.to_is) (dated_named log n t serial target is))) i)
 
 -- what the looks tell of a dated log
-pub seen_dated : (t : Target) (maxage : Option ℕ) (now seconds : ℤ) (looks : List Entry) → ShownDated t.naming t.stand.members looks → IsDatedReady t.log t.naming t.count t.ready.make maxage now seconds t.stand.members (with_dir None t.ready)
+pub seen_dated : (t : Target) (maxage : Option ℕ) (now seconds : ℤ) (looks : List Entry) → Shown t.naming t.stand.members looks → IsDatedReady t.log t.naming t.count t.ready.make maxage now seconds t.stand.members (with_dir None t.ready)
     → IsDirSeen t looks → ((job : Job) → t.job ≡ Some job → IsDatedJob t.log t.ready.target t.naming looks job) → HasDatedNames t
 seen_dated t maxage now seconds looks shown ready dir is_job = record {
   members = shown.named;

@@ -20,9 +20,9 @@ use Rattle.lr_rules.proofs.PathLemmas.{plain_both, parent_joined, last_joined}
 use Rattle.lr_stamps.proofs.Members.{joined_same}
 use Rattle.lr_stamps.proofs.StampShapes.{numbered_shape}
 use Rattle.lr_family.specs.Parts.{part_of}
-use Rattle.lr_dated_seen.specs.Family.{IsDatedFamily}
 use Rattle.lr_laws.proofs.PlainStamps.{field_digits}
-use Rattle.lr_dated_seen.proofs.Names.{name_of, name_part, longer, base_long}
+use Rattle.lr_laws_family.specs.Members.{IsFamily}
+use Rattle.lr_laws_family.proofs.DatedNames.{name_of, name_part, longer, base_long}
 
 -- ---- bytes that are no digits
 
@@ -115,7 +115,7 @@ joined_no_dir dir name some is = go (length dir == 1) refl
 pub part_joined : (dir name : List ℕ) (x : Path) → x ≡ joined dir name → part_of x ≡ joined dir (name ++ part_end)
 part_joined dir name x is = ap part_of is ∙ append_assoc (cond (length dir == 1) [] dir) (47 ∷ name) part_end
 
-module _ (log : Path) (n : Naming) (t : ℤ) (serial : ℕ) (target : Path) (family : IsDatedFamily log n) (is : IsDatedAt n t serial target) where
+module _ (log : Path) (n : Naming) (t : ℤ) (serial : ℕ) (target : Path) (family : IsFamily log n) (is : IsDatedAt n t serial target) where
   abbrev name : List ℕ
   name = name_of n t serial target is
 

@@ -35,12 +35,14 @@ use Rattle.lr_dated.proofs.Walk.{dated_walked}
 use Rattle.lr_dated.proofs.Whole.{steps_are}
 use Rattle.lr_dated_chain.specs.Next.{IsNext}
 use Rattle.lr_dated_chain.specs.Ready.{all_of}
-use Rattle.lr_rotations.specs.Weave.{FirstWoven}
+use Rattle.lr_laws_family.specs.Weave.{FirstWoven}
 use Rattle.lr_rotations.proofs.LogFitting.{IsNoRename, log_fits_on, log_fits_first}
-use Rattle.lr_rotations.proofs.Weaving.{weave_as, weave_back, IsApartOrMakes}
-use Rattle.lr_dated_seen.specs.Family.{IsDatedFamily}
-use Rattle.lr_dated_seen.specs.Shown.{SawFile, ShownDated}
-use Rattle.lr_dated_seen.proofs.Rotating.{file_stands, one_behind}
+use Rattle.lr_laws_family.proofs.Weaving.{weave_as, weave_back}
+use Rattle.lr_rotations.proofs.Weaving.{IsApartOrMakes}
+use Rattle.lr_laws_family.specs.Members.{IsFamily}
+use Rattle.lr_laws_family.specs.Shown.{SawFile, Shown}
+use Rattle.lr_laws_family.proofs.Stood.{file_stands}
+use Rattle.lr_dated_run.proofs.Rotating.{one_behind}
 use Rattle.lr_dated_run.specs.Beside.{IsBesideSet}
 use Rattle.lr_dated_run.proofs.Weaving.{beside_apart, IsDatedWoven, dated_woven}
 
@@ -98,7 +100,7 @@ none_before s p _ _ at_first none = none
 none_before s p _ es (by_writer {q = q} {e = e} m i f) none = none_before s p q es m (attached_before s q e none)
 none_before s p _ _ (by_tool {es = es} {q = q} {e = e} m i f) none = none_before s p q es m (attached_before s q e none)
 
-pub dated_own_safe : (clock : Clock) (s : LogSet) (c : Count) (maxage : Option ℕ) (members : List Member) (target : Path) (serial : ℕ) (u v q : Past) (looks acts : List Entry) → IsDatedFamily s.log s.naming → Made u (reverse looks) v → AreQuiet looks → SawFile s.log looks → ShownDated s.naming members looks
+pub dated_own_safe : (clock : Clock) (s : LogSet) (c : Count) (maxage : Option ℕ) (members : List Member) (target : Path) (serial : ℕ) (u v q : Past) (looks acts : List Entry) → IsFamily s.log s.naming → Made u (reverse looks) v → AreQuiet looks → SawFile s.log looks → Shown s.naming members looks
     → IsJournal u → IsJournal v → IsSafe s v → NoneAttached s q → has_begun s v ≡ false → IsForwardFor clock s v → (world v).now ≡ clock.now.seconds → SomeRule (rules_of v) s.log (λ r. (r.count ≡ c) × (r.maxage ≡ maxage))
     → IsNext members (clock_seconds s.naming.dated clock) serial → IsDatedAt s.naming (clock_seconds s.naming.dated clock) serial target
     → FirstWoven (IsApartOrMakes s) (dated_rotation c s.log target (all_of maxage clock.now.seconds (clock_seconds s.naming.dated clock) serial target members)) (filter is_change acts) → Made v (reverse acts) q → IsSafe s q
@@ -116,8 +118,8 @@ dated_own_safe clock s c maxage members target serial u v q looks acts family m 
     saw_back : SawFile s.log (reverse (reverse looks))
     saw_back = subst (SawFile s.log) (sym in_order) saw
 
-    shown_back : ShownDated s.naming members (reverse (reverse looks))
-    shown_back = subst (ShownDated s.naming members) (sym in_order) shown
+    shown_back : Shown s.naming members (reverse (reverse looks))
+    shown_back = subst (Shown s.naming members) (sym in_order) shown
 
     rotates : RotatesDated (dated_rotation c s.log target (all_of maxage clock.now.seconds (clock_seconds s.naming.dated clock) serial target members)) s v
     rotates = one_behind clock s c maxage members target serial u v (reverse looks) family opened (none_before s v q (reverse acts) mq none_q) m quiet_back saw_back shown_back next is not_begun forward now_is rule
@@ -132,7 +134,7 @@ dated_own_safe clock s c maxage members target serial u v q looks acts family m 
     all = dated_woven s v rotates.newest (reverse w.made) (reverse (filter is_change acts)) (weave_back (IsApartOrMakes s) w.made (filter is_change acts) w.woven)
         (later_rotation s v rotates.newest (reverse w.first.0) (reverse w.made) (subst (IsDatedRotation s v rotates.newest) split rotates.rotation)) (log_fits_first s (names (world v)) (reverse w.first.0) (reverse w.made) fit)
 
-pub beside_safe : (clock : Clock) (s : LogSet) (c : Count) (maxage : Option ℕ) (members : List Member) (target : Path) (serial : ℕ) (u v q : Past) (looks acts : List Entry) → IsDatedFamily s.log s.naming → Made u (reverse looks) v → AreQuiet looks → SawFile s.log looks → ShownDated s.naming members looks
+pub beside_safe : (clock : Clock) (s : LogSet) (c : Count) (maxage : Option ℕ) (members : List Member) (target : Path) (serial : ℕ) (u v q : Past) (looks acts : List Entry) → IsFamily s.log s.naming → Made u (reverse looks) v → AreQuiet looks → SawFile s.log looks → Shown s.naming members looks
     → IsJournal u → IsJournal v → IsSafe s v → NoneAttached s q → has_begun s v ≡ false → IsForwardFor clock s v → (world v).now ≡ clock.now.seconds → SomeRule (rules_of v) s.log (λ r. (r.count ≡ c) × (r.maxage ≡ maxage))
     → IsNext members (clock_seconds s.naming.dated clock) serial → IsDatedAt s.naming (clock_seconds s.naming.dated clock) serial target
     → FirstWoven (IsBesideSet s) (dated_rotation c s.log target (all_of maxage clock.now.seconds (clock_seconds s.naming.dated clock) serial target members)) (filter is_change acts) → Made v (reverse acts) q → IsSafe s q

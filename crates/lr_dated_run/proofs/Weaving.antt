@@ -11,9 +11,10 @@ use Rattle.lr_host.specs.Sets.{LogSet, in_reach, AreLaterMembers}
 use Rattle.lr_laws.specs.Rotation.{IsAside, LogFits}
 use Rattle.lr_dated.specs.Rotation.{has_turned, IsDatedStep, IsDatedRotation}
 use Rattle.lr_dated.proofs.Aside.{aside_turned}
-use Rattle.lr_rotations.specs.Rotated.{MakesAt}
-use Rattle.lr_rotations.specs.Weave.{Weave, none, own, other}
-use Rattle.lr_rotations.proofs.Weaving.{both_put, AreAlike, keyed, logged, turn_from, turn_to, turn_as, IsApart, IsApartOrMakes, apart_aside, apart_alike}
+use Rattle.lr_laws_family.specs.Beside.{MakesAt}
+use Rattle.lr_laws_family.specs.Weave.{Weave, none, own, other}
+use Rattle.lr_laws_family.proofs.Weaving.{both_put}
+use Rattle.lr_rotations.proofs.Weaving.{AreAlike, keyed, logged, turn_from, turn_to, turn_as, IsApart, IsApartOrMakes, apart_aside, apart_alike}
 use Rattle.lr_dated_run.specs.Beside.{MakesNoDir, IsBesideSet}
 
 -- ---- entries beside the set

@@ -4,7 +4,7 @@ use Rattle.lr_host.specs.declared.entry.Entry.{Entry}
 use Rattle.lr_host.specs.declared.entry.Entry.TheVariants.{MakesDir}
 use Rattle.lr_host.specs.Sets.{LogSet, in_reach}
 use Rattle.lr_laws.specs.Rotation.{IsAside}
-use Rattle.lr_rotations.specs.Rotated.{MakesAt}
+use Rattle.lr_laws_family.specs.Beside.{MakesAt}
 
 -- the entry makes no directory at a path that the set reaches
 abbrev pub MakesNoDir : LogSet → Entry → Type 0

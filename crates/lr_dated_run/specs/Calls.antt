@@ -9,7 +9,7 @@ use Rattle.lr_family.specs.Parts.{part_of}
 use Rattle.lr_copy.specs.declared.job.Job.{Job}
 use Rattle.lr_dated.specs.Steps.{Ranked, gone, unlink}
 use Rattle.lr_rotations.specs.Calls.{copy_calls}
-use Rattle.lr_dated_seen.specs.Shown.{SawFile}
+use Rattle.lr_laws_family.specs.Shown.{SawFile}
 use Rattle.lr_chain.specs.Ready.{dir_calls}
 
 -- the unlinks of those that go, the oldest first

@@ -1,5 +1,5 @@
 -- Dated logs among all logs of a run, and the names that their rotations change.
-use Rattle.std.specs.Prelude.{◌≡◌, ◌⊎◌, ℕ, ℤ, List, [], ◌∷◌, Option, None}
+use Rattle.std.specs.Prelude.{◌≡◌, ◌≢◌, ◌⊎◌, ℕ, ℤ, List, [], ◌∷◌, Option, None}
 use Rattle.lr_rules.specs.declared.path.Path.{Path}
 use Rattle.lr_rules.specs.declared.rule.Naming.{Naming}
 use Rattle.lr_rules.specs.Names.{IsOwnName, IsName}
@@ -12,6 +12,7 @@ use Rattle.lr_family.specs.Places.{AreNamed}
 use Rattle.lr_chain.specs.Ready.{with_dir}
 use Rattle.lr_dated.specs.Steps.{Ranked}
 use Rattle.lr_dated_chain.specs.Ready.{all_of, IsDatedReady}
+use Rattle.lr_laws_family.specs.Members.{IsNoMember}
 use Rattle.lr_targets.specs.AllTurns.{IsItsDir}
 use Rattle.lr_targets.specs.Apart.{HasNames}
 use Rattle.lr_targets.specs.Target.{Target, HasDir, HasJob}
@@ -50,6 +51,10 @@ pub record HasDatedNames (t : Target) : Type 0 where
 -- its members, the newest first, once the log has its dated name
 abbrev pub all_members : (t : Target) → HasDatedNames t → List Ranked
 all_members t h = all_of h.maxage h.now h.seconds h.ready.serial t.ready.target t.stand.members
+
+-- none of these paths is the log's or a member's
+abbrev pub LieOutside : List Path → Path → Naming → Type 0
+LieOutside paths log n = (x : Path) → IsIn x paths → (x ≢ log) × IsNoMember n x
 
 -- the members have numbers, or dates
 abbrev pub HasAnyNames : Target → Type 0

@@ -17,19 +17,16 @@ ghost use Rattle.lr_copy.specs.Copying.{clearing};
 ghost use Rattle.lr_dated.specs.Steps.{dated_rotation};
 ghost use Rattle.lr_dated_chain.specs.Ready.{all_of, IsDatedReady};
 ghost use Rattle.lr_targets.specs.AllTurns.{IsOf, StandsBetween, paths_of, other_paths};
-ghost use Rattle.lr_rotations.specs.Members.{IsFamily};
-ghost use Rattle.lr_rotations.specs.Rotated.{AreOutside};
 ghost use Rattle.lr_targets.specs.Target.{Target, HasDir, IsDirSeen, rotation_of};
-ghost use Rattle.lr_dated_seen.specs.Shown.{ShownDated};
-ghost use Rattle.lr_dated_turned.specs.Rotated.{AreDatedOutside};
+ghost use Rattle.lr_laws_family.specs.Shown.{Shown};
 ghost use Rattle.lr_dated_run.specs.Beside.{LiesBeside, IsBesideSet};
 ghost use Rattle.lr_dated_run.specs.Calls.{IsDatedJob};
-ghost use Rattle.lr_dated_run.specs.Own.{ChangesDated, ChangesOwn, ChangesNames, MakesItsDir, HasDatedNames, all_members, HasAnyNames, HaveAnyNames};
+ghost use Rattle.lr_dated_run.specs.Own.{ChangesDated, ChangesOwn, ChangesNames, MakesItsDir, HasDatedNames, all_members, LieOutside, HasAnyNames, HaveAnyNames};
 
 /// Looks that showed the members of a dated log, and a rotation of theirs that is ready, with a copy over a part file of its
 /// own where the log is copied, are all that the laws below ask of the log.
 pub fn seen_names_are_dated()
-    ensures { (t : Target) (maxage : Option ℕ) (now seconds : ℤ) (looks : List Entry) → ShownDated t.naming t.stand.members looks
+    ensures { (t : Target) (maxage : Option ℕ) (now seconds : ℤ) (looks : List Entry) → Shown t.naming t.stand.members looks
         → IsDatedReady t.log t.naming t.count t.ready.make maxage now seconds t.stand.members (with_dir None t.ready) → IsDirSeen t looks
         → ((job : Job) → t.job ≡ Some job → IsDatedJob t.log t.ready.target t.naming looks job) → HasDatedNames t }
 {}
@@ -62,16 +59,11 @@ pub fn dated_rotation_is_apart()
         → StandsBetween state t ts e → IsBesideSet s e }
 {}
 
-/// The paths that a log's rotation changes, be its names numbers or dates, lie outside of each family that it doesn't meet,
-/// numbered or dated. So do the paths of all other logs and of the state.
+/// The paths that a log's rotation changes, be its names numbers or dates, lie outside of each family that it doesn't meet. So
+/// do the paths of all other logs and of the state.
 pub fn dated_paths_are_outside()
-    ensures numbered { (log : Path) (n : Naming) (t : Target) → IsFamily log n → HasAnyNames t → (Meet t.log t.naming log n → ⊥)
-        → AreOutside (paths_of t) log n }
-    ensures dated { (log : Path) (n : Naming) (t : Target) → HasAnyNames t → (Meet t.log t.naming log n → ⊥) → AreDatedOutside (paths_of t) log n }
-    ensures numbered_of_all { (state log : Path) (n : Naming) (ts : List Target) → IsFamily log n → HaveAnyNames ts
+    ensures one { (log : Path) (n : Naming) (t : Target) → HasAnyNames t → (Meet t.log t.naming log n → ⊥) → LieOutside (paths_of t) log n }
+    ensures of_all { (state log : Path) (n : Naming) (ts : List Target) → HaveAnyNames ts
         → ((x : Target) → IsIn x ts → x.log ≢ log → Meet x.log x.naming log n → ⊥)
-        → (IsName log n state → ⊥) → (IsName log n (state ++ codes ".tmp") → ⊥) → AreOutside (other_paths state log ts) log n }
-    ensures dated_of_all { (state log : Path) (n : Naming) (ts : List Target) → HaveAnyNames ts
-        → ((x : Target) → IsIn x ts → x.log ≢ log → Meet x.log x.naming log n → ⊥)
-        → (IsName log n state → ⊥) → (IsName log n (state ++ codes ".tmp") → ⊥) → AreDatedOutside (other_paths state log ts) log n }
+        → (IsName log n state → ⊥) → (IsName log n (state ++ codes ".tmp") → ⊥) → LieOutside (other_paths state log ts) log n }
 {}

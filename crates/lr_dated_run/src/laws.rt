@@ -25,10 +25,10 @@ ghost use Rattle.lr_dated.specs.Steps.{dated_rotation};
 ghost use Rattle.lr_dated_chain.specs.Next.{IsNext};
 ghost use Rattle.lr_dated_chain.specs.Ready.{all_of};
 ghost use Rattle.lr_rotations.specs.Calls.{FitCalls};
-ghost use Rattle.lr_rotations.specs.Weave.{FirstWoven};
+ghost use Rattle.lr_laws_family.specs.Weave.{FirstWoven};
 ghost use Rattle.lr_targets.specs.Target.{IsDirSeenBy};
-ghost use Rattle.lr_dated_seen.specs.Family.{IsDatedFamily};
-ghost use Rattle.lr_dated_seen.specs.Shown.{SawFile, ShownDated};
+ghost use Rattle.lr_laws_family.specs.Members.{IsFamily};
+ghost use Rattle.lr_laws_family.specs.Shown.{SawFile, Shown};
 ghost use Rattle.lr_dated_run.specs.Beside.{IsBesideSet};
 ghost use Rattle.lr_dated_run.specs.Calls.{renamed_calls, copied_calls, IsDatedJob};
 
@@ -38,8 +38,8 @@ ghost use Rattle.lr_dated_run.specs.Calls.{renamed_calls, copied_calls, IsDatedJ
 /// log lets go by this count and by this age, before the run's moment, which is the clock's.
 pub fn dated_log_stays_safe()
     ensures { (clock : Clock) (s : LogSet) (c : Count) (maxage : Option ℕ) (members : List Member) (target : Path) (serial : ℕ)
-        (u v q : Past) (looks acts : List Entry) → IsDatedFamily s.log s.naming → Made u (reverse looks) v → AreQuiet looks
-        → SawFile s.log looks → ShownDated s.naming members looks → IsJournal u → IsJournal v → IsSafe s v → NoneAttached s q
+        (u v q : Past) (looks acts : List Entry) → IsFamily s.log s.naming → Made u (reverse looks) v → AreQuiet looks
+        → SawFile s.log looks → Shown s.naming members looks → IsJournal u → IsJournal v → IsSafe s v → NoneAttached s q
         → has_begun s v ≡ false → IsForwardFor clock s v → (world v).now ≡ clock.now.seconds
         → SomeRule (rules_of v) s.log (λ r. (r.count ≡ c) × (r.maxage ≡ maxage))
         → IsNext members (clock_seconds s.naming.dated clock) serial
@@ -53,13 +53,13 @@ pub fn dated_log_stays_safe()
 /// directory, where that was missing and is made.
 pub fn dated_calls_fit()
     ensures rename { (dir : Option (Path × Option ℕ)) (log : Path) (n : Naming) (c : Count) (maxage : Option ℕ) (members : List Member) (target : Path)
-        (now seconds : ℤ) (serial : ℕ) (p q : Past) (es : List Entry) → IsDatedFamily log n → IsJournal p → Made p es q → ChangeNothing es
-        → SawFile log (reverse es) → IsDirSeenBy dir log n members None (reverse es) → ShownDated n members (reverse es) → IsNext members seconds serial
+        (now seconds : ℤ) (serial : ℕ) (p q : Past) (es : List Entry) → IsFamily log n → IsJournal p → Made p es q → ChangeNothing es
+        → SawFile log (reverse es) → IsDirSeenBy dir log n members None (reverse es) → Shown n members (reverse es) → IsNext members seconds serial
         → IsDatedAt n seconds serial target
         → FitCalls (names (world q)) (renamed_calls dir c log target (all_of maxage now seconds serial target members)) }
     ensures copy { (rule : Rule) (dir : Option (Path × Option ℕ)) (job : Job) (log : Path) (n : Naming) (c : Count) (maxage : Option ℕ) (members : List Member) (target : Path)
         (now seconds : ℤ) (serial : ℕ) (p q : Past) (es : List Entry) → naming_of rule log ≡ n → IsDatedJob log target n (reverse es) job
-        → IsDatedFamily log n → IsJournal p → Made p es q → ChangeNothing es → SawFile log (reverse es) → IsDirSeenBy dir log n members (Some job) (reverse es) → ShownDated n members (reverse es)
+        → IsFamily log n → IsJournal p → Made p es q → ChangeNothing es → SawFile log (reverse es) → IsDirSeenBy dir log n members (Some job) (reverse es) → Shown n members (reverse es)
         → IsNext members seconds serial → IsDatedAt n seconds serial target
         → FitCalls (names (world q)) (copied_calls dir c job target (all_of maxage now seconds serial target members)) }
 {}

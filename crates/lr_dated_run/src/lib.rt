@@ -10,8 +10,12 @@
 
 mod aside;
 mod laws;
+mod rotation;
+mod standing;
 
 pub use aside::{
     dated_changes_are_own, dated_paths_are_outside, dated_rotation_is_apart, seen_names_are_dated,
 };
 pub use laws::{dated_calls_fit, dated_log_stays_safe};
+pub use rotation::{seen_rotation_fits, seen_rotation_is_one};
+pub use standing::{members_stand_so, next_serial_comes, set_members_stand};

@@ -1,5 +1,5 @@
 -- The run over both logs whose steps stand between one another: it is a journal, and all that is asked of a rotated family is so.
-use Rattle.std.proofs.Common.{◌≡◌, ◌≢◌, inl, inr, ℕ, zero, suc, ◌≤◌, ◌<◌, Bool, true, false, not, ◌&&◌, bytes_eq, refl, sym, ap, subst, arith, Some, None, List, [], ◌∷◌, length, get_or, eqb, eq-eqb, reverse, All, Contains, codes, pos}
+use Rattle.std.proofs.Common.{◌≡◌, ◌≢◌, inl, inr, ℕ, zero, suc, ◌≤◌, ◌<◌, Bool, true, false, not, ◌&&◌, bytes_eq, refl, sym, ◌∙◌, ap, subst, arith, Some, None, List, [], ◌∷◌, length, get_or, eqb, eq-eqb, reverse, All, Contains, codes, pos}
 use Rattle.std.specs.Prelude.{slice_index_or, count_by, ◌==◌, filter}
 use Rattle.std.proofs.lemmas.List.Elements.{All-cons}
 use Rattle.std.proofs.lemmas.Slice.Eq.{bytes_eq-Decides}
@@ -18,23 +18,27 @@ use Rattle.lr_host.specs.Opening.{IsValid, paths_of}
 use Rattle.lr_host.specs.Told.{Made, at_first, by_writer, by_tool}
 use Rattle.lr_host.specs.Quiet.{is_disk_change, from_here, further}
 use Rattle.lr_host.proofs.Lists.{in_from, in_to}
-use Rattle.lr_host.specs.Looks.{Sees, IsFile}
 use Rattle.lr_family.proofs.Unique.{joined_same}
 use Rattle.lr_chain.specs.Rotation.{places_of}
 use Rattle.lr_chain.specs.Standing.{AreGoing}
 use Rattle.lr_chain.proofs.Going.{going_are}
-use Rattle.lr_rotations.specs.Members.{IsNoMember, AreThere, HaveNext, NoMemberAttached}
-use Rattle.lr_rotations.specs.Rotated.{IsBeside, AreOutside, IsRotatedWhole, RotatesAmong}
-use Rattle.lr_rotations.specs.Weave.{Weave, none, own, other}
-use Rattle.lr_rotations.proofs.Moments.{shown_in}
-use Rattle.lr_targets.proofs.Others.{among_behind}
-use Rattle.lr_rotations.proofs.Paths.{path_other}
-use Rattle.lr_rotations.proofs.WholeRotated.{seen_members, rotated_whole}
+use Rattle.lr_laws_family.specs.Made.{NoneAttached, AreOutside, RotatesAmong}
+use Rattle.lr_laws_family.specs.Members.{IsNoMember, IsFamily, AreThere}
+use Rattle.lr_laws_family.specs.Numbered.{HaveNext}
+use Rattle.lr_laws_family.specs.Rotation.{Rename}
+use Rattle.lr_laws_family.specs.Turned.{IsRotation, IsTurned}
+use Rattle.lr_laws_family.proofs.Numbers.{numbered_is_one, steps_are}
+use Rattle.lr_laws_family.proofs.Whole.{turned as family_turned}
+use Rattle.lr_laws_family.proofs.Woven.{among}
+use Rattle.lr_rotations.specs.Members as places
+use Rattle.lr_mixed.proofs.Whole.{shown_more}
+use Rattle.lr_laws_family.specs.Beside.{IsBeside}
+use Rattle.lr_laws_family.specs.Weave.{Weave, none, own, other}
 use Rattle.lr_examples.specs.Logs.{state, part, rules, a_log, a_first, a_second, a_third, a_count, a_naming, a_stand, a_from, a_listed, b_log, b_first, b_listed, file, directory, looks}
-use Rattle.lr_examples.specs.OneLog.{paths, stood, begun, looked, renamed, over}
+use Rattle.lr_examples.specs.OneLog.{paths, turn, stood, begun, looked, renamed, over}
 use Rattle.lr_examples.specs.TwoLogs.{a_steps}
 use Rattle.lr_examples.proofs.Naming.{a_family, a_rotation}
-use Rattle.lr_examples.proofs.Seen.{a_seen, a_falling, a_shown}
+use Rattle.lr_examples.proofs.Seen.{a_falling, a_members, family_of}
 
 differ : (x y : Path) → bytes_eq x y ≡ false → x ≡ y → ⊥
 differ x y e same = let t : bytes_eq x y ≡ true = (bytes_eq-Decides x y).1 same in cc
@@ -152,20 +156,23 @@ made now =
 pub next : HaveNext a_naming a_count (places_of a_stand.members)
 next = omega arith
 
-pub unattached : (now : Moment) → NoMemberAttached a_naming begun (over now)
+pub family : IsFamily a_log a_naming
+family = family_of a_log a_naming a_family
+
+pub unattached : (now : Moment) → NoneAttached a_naming turn begun (over now)
 unattached now = further (further (further (further (further (further attached tt) tt) tt) tt) tt) tt
   where
-    seen : NoMemberAttached a_naming begun (looked now)
+    seen : NoneAttached a_naming turn begun (looked now)
     seen = further (further (further (further (further (further (further (further (further (further from_here tt) tt) tt) tt) tt) tt) tt) tt) tt) tt
 
-    turned : NoMemberAttached a_naming begun (renamed now)
+    turned : NoneAttached a_naming turn begun (renamed now)
     turned = further (further (further (further (further (further (further seen tt) tt) tt) tt) tt) tt) tt
 
-    attached : NoMemberAttached a_naming begun (renamed now ▸ entry.Attach 8 a_log (pos 3))
-    attached = further turned (λ place i e. path_other a_log a_naming place a_family i e)
+    attached : NoneAttached a_naming turn begun (renamed now ▸ entry.Attach 8 a_log (pos 3))
+    attached = further turned (family.apart, λ never. never)
 
 abbrev IsApart : Path → Type 0
-IsApart x = (x ≢ a_log) × IsNoMember a_naming x
+IsApart x = (x ≢ a_log) × places.IsNoMember a_naming x
 
 -- the second byte of the log's path and of each member's is a `v`
 elsewhere : (x : Path) → eqb (get_or x 1 0) 118 ≡ false → IsApart x
@@ -174,12 +181,26 @@ elsewhere x differs = ((λ e. clash (ap (λ (y : Path). get_or y 1 0) e)), λ pl
     clash : get_or x 1 0 ≡ 118 → ⊥
     clash e = let same : eqb (get_or x 1 0) 118 ≡ true = eq-eqb (get_or x 1 0) 118 e in cc
 
-pub outside : AreOutside paths a_log a_naming
-outside x (inl e) = subst IsApart e (elsewhere state refl)
-outside x (inr (inl e)) = subst IsApart e (elsewhere part refl)
-outside x (inr (inr (inl e))) = subst IsApart e (elsewhere b_log refl)
-outside x (inr (inr (inr (inl e)))) = subst IsApart e (elsewhere b_first refl)
-outside x (inr (inr (inr (inr never)))) = absurd never
+apart : (x : Path) → IsIn x paths → IsApart x
+apart x (inl e) = subst IsApart e (elsewhere state refl)
+apart x (inr (inl e)) = subst IsApart e (elsewhere part refl)
+apart x (inr (inr (inl e))) = subst IsApart e (elsewhere b_log refl)
+apart x (inr (inr (inr (inl e)))) = subst IsApart e (elsewhere b_first refl)
+apart x (inr (inr (inr (inr never)))) = absurd never
+
+pub outside : AreOutside paths a_naming turn
+outside x i = (on_way, no_member)
+  where
+    o : IsApart x
+    o = apart x i
+
+    on_way : IsIn x (a_log ∷ []) → ⊥
+    on_way (inl same) = o.0 (sym same)
+    on_way (inr never) = never
+
+    no_member : IsNoMember a_naming x
+    no_member (inl m) = o.1 m.1.0 m.1.1.bound m.1.1.named
+    no_member (inr d) = let no : None ≡ Some d.2.format = d.2.dated in cc
 
 -- between the log's own steps stand the making of the part file, the other log's rename, the writing of the state and its rename
 woven : Weave (IsBeside paths a_log) a_steps (filter is_disk_change moves)
@@ -189,17 +210,15 @@ woven = own _ (other _ (inl (inr (inl refl))) (own _ (other _ (inl (inr (inr (in
 a_going : AreGoing a_count (places_of a_stand.members) a_from
 a_going = going_are a_count None (pos 0) a_stand.members a_falling
 
-pub rotates : (now : Moment) → RotatesAmong paths a_log a_naming a_count a_from a_stand (reverse (left now))
-rotates now = record {
-  front = entry.Look (codes "/s") (Some directory) ∷ entry.Starts state now rules ∷ looks;
-  back = moves;
-  joined = refl;
-  still = refl;
-  log_seen = among_behind (Sees a_log IsFile) (entry.Starts state now rules) (entry.Look (codes "/s") (Some directory) ∷ []) looks a_seen;
-  seen = shown_in a_naming (places_of a_stand.members) looks (entry.Look (codes "/s") (Some directory) ∷ entry.Starts state now rules ∷ looks) (λ e h. inr (inr h)) a_shown;
-  going = a_going;
-  changes = subst (λ steps. Weave (IsBeside paths a_log) steps (filter is_disk_change moves)) (sym a_rotation) woven;
-}
+pub is_one : IsRotation a_naming turn
+is_one = numbered_is_one a_naming a_count a_from a_stand.members a_log a_log Rename family refl family.apart a_members.named next a_going
+
+abbrev front : Moment → List Entry
+front now = entry.Look (codes "/s") (Some directory) ∷ entry.Starts state now rules ∷ looks
+
+pub rotates : (now : Moment) → RotatesAmong paths a_naming turn (reverse (left now))
+rotates now = among paths a_naming turn (front now) moves refl refl (file, refl, inr (inr (inl refl))) (shown_more a_naming a_stand.members looks (front now) (λ e h. inr (inr h)) a_members)
+    (subst (λ steps. Weave (IsBeside paths a_log) steps (filter is_disk_change moves)) (sym (steps_are a_naming a_count a_from a_stand.members a_log a_log Rename family refl family.apart a_members.named next a_going ∙ a_rotation)) woven)
 
 -- ---- the opening
 
@@ -260,9 +279,16 @@ valid = record {
     one (suc (suc (suc zero))) lt = refl
     one (suc (suc (suc (suc g)))) lt = absurd (omega arith)
 
--- so the members that were seen stood, and the family is rotated
-pub rotated : (now : Moment) → AreThere a_naming (names (world begun)) (places_of a_stand.members) × IsRotatedWhole paths a_naming a_count a_from a_log begun (over now)
-rotated now = (
-  seen_members paths a_log a_naming a_count a_from a_stand begun (over now) (left now) (made now) valid a_family next (unattached now) outside (rotates now),
-  rotated_whole paths a_log a_naming a_count a_from a_stand begun (over now) (left now) (made now) valid a_family next (unattached now) outside (rotates now),
-)
+-- so the members that were seen stood, and the family is turned
+pub rotated : (now : Moment) → AreThere a_naming (names (world begun)) turn.stood × IsTurned paths a_naming turn begun (over now)
+rotated now = family_turned paths a_naming turn begun (over now) (left now) (record {
+  made = made now;
+  journal = valid;
+  family = family;
+  no_source = family.apart;
+  rotation = is_one;
+  job = tt;
+  attached = unattached now;
+  outside = outside;
+  over = rotates now;
+})

@@ -1,7 +1,7 @@
 -- What the looks show of both logs.
-use Rattle.std.proofs.Common.{◌≡◌, ◌≢◌, inl, inr, ℕ, zero, suc, ◌+◌, refl, sym, ap, subst, arith, Some, None, List, [], ◌∷◌, get_or, Contains, codes}
+use Rattle.std.proofs.Common.{◌≡◌, ◌≢◌, inl, inr, ℕ, zero, suc, ◌+◌, refl, sym, ap, subst, arith, true, Option, Some, None, List, [], ◌∷◌, get_or, Contains, codes}
 use Rattle.std.specs.Prelude.{decimal}
-use Rattle.std.specs.List.Sorted.{IsStrictlyIncreasing}
+use Rattle.std.specs.List.Sorted.{IsStrictlySortedBy, IsStrictlyIncreasing}
 use Rattle.lr_rules.specs.declared.clock.Clock.{Clock}
 use Rattle.lr_rules.specs.declared.path.Path.{Path}
 use Rattle.lr_host.specs.declared.thing.Kind.TheVariants as kind
@@ -12,15 +12,26 @@ use Rattle.lr_host.proofs.Lists.{in_from, in_to}
 use Rattle.lr_host.specs.Looks.{Sees, IsFile}
 use Rattle.lr_host.specs.Quiet.{AreQuiet}
 use Rattle.lr_family.specs.Named.{member_name}
+use Rattle.lr_family.specs.declared.place.Place.TheVariants as at
 use Rattle.lr_family.specs.declared.stand.Member.{Member}
 use Rattle.lr_family.specs.Spots.{path_at}
-use Rattle.lr_family.specs.Stands.{number_in}
+use Rattle.lr_family.specs.Stands.{AreNewestFirst}
+use Rattle.lr_family.specs.Places.{IsPlaceOf, AreNamed}
 use Rattle.lr_family.proofs.Unique.{named_same}
 use Rattle.lr_chain.specs.Rotation.{places_of}
-use Rattle.lr_rotations.specs.Members.{HasName}
-use Rattle.lr_rotations.specs.Shown.{SawDir, unlisted, Shown, SawMembers}
+use Rattle.lr_laws_family.specs.Numbered.{HasName}
+use Rattle.std.proofs.lemmas.List.Elements.{All-cons, All-nil}
+use Rattle.lr_rules.specs.declared.rule.Format.{Format}
+use Rattle.lr_rules.specs.declared.rule.Naming.{Naming}
+use Rattle.lr_rules.specs.Limits.{is_format, or_none}
+use Rattle.lr_laws_family.specs.Members.{IsNoMember, IsFamily}
+use Rattle.lr_laws_family.specs.Shown as family
+use Rattle.lr_laws_family.specs.Shown.{WasSeen}
+use Rattle.lr_rotations.specs.Members as places
+use Rattle.lr_rotations.specs.Shown.{SawDir, unlisted, Shown}
+use Rattle.lr_rotations.proofs.Sights.{shown_so}
 use Rattle.lr_targets.specs.Target.{IsGiven}
-use Rattle.lr_rotations.specs.Weave.{Among}
+use Rattle.lr_laws_family.specs.Weave.{Among}
 use Rattle.lr_targets.proofs.Given.{literal_gives}
 use Rattle.lr_mixed.specs.Seen.{AreLogsSeen}
 use Rattle.lr_examples.specs.Logs.{rule_of, rules, a_log, a_first, a_second, a_count, a_naming, a_stand, a_listed, a_target, b_log, b_count, b_naming, b_stand, b_listed, b_target, file, directory, looks}
@@ -83,14 +94,25 @@ a_shown = record {
 a_dir : SawDir (codes "/v") looks
 a_dir = (directory, refl, inr (inr (inl refl)))
 
--- a look saw what is known of the member
-abbrev IsSightOf : Member → Type 0
-IsSightOf m = IsIn (entry.Look (path_at a_naming (number_in m.place)) (Some m.seen)) looks
+-- each member has the path of its place, and was seen
+abbrev one_at : Path → ℕ → Member
+one_at path place = record { path = path; place = at.Number place; seen = file }
 
-a_sights : SawMembers a_naming a_stand.members looks
-a_sights m (inl e) = subst IsSightOf e first_look
-a_sights m (inr (inl e)) = subst IsSightOf e second_look
-a_sights m (inr (inr none)) = absurd none
+abbrev IsNamed : Member → Type 0
+IsNamed m = IsPlaceOf a_naming m.place m.path
+
+a_named_all : AreNamed a_naming a_stand.members
+a_named_all = All-cons IsNamed (one_at a_first 0) (one_at a_second 1 ∷ []) (refl, record { bound = omega arith; named = sym first_path })
+    (All-cons IsNamed (one_at a_second 1) [] (refl, record { bound = omega arith; named = sym second_path }) (All-nil IsNamed))
+
+a_newest_first : AreNewestFirst a_stand.members
+unfolding IsStrictlySortedBy
+a_newest_first = ((refl, tt), (tt, tt))
+
+pub a_members : family.Shown a_naming a_stand.members looks
+a_members = shown_so a_naming refl a_stand.members looks a_named_all a_shown a_newest_first
+    (All-cons (WasSeen looks) (one_at a_first 0) (one_at a_second 1 ∷ []) (refl, inr (inr (inr (inr (inl refl)))))
+    (All-cons (WasSeen looks) (one_at a_second 1) [] (refl, inr (inr (inr (inr (inr (inl refl)))))) (All-nil (WasSeen looks))))
 
 a_given : IsGiven rules.sets looks a_log a_naming a_count None
 a_given = record { rule = rule_of 1 a_log a_count; word = a_log; among = (0, omega arith, refl); has = (0, omega arith, refl); given = record { before = []; part = []; after = looks; joined = refl; is = literal_gives rules.sets (rule_of 1 a_log a_count) a_log a_log [] refl refl }; naming_is = refl; count_is = refl; way_is = ((λ e. refl), (λ e. refl)) }
@@ -124,6 +146,13 @@ b_shown = record {
   others = λ place has out. unlisted b_listed (inr (inr (inr (inr (inr (inr (inr (inl refl)))))))) (λ c. b_unlisted place (in_from (member_name b_naming (1 + place)) b_listed c));
 }
 
+none_newest_first : AreNewestFirst b_stand.members
+unfolding IsStrictlySortedBy
+none_newest_first = tt
+
+b_members : family.Shown b_naming b_stand.members looks
+b_members = shown_so b_naming refl b_stand.members looks (All-nil (λ (m : Member). IsPlaceOf b_naming m.place m.path)) b_shown none_newest_first (All-nil (WasSeen looks))
+
 b_dir : SawDir (codes "/w") looks
 b_dir = (directory, refl, inr (inr (inr (inr (inr (inr (inl refl)))))))
 
@@ -132,11 +161,22 @@ b_given = record { rule = rule_of 2 b_log b_count; word = b_log; among = (1, ome
 
 -- ---- both
 
+-- a numbered family is one
+pub family_of : (log : Path) (n : Naming) → places.IsFamily log n → IsFamily log n
+family_of log n h = record { kin = h.kin; format = subst (λ (d : Option Format). or_none is_format d ≡ true) (sym h.numbered) refl; dir = h.dir; apart = no_member }
+  where
+    clash : (d : Option Format) (f : Format) → d ≡ None → d ≡ Some f → ⊥
+    clash d f a b = cc
+
+    no_member : IsNoMember n log
+    no_member (inl m) = h.kin.apart m.0 m.1.0 m.1.1
+    no_member (inr d) = absurd (clash n.dated d.2.format h.numbered d.2.dated)
+
 pub both_seen : (clock : Clock) → AreLogsSeen rules clock looks (a_target ∷ b_target ∷ [])
 unfolding a_given b_given
 both_seen clock = (
-  record { given = a_given; log_seen = a_seen; shows = record { family = a_family; seen = a_shown; sights = a_sights; from_is = refl; low = λ high. absurd (cc); ready = a_is_ready }; maxage_is = refl; dir = a_dir; job = λ job is. absurd (cc) },
-  (record { given = b_given; log_seen = b_seen; shows = record { family = b_family; seen = b_shown; sights = λ m none. absurd none; from_is = refl; low = λ high. absurd (cc); ready = b_is_ready }; maxage_is = refl; dir = b_dir; job = λ job is. absurd (cc) }, tt),
+  record { given = a_given; log_seen = a_seen; family = family_of a_log a_naming a_family; seen = a_members; shows = record { from_is = refl; low = λ high. absurd (cc); ready = a_is_ready }; maxage_is = refl; dir = a_dir; job = λ job is. absurd (cc) },
+  (record { given = b_given; log_seen = b_seen; family = family_of b_log b_naming b_family; seen = b_members; shows = record { from_is = refl; low = λ high. absurd (cc); ready = b_is_ready }; maxage_is = refl; dir = b_dir; job = λ job is. absurd (cc) }, tt),
 )
 
 pub looks_quiet : AreQuiet looks

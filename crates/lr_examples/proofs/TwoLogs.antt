@@ -3,7 +3,7 @@ use Rattle.std.proofs.Common.{◌≡◌, inl, inr, refl, sym, ◌∙◌, ap, sub
 use Rattle.lr_rules.specs.declared.clock.Clock.{Clock}
 use Rattle.lr_host.specs.declared.entry.Entry.{Entry}
 use Rattle.lr_host.specs.declared.entry.Entry.TheVariants.{Starts, Ends, Look, Renames, Unlinks}
-use Rattle.lr_rotations.specs.Weave.{IsFirstOf}
+use Rattle.lr_laws_family.specs.Weave.{IsFirstOf}
 use Rattle.lr_mixed.specs.AllTurns.{AllTurnsBy, AllTurnedBy, started, IsWholeRunBy}
 use Rattle.lr_examples.specs.Logs.{state, rules, directory, looks, a_log, a_first, a_second, a_third, a_target, b_target}
 use Rattle.lr_examples.specs.TwoLogs.{a_steps, b_steps, steps, saves, two_logs_run}

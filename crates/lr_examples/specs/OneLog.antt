@@ -6,11 +6,17 @@ use Rattle.lr_host.specs.declared.entry.Entry.TheVariants as entry
 use Rattle.lr_host.specs.declared.journal.Opening.{Opening}
 use Rattle.lr_host.specs.declared.journal.OpenFile.{OpenFile}
 use Rattle.lr_host.specs.World.{Past, Opens, ◌▸◌}
-use Rattle.lr_examples.specs.Logs.{state, part, a_log, a_first, a_second, a_third, b_log, b_first, rules, file, directory, a_listed, b_listed}
+use Rattle.lr_laws_family.specs.Numbered.{numbered}
+use Rattle.lr_laws_family.specs.Rotation.{Rotation, Rename}
+use Rattle.lr_examples.specs.Logs.{state, part, a_naming, a_count, a_from, a_stand, a_log, a_first, a_second, a_third, b_log, b_first, rules, file, directory, a_listed, b_listed}
 
 -- the paths that the tool changes besides the log's and its members'
 abbrev pub paths : List Path
 paths = state ∷ part ∷ b_log ∷ b_first ∷ []
+
+-- the rotation of `a.log`, by its members' places
+abbrev pub turn : Rotation
+turn = numbered a_naming a_count a_from a_stand.members a_log a_log Rename
 
 -- a synced file of one byte
 abbrev pub file_of : List ℕ → OpenFile

@@ -33,7 +33,7 @@ use Rattle.lr_plan.specs.Steps.{state_steps, steps_of_set}
 use Rattle.lr_targets.specs.AllTurns.{IsOfSome, IsOfState}
 use Rattle.lr_targets.specs.Target.{Target}
 use Rattle.lr_dated_run.specs.Own.{HaveAnyNames}
-use Rattle.lr_rotations.proofs.Weaving.{each_in}
+use Rattle.lr_laws_family.proofs.Weaving.{each_in}
 use Rattle.lr_weave.specs.Parts.{ArePlanned}
 use Rattle.lr_weave.proofs.Parting.{done_some}
 use Rattle.lr_weave.proofs.Planning.{ready_planned}
@@ -51,8 +51,7 @@ use Rattle.lr_run.specs.Runs.{Inside, Looked, Worked, plan_in, logs_in, dirs_in,
 use Rattle.lr_run.proofs.Called.{nothing_stops}
 use Rattle.lr_run.proofs.Made.{are_made}
 use Rattle.lr_run.proofs.Renewing.{behind_quiet, between_made, worked_may}
-use Rattle.lr_run.proofs.Rotating.{run_rotated, run_dated_rotated}
-use Rattle.lr_run.proofs.Turning.{run_turned, run_dated_turned}
+use Rattle.lr_run.proofs.Turning.{run_turned}
 use Rattle.lr_run.proofs.Seeing.{seen_so}
 use Rattle.lr_run.proofs.Shape.{sees_quiet, seen_quiet, looked_parts, in_parts, all_of_state}
 use Rattle.lr_fulfilled.specs.Acts.{is_act, AreActsOf}
@@ -219,10 +218,7 @@ module _ (state : Path) (asked : Asked) (clock : Clock) (rules : Rules) (own : L
     dirs = w.acted.dirs;
     dirs_are = dirs_synced;
     acts = run_acts;
-    rotated = λ t one by_rename numbered. run_rotated state asked clock rules own p q es reads acts made journal joined (sights_quiet reads sights) i nothing.met t one by_rename numbered;
-    dated_rotated = λ t one by_rename dated. run_dated_rotated state asked clock rules own p q es reads acts made journal joined (sights_quiet reads sights) i nothing.met t one by_rename dated;
-    turned = λ t one job is numbered. run_turned state asked clock rules own p q es reads acts made journal joined (sights_quiet reads sights) i nothing.met t one job is numbered;
-    dated_turned = λ t one job is dated. run_dated_turned state asked clock rules own p q es reads acts made journal joined (sights_quiet reads sights) i nothing.met t one job is dated;
+    rotated = λ t one. run_turned state asked clock rules own p q es reads acts made journal joined (sights_quiet reads sights) i nothing.met t one;
     anew = λ x one. ⊎_elim (λ there. there) (λ s. absurd (nothing_stops rules.sets l.sets l.remembered.table clock asked told s.0 x met s.1 s.2)) (anew_at x one);
     written = written;
     kept = λ f kept free x is. others_left x (kept_elsewhere state rules.sets l.sets l.of_looks l.looks clock decide f x l.shown kept free is);

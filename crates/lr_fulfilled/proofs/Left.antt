@@ -18,9 +18,10 @@ use Rattle.lr_host.proofs.Quiet.{looked_names, before_last, wrote_same}
 use Rattle.lr_laws.specs.Follow.{changed_paths}
 use Rattle.lr_durable.specs.Renewing.{IsAsideOf}
 use Rattle.lr_durable.proofs.Parts.{named_drawn, named_once}
-use Rattle.lr_rotations.specs.Rotated.{fed, IsOn, IsAtNone, IsNeverAt, not_here, nor_then}
-use Rattle.lr_rotations.proofs.Fed.{IsTurnOrMake, fed_bytes}
-use Rattle.lr_rotations.proofs.OrMade.{Spares, spared_names, spared_or_made}
+use Rattle.lr_laws_family.specs.Moments.{fed}
+use Rattle.lr_laws_family.specs.Beside.{IsOn, IsAtNone, IsNeverAt, not_here, nor_then}
+use Rattle.lr_laws_family.proofs.Fed.{IsTurnOrMake, fed_bytes}
+use Rattle.lr_laws_family.proofs.OrMade.{Spares, spared_names, spared_or_made}
 use Rattle.lr_fulfilled.specs.Left.{IsLeftAlone}
 
 -- ---- what spares the path

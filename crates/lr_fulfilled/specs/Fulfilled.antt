@@ -1,5 +1,5 @@
 -- What a run makes of its plan, where nothing failed.
-use Rattle.std.specs.Prelude.{◌≡◌, ◌≢◌, List, ◌++◌, filter, Some, None, IsSome}
+use Rattle.std.specs.Prelude.{◌≡◌, ◌≢◌, List, ◌++◌, filter}
 use Rattle.lr_rules.specs.declared.clock.Clock.{Clock}
 use Rattle.lr_rules.specs.declared.fault.Fault.{Fault}
 use Rattle.lr_rules.specs.declared.fault.Fault.TheVariants as fault
@@ -12,7 +12,6 @@ use Rattle.lr_host.specs.declared.thing.Thing.TheVariants as thing
 use Rattle.lr_host.specs.Lists.{IsIn}
 use Rattle.lr_host.specs.Quiet.{AttachedOnlySince}
 use Rattle.lr_host.specs.World.{Past, world, names}
-use Rattle.lr_copy.specs.declared.job.Job.{Job}
 use Rattle.lr_durable.specs.Renewing.{HasText}
 use Rattle.lr_acts.specs.Making.{all_of_sets}
 use Rattle.lr_acts.specs.Named.{OneCreates}
@@ -23,8 +22,7 @@ use Rattle.lr_plan.specs.Steps.{steps_of_plan, state_steps}
 use Rattle.lr_targets.specs.AllTurns.{IsItsDir}
 use Rattle.lr_targets.specs.Target.{Target}
 use Rattle.lr_run.specs.Met.{MetNothing}
-use Rattle.lr_run.specs.Rotated.{rotated_in, IsRotatedAmong, IsDatedRotatedAmong}
-use Rattle.lr_run.specs.Turned.{IsTurnedAmong, IsDatedTurnedAmong}
+use Rattle.lr_run.specs.Rotated.{rotated_in, IsTurnedAmong}
 use Rattle.lr_run.specs.Runs.{Looked, logs_in, dirs_in, plan_in, state_text}
 use Rattle.lr_writing.specs.Directories.{AreDirectoriesOf}
 use Rattle.lr_synced.specs.Synced.{all_changed_of}
@@ -60,12 +58,8 @@ pub record IsFulfilled (state : Path) (rules : List Rule) (clock : Clock) (asked
   pub dirs : List Path
   pub dirs_are : AreDirectoriesOf (all_changed_of (plan_in state rules ts l clock asked).sets ++ dirs_in (plan_in state rules ts l clock asked)) dirs
   pub acts : AreActsOf (steps_in state rules ts l clock asked dirs) (filter is_act all)
-  -- each log of the plan that is renamed was rotated, file by file: of numbered members, and of dated ones
-  pub rotated : (t : Target) → IsIn t (rotated_in state rules ts l clock asked) → t.job ≡ None → t.naming.dated ≡ None → IsRotatedAmong state (rotated_in state rules ts l clock asked) before after t
-  pub dated_rotated : (t : Target) → IsIn t (rotated_in state rules ts l clock asked) → t.job ≡ None → IsSome t.naming.dated → IsDatedRotatedAmong state (rotated_in state rules ts l clock asked) clock before after t
-  -- each that is copied was turned by its copy
-  pub turned : (t : Target) → IsIn t (rotated_in state rules ts l clock asked) → (job : Job) → t.job ≡ Some job → t.naming.dated ≡ None → IsTurnedAmong state (rotated_in state rules ts l clock asked) before after t job
-  pub dated_turned : (t : Target) → IsIn t (rotated_in state rules ts l clock asked) → (job : Job) → t.job ≡ Some job → IsSome t.naming.dated → IsDatedTurnedAmong state (rotated_in state rules ts l clock asked) clock before after t job
+  -- the family of each log of the plan was turned, file by file, by the log's rename or by a copy
+  pub rotated : (t : Target) → IsIn t (rotated_in state rules ts l clock asked) → IsTurnedAmong state (rotated_in state rules ts l clock asked) before after t
   -- each log that a step of the plan makes anew is named behind the run: it was made, or something had its path
   pub anew : (x : Path) → OneCreates x (all_of_sets (steps_of_plan (plan_in state rules ts l clock asked))) → names (world after) x ≢ thing.Nothing
   -- the state tells of each of the logs, where no writer was attached to its path or to that of its part file

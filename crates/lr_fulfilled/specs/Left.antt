@@ -5,7 +5,7 @@ use Rattle.lr_host.specs.declared.thing.Thing.TheVariants as thing
 use Rattle.lr_host.specs.Quiet.{AttachedOnlySince}
 use Rattle.lr_host.specs.World.{Past, world, names}
 use Rattle.lr_durable.specs.StateWhole.{StandsAs}
-use Rattle.lr_rotations.specs.Rotated.{fed}
+use Rattle.lr_laws_family.specs.Moments.{fed}
 
 -- The tool left the path alone between the two pasts.
 pub record IsLeftAlone (before after : Past) (x : Path) : Type 0 where

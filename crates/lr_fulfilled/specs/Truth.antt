@@ -6,7 +6,7 @@ use Rattle.lr_rules.specs.declared.rules.Rules.{Rules}
 use Rattle.lr_host.specs.declared.entry.Entry.{Entry}
 use Rattle.lr_host.specs.declared.entry.Entry.TheVariants.{Starts}
 use Rattle.lr_host.specs.World.{Past, ◌▸◌}
-use Rattle.lr_rotations.specs.Rotated.{IsBehind}
+use Rattle.lr_laws_family.specs.Moments.{IsBehind}
 use Rattle.lr_run.specs.Runs.{Looked}
 use Rattle.lr_stood.specs.True.{AreTrue}
 

@@ -21,7 +21,6 @@ use Rattle.lr_looks.proofs.Known.{read_last}
 use Rattle.lr_rules.specs.declared.fault.Fault.{Fault}
 use Rattle.lr_rules.specs.Limits.{is_format, or_none}
 use Rattle.lr_host.specs.Told.{Counts, NoneFell, Rose}
-
 use Rattle.lr_looks.specs.declared.found.Found.{Found}
 use Rattle.lr_host.specs.Counted.{AddsFaults}
 use Rattle.lr_host.proofs.Counts.{free_none, adds_free, adds_call}
@@ -118,7 +117,7 @@ some_told (Err x) known f s l = left_as l (λ ts h. record {
 
 pub stop_counted : {T E : Type 0} (r : Result T E) (why : StandStop) (faults all : List Fault) (a b : Counts) → (IsFailedCall why → Rose a.faults b.faults) → NoneFell a b → OnOk r (all ≡ faults ++ stop_fault why) → OnOk r (AddsFaults faults all a b)
 stop_counted (Ok x) (stop.Call kind path) faults all a b rose le e = adds_call faults all kind path a b e (rose (record {})) le
-stop_counted (Ok x) (stop.NotFile path) faults all a b rose le e = adds_free faults all (stop_fault (stop.NotFile path)) a b e (record { calls = refl; scripts = refl; no_out = ((λ h. h), tt) }) le
+stop_counted (Ok x) (stop.NotFile path) faults all a b rose le e = adds_free faults all (stop_fault (stop.NotFile path)) a b e (record { calls = refl; scripts = refl; none_around = ((λ h. h), tt) }) le
 stop_counted (Ok x) stop.Memory faults all a b rose le e = adds_free faults all [] a b e free_none le
 stop_counted (Err x) why faults all a b rose le e = tt
 

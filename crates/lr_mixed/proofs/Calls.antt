@@ -25,8 +25,8 @@ use Rattle.lr_dated_run.specs.Calls.{renamed_calls, copied_calls, removal_calls,
 use Rattle.lr_dated_run.specs.Own.{HasDatedNames, all_members}
 use Rattle.lr_dated_run.proofs.CallsFit.{copy_paths, renames_fit, copies_fit}
 use Rattle.lr_dated_run.proofs.Own.{retire_are}
-use Rattle.lr_mixed.specs.Seen.{IsDatedSeen, IsLogSeen}
-use Rattle.lr_mixed.proofs.Seen.{numbered_seen, dated_seen, dated_names}
+use Rattle.lr_mixed.specs.Seen.{IsLogSeen}
+use Rattle.lr_mixed.proofs.Seen.{numbered_seen, dated_names}
 
 -- ---- the calls of a dated rotation
 
@@ -59,7 +59,7 @@ module _ (rules : Rules) (clock : Clock) (looks : List Entry) (t : Target) (l : 
       go None none = seen_paths rules clock.now.seconds looks t job (numbered_seen rules clock looks t l none) is
       go (Some format) dated =
           let h = dated_names rules clock looks t format l dated in
-          copy_paths l.given.rule job t.log t.naming t.ready.target h.seconds h.ready.serial looks l.given.naming_is (dated_job job is) (dated_seen rules clock looks t format l dated).family h.ready.target_is
+          copy_paths l.given.rule job t.log t.naming t.ready.target h.seconds h.ready.serial looks l.given.naming_is (dated_job job is) l.family h.ready.target_is
 
 module _ (rules : Rules) (clock : Clock) (t : Target) (p q : Past) (es : List Entry) (journal : IsJournal p) (m : Made p es q) (quiet : AreQuiet (reverse es)) (l : IsLogSeen rules clock (reverse es) t) where
   still : ChangeNothing es
@@ -68,9 +68,6 @@ module _ (rules : Rules) (clock : Clock) (t : Target) (p q : Past) (es : List En
   dated_fits : (format : Format) → t.naming.dated ≡ Some format → FitCalls (names (world q)) (calls_of t)
   dated_fits format dated = go t.job refl
     where
-      d : IsDatedSeen l.given.rule.maxage clock (reverse es) t
-      d = dated_seen rules clock (reverse es) t format l dated
-
       h : HasDatedNames t
       h = dated_names rules clock (reverse es) t format l dated
 
@@ -79,9 +76,9 @@ module _ (rules : Rules) (clock : Clock) (t : Target) (p q : Past) (es : List En
 
       go : (j : Option Job) → t.job ≡ j → FitCalls (names (world q)) (calls_of t)
       go None none = subst (FitCalls (names (world q))) (sym (renamed_are t h none))
-          (renames_fit t.ready.dir t.log t.naming t.count h.maxage t.stand.members t.ready.target h.now h.seconds h.ready.serial p q es d.family journal m still (saw_one t.log (reverse es) l.log_seen) (dir_by None none) d.seen h.ready.next h.ready.target_is)
+          (renames_fit t.ready.dir t.log t.naming t.count h.maxage t.stand.members t.ready.target h.now h.seconds h.ready.serial p q es l.family journal m still (saw_one t.log (reverse es) l.log_seen) (dir_by None none) l.seen h.ready.next h.ready.target_is)
       go (Some job) is = subst (FitCalls (names (world q))) (sym (copied_are t h job is))
-          (copies_fit l.given.rule t.ready.dir job t.log t.naming t.count h.maxage t.stand.members t.ready.target h.now h.seconds h.ready.serial p q es l.given.naming_is (dated_job rules clock (reverse es) t l job is) d.family journal m still (saw_one t.log (reverse es) l.log_seen) (dir_by (Some job) is) d.seen h.ready.next h.ready.target_is)
+          (copies_fit l.given.rule t.ready.dir job t.log t.naming t.count h.maxage t.stand.members t.ready.target h.now h.seconds h.ready.serial p q es l.given.naming_is (dated_job rules clock (reverse es) t l job is) l.family journal m still (saw_one t.log (reverse es) l.log_seen) (dir_by (Some job) is) l.seen h.ready.next h.ready.target_is)
 
   pub log_fits : FitCalls (names (world q)) (calls_of t)
   log_fits = go t.naming.dated refl

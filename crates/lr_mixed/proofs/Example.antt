@@ -17,13 +17,13 @@ use Rattle.lr_host.specs.Looks.{Sees, IsFile}
 use Rattle.lr_host.proofs.Lists.{in_from}
 use Rattle.lr_family.specs.Kin.{IsKin}
 use Rattle.lr_family.specs.Stands.{AreNewestFirst}
-use Rattle.lr_rotations.specs.Weave.{Among, none, own, FirstWoven}
+use Rattle.lr_laws_family.specs.Weave.{Among, none, own, FirstWoven}
 use Rattle.lr_targets.specs.AllTurns.{StandsBetween}
 use Rattle.lr_targets.specs.Target.{IsGiven, Target, rotation_of}
 use Rattle.lr_targets.proofs.Given.{literal_gives}
-use Rattle.lr_dated_seen.specs.Family.{IsDatedFamily}
-use Rattle.lr_dated_seen.specs.Shown.{unlisted, ShownDated}
-use Rattle.lr_dated_seen.proofs.Names.{log_apart}
+use Rattle.lr_laws_family.specs.Members.{IsFamily}
+use Rattle.lr_laws_family.specs.Shown.{unlisted, Shown}
+use Rattle.lr_laws_family.proofs.DatedNames.{no_member}
 use Rattle.lr_mixed.specs.AllTurns.{AllTurnsBy}
 use Rattle.lr_mixed.specs.Example.{log, format, rule, naming, file, directory, stand, target, looks, turn}
 use Rattle.lr_mixed.specs.Seen.{IsLogSeen}
@@ -62,19 +62,19 @@ rules = record { sets = rule ∷ []; limits = within_limits }
 kin : IsKin log naming
 kin = record { dir = omega arith; size = omega arith; base = refl; ext = refl; apart = λ e. absurd (cc) }
 
-family : IsDatedFamily log naming
-family = record { dated = refl; format = format_good; kin = kin; dir = path_w; apart = log_apart rule log format_good kin }
+family : IsFamily log naming
+family = record { kin = kin; format = format_good; dir = path_w; apart = no_member rule log format_good kin }
 
 none_sorted : AreNewestFirst []
 unfolding IsStrictlySortedBy
 none_sorted = tt
 
-shown : ShownDated naming stand.members looks
+shown : Shown naming stand.members looks
 shown = record {
   newest_first = none_sorted;
   named = λ k d lt. absurd (omega arith);
   files = λ k d lt. absurd (omega arith);
-  others = λ x seconds serial is free. unlisted [] (inr (inr (inl refl))) (λ name c. absurd (in_from name [] c));
+  others = λ x is free. unlisted [] (inr (inr (inl refl))) (λ name c. absurd (in_from name [] c));
 }
 
 given : IsGiven rules.sets looks log naming (Keep 1) None
@@ -85,7 +85,7 @@ log_seen = record { before = []; part = entry.Look log (Some file) ∷ []; after
 
 seen : (clock : Clock) → IsLogSeen rules clock looks (target clock)
 unfolding given
-seen clock = record { given = given; log_seen = log_seen; shows = record { family = family; seen = shown; free = refl; ready = refl }; maxage_is = refl; dir = (directory, refl, inr (inl refl)); job = λ job is. absurd (cc) }
+seen clock = record { given = given; family = family; log_seen = log_seen; seen = shown; shows = record { free = refl; ready = refl }; maxage_is = refl; dir = (directory, refl, inr (inl refl)); job = λ job is. absurd (cc) }
 
 turns : (state : Path) (clock : Clock) → AllTurnsBy state clock rules (looks ++ turn clock ∷ [])
 turns state clock = record {

@@ -1,5 +1,6 @@
 pub mod Calls
 pub mod Example
+pub mod Plan
 pub mod Safety
 pub mod Seen
 pub mod Shapes

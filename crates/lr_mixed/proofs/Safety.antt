@@ -37,18 +37,19 @@ use Rattle.lr_dated.specs.Steps.{dated_rotation}
 use Rattle.lr_dated.proofs.Moments.{for_quiet}
 use Rattle.lr_dated_chain.specs.Next.{IsNext}
 use Rattle.lr_dated_chain.specs.Ready.{all_of}
-use Rattle.lr_rotations.specs.Weave.{Among, FirstWoven}
+use Rattle.lr_laws_family.specs.Weave.{Among, FirstWoven}
 use Rattle.lr_rotations.proofs.Moments.{saw_one, saw_file}
 use Rattle.lr_rotations.proofs.Over.{first_aside}
-use Rattle.lr_rotations.proofs.Weaving.{weave_as, IsApart, IsApartOrMakes, apart_aside}
+use Rattle.lr_laws_family.proofs.Weaving.{weave_as}
+use Rattle.lr_rotations.proofs.Weaving.{IsApart, IsApartOrMakes, apart_aside}
 use Rattle.lr_targets.specs.AllTurns.{IsOfState, IsOfSome, StandsBetween}
 use Rattle.lr_targets.specs.Target.{Target, rotation_of}
 use Rattle.lr_targets.proofs.Given.{journal_before, gives, no_meet, naming_same, no_copy, by_rule}
 use Rattle.lr_targets.proofs.LeftAlone.{apart_left}
 use Rattle.lr_targets.proofs.SeenFits.{has_dir}
 use Rattle.lr_targets.proofs.Safety.{Here, state_apart, find, own_safe, Looked, looked as looked_at, begun, unbegun_safe}
-use Rattle.lr_dated_seen.specs.Family.{IsDatedFamily}
-use Rattle.lr_dated_seen.specs.Shown.{SawFile, ShownDated}
+use Rattle.lr_laws_family.specs.Members.{IsFamily}
+use Rattle.lr_laws_family.specs.Shown.{SawFile, Shown}
 use Rattle.lr_dated_run.specs.Beside.{LiesBeside, IsBesideSet}
 use Rattle.lr_dated_run.specs.Own.{HasDatedNames, all_members}
 use Rattle.lr_dated_run.proofs.Mixed.{any_beside, between_beside}
@@ -56,8 +57,8 @@ use Rattle.lr_dated_run.proofs.Own.{rotation_is}
 use Rattle.lr_dated_run.proofs.Safe.{beside_safe}
 use Rattle.lr_dated_run.proofs.Weaving.{apart_of, beside_apart}
 use Rattle.lr_mixed.specs.AllTurns.{AllTurnsBy, MayTurnAllBy, not_yet, started, IsWholeRunBy}
-use Rattle.lr_mixed.specs.Seen.{IsDatedSeen, IsLogSeen, AreLogsSeen}
-use Rattle.lr_mixed.proofs.Seen.{numbered_seen, dated_seen, dated_names, any_names, have_names, log_among}
+use Rattle.lr_mixed.specs.Seen.{IsLogSeen, AreLogsSeen}
+use Rattle.lr_mixed.proofs.Seen.{numbered_seen, dated_names, any_names, have_names, log_among}
 
 -- ---- behind the looks
 
@@ -95,9 +96,6 @@ module _ (clock : Clock) (s : LogSet) (state : Path) (rules : Rules) (u v : Past
   -- ---- the set's own log, where it is dated
 
   module _ (t : Target) (l : IsLogSeen rules clock looks t) (format : Format) (is : t.naming.dated ≡ Some format) (same : t.log ≡ s.log) where
-    d : IsDatedSeen l.given.rule.maxage clock looks t
-    d = dated_seen rules clock looks t format l is
-
     abbrev h : HasDatedNames t
     h = dated_names rules clock looks t format l is
 
@@ -107,8 +105,8 @@ module _ (clock : Clock) (s : LogSet) (state : Path) (rules : Rules) (u v : Past
     naming : s.naming ≡ t.naming
     naming = own_naming t l same
 
-    family : IsDatedFamily s.log s.naming
-    family = subst (λ (x : Path). IsDatedFamily x s.naming) same (subst (λ (n : Naming). IsDatedFamily t.log n) (sym naming) d.family)
+    family : IsFamily s.log s.naming
+    family = subst (λ (x : Path). IsFamily x s.naming) same (subst (λ (n : Naming). IsFamily t.log n) (sym naming) l.family)
 
     rule : SomeRule (rules_of v) s.log (λ r. (r.count ≡ t.count) × (r.maxage ≡ maxage))
     rule = subst (λ (x : Path). SomeRule (rules_of v) x (λ r. (r.count ≡ t.count) × (r.maxage ≡ maxage))) same
@@ -121,7 +119,7 @@ module _ (clock : Clock) (s : LogSet) (state : Path) (rules : Rules) (u v : Past
     dated_safe : (acts : List Entry) (q : Past) → IsForwardFor clock s v → FirstWoven (IsBesideSet s) (rotation_of t) (filter is_change acts) → Made v (reverse acts) q → NoneAttached s q → IsSafe s q
     dated_safe acts q forward w mq none_q =
         beside_safe clock s t.count maxage t.stand.members t.ready.target h.ready.serial u v q looks acts family m quiet
-        (subst (λ (x : Path). SawFile x looks) same (saw_one t.log looks l.log_seen)) (subst (λ (n : Naming). ShownDated n t.stand.members looks) (sym naming) d.seen)
+        (subst (λ (x : Path). SawFile x looks) same (saw_one t.log looks l.log_seen)) (subst (λ (n : Naming). Shown n t.stand.members looks) (sym naming) l.seen)
         (journal_before u v (reverse looks) m here.journal) here.journal here.safe none_q here.not_begun forward here.now_is rule
         (subst (λ (n : Naming). IsNext t.stand.members (clock_seconds n.dated clock) h.ready.serial) (sym naming) h.ready.next)
         (subst (λ (n : Naming). IsDatedAt n (clock_seconds n.dated clock) h.ready.serial t.ready.target) (sym naming) h.ready.target_is)

@@ -1,5 +1,6 @@
 -- What the looks tell of one log, by its kind.
-use Rattle.std.proofs.Common.{◌≡◌, inl, inr, ℕ, refl, sym, subst, List, [], ◌∷◌, Option, Some, None}
+use Rattle.std.proofs.Common.{◌≡◌, inl, inr, refl, sym, subst, List, [], ◌∷◌, Option, Some, None}
+use Rattle.std.specs.Prelude.{IsSome}
 use Rattle.lr_rules.specs.declared.clock.Clock.{Clock}
 use Rattle.lr_rules.specs.declared.rule.Format.{Format}
 use Rattle.lr_rules.specs.declared.rules.Rules.{Rules}
@@ -18,26 +19,39 @@ use Rattle.lr_mixed.specs.Seen.{IsNumberedSeen, IsDatedSeen, IsSeenBy, IsLogSeen
 module _ (rules : Rules) (clock : Clock) (looks : List Entry) where
   -- what is known of a numbered log, in one
   pub numbered_seen : (t : Target) → IsLogSeen rules clock looks t → t.naming.dated ≡ None → IsSeen rules clock.now.seconds looks t
-  numbered_seen t l none = record { given = l.given; family = n.family; log_seen = l.log_seen; seen = n.seen; sights = n.sights; from_is = n.from_is; low = n.low; ready = n.ready; dir = l.dir; job = l.job }
+  numbered_seen t l none = record {
+    given = l.given;
+    family = record { numbered = none; kin = l.family.kin; dir = l.family.dir };
+    log_seen = l.log_seen;
+    seen = l.seen;
+    from_is = n.from_is;
+    low = n.low;
+    ready = n.ready;
+    dir = l.dir;
+    job = l.job;
+  }
     where
-      n : IsNumberedSeen l.given.rule.maxage clock.now.seconds looks t
-      n = subst (λ (d : Option Format). IsSeenBy d l.given.rule.maxage clock looks t) none l.shows
+      n : IsNumberedSeen l.given.rule.maxage clock.now.seconds t
+      n = subst (λ (d : Option Format). IsSeenBy d l.given.rule.maxage clock t) none l.shows
 
-  pub dated_seen : (t : Target) (format : Format) → (l : IsLogSeen rules clock looks t) → t.naming.dated ≡ Some format → IsDatedSeen l.given.rule.maxage clock looks t
-  dated_seen t format l is = subst (λ (d : Option Format). IsSeenBy d l.given.rule.maxage clock looks t) is l.shows
+  pub dated_seen : (t : Target) (format : Format) → (l : IsLogSeen rules clock looks t) → t.naming.dated ≡ Some format → IsDatedSeen l.given.rule.maxage clock t
+  dated_seen t format l is = subst (λ (d : Option Format). IsSeenBy d l.given.rule.maxage clock t) is l.shows
 
   -- the rotation of a dated log is ready
-  pub ready_of : (t : Target) (maxage : Option ℕ) → IsDatedSeen maxage clock looks t → IsDatedReady t.log t.naming t.count t.ready.make maxage clock.now.seconds (clock_seconds t.naming.dated clock) t.stand.members (with_dir None t.ready)
-  ready_of t maxage d = subst (λ (r : Ready). IsDatedReady t.log t.naming t.count t.ready.make maxage clock.now.seconds (clock_seconds t.naming.dated clock) t.stand.members r) (sym d.ready)
-      (ready_back t.log t.naming t.count t.ready.make maxage clock t.stand d.family.dated d.family.format d.seen.named d.free)
+  pub ready_of : (t : Target) (format : Format) → (l : IsLogSeen rules clock looks t) → t.naming.dated ≡ Some format
+      → IsDatedReady t.log t.naming t.count t.ready.make l.given.rule.maxage clock.now.seconds (clock_seconds t.naming.dated clock) t.stand.members (with_dir None t.ready)
+  ready_of t format l is =
+      let d = dated_seen t format l is in
+      subst (λ (r : Ready). IsDatedReady t.log t.naming t.count t.ready.make l.given.rule.maxage clock.now.seconds (clock_seconds t.naming.dated clock) t.stand.members r) (sym d.ready)
+      (ready_back t.log t.naming t.count t.ready.make l.given.rule.maxage clock t.stand (subst IsSome (sym is) refl) l.family.format l.seen.named d.free)
 
   abbrev pub dated_names : (t : Target) (format : Format) → IsLogSeen rules clock looks t → t.naming.dated ≡ Some format → HasDatedNames t
   dated_names t format l is = record {
-    members = (dated_seen t format l is).seen.named;
+    members = l.seen.named;
     maxage = l.given.rule.maxage;
     now = clock.now.seconds;
     seconds = clock_seconds t.naming.dated clock;
-    ready = ready_of t l.given.rule.maxage (dated_seen t format l is);
+    ready = ready_of t format l is;
     dir = has_dir t looks l.dir;
     job = λ job is_job. (l.job job is_job).0;
   }

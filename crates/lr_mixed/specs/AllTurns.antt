@@ -9,7 +9,7 @@ use Rattle.lr_host.specs.Lists.{IsIn}
 use Rattle.lr_host.specs.Quiet.{AreQuiet}
 use Rattle.lr_host.specs.Steps.{is_change}
 use Rattle.lr_host.specs.Told.{Each}
-use Rattle.lr_rotations.specs.Weave.{Weave, FirstWoven}
+use Rattle.lr_laws_family.specs.Weave.{Weave, FirstWoven}
 use Rattle.lr_targets.specs.AllTurns.{IsOfState, IsOfSome, StandsBetween}
 use Rattle.lr_targets.specs.Target.{Target, rotation_of}
 use Rattle.lr_mixed.specs.Seen.{AreLogsSeen}

@@ -2,7 +2,6 @@
 ghost use Rattle.std.specs.Prelude.{◌≡◌, ◌≢◌, ℤ, List, [], ◌∷◌, ◌++◌, reverse, Option, Some, None};
 ghost use Rattle.lr_rules.specs.declared.clock.Clock.{Clock};
 ghost use Rattle.lr_rules.specs.declared.path.Path.{Path};
-ghost use Rattle.lr_rules.specs.declared.rule.Format.{Format};
 ghost use Rattle.lr_rules.specs.declared.rules.Rules.{Rules};
 ghost use Rattle.lr_host.specs.declared.entry.Entry.{Entry};
 ghost use Rattle.lr_host.specs.declared.entry.Entry.TheVariants.{Starts};
@@ -19,17 +18,15 @@ ghost use Rattle.lr_copy.specs.declared.job.Job.{Job};
 ghost use Rattle.lr_copy.specs.Fits.{ArePaths};
 ghost use Rattle.lr_dated.specs.Forward.{IsForwardFor};
 ghost use Rattle.lr_dated.specs.Stays.{KeepsSafeWhere};
-ghost use Rattle.lr_dated_ready.specs.Ready.{dated_target};
 ghost use Rattle.lr_rotations.specs.Calls.{CanCalls};
-ghost use Rattle.lr_rotations.specs.Rotated.{RotatesAmong};
+ghost use Rattle.lr_laws_family.specs.Made.{RotatesAmong};
 ghost use Rattle.lr_targets.specs.AllTurns.{paths_beside};
+ghost use Rattle.lr_targets.specs.Rotation.{rotation_by};
 ghost use Rattle.lr_targets.specs.Calls.{calls_of};
 ghost use Rattle.lr_targets.specs.Target.{Target};
-ghost use Rattle.lr_dated_turned.specs.Rotated.{DatedRotatesAmong};
 ghost use Rattle.lr_dated_run.specs.Own.{HasAnyNames};
 ghost use Rattle.lr_mixed.specs.AllTurns.{AllTurnsBy, AllTurnedBy, IsWholeRunBy};
 ghost use Rattle.lr_mixed.specs.Example.{rule, looks, turn};
-ghost use Rattle.lr_mixed.specs.Rotated.{all_by};
 ghost use Rattle.lr_mixed.specs.Seen.{IsLogSeen};
 
 /// Over calls that leave the entries of such a run, as far as it came, each set stays safe of which no member's moment has
@@ -50,19 +47,13 @@ pub fn seen_log_can_be_rotated()
     ensures paths { (rules : Rules) (clock : Clock) (looks : List Entry) (t : Target) (job : Job) → IsLogSeen rules clock looks t → t.job ≡ Some job → ArePaths job }
 {}
 
-/// Where each log was rotated whole, the entries are, for each of them that isn't copied, the looks at it and its rotation,
-/// with others between on the paths of other logs and of the state, and the making of the log's own directory:
-/// `family_is_rotated` and `dated_family_is_rotated` say what becomes of its files. A dated log goes to the clock's stamp, and
-/// those go that the count and the age of its rule let go.
+/// Where each log was rotated whole, the entries are, for each of them that isn't copied, the looks at it and its rotation, as
+/// its plan has it, with others between on the paths of other logs and of the state, and the making of the log's own
+/// directory: `family_is_turned` says what becomes of its files.
 pub fn whole_run_rotates_all()
-    ensures numbered { (state : Path) (clock : Clock) (rules : Rules) (reads tail : List Entry) (t : AllTurnedBy state clock rules tail)
-        (x : Target) → AreQuiet reads → IsIn x t.turns.targets → x.job ≡ None → x.naming.dated ≡ None
-        → RotatesAmong (paths_beside state x t.turns.targets) x.log x.naming x.count x.from x.stand (reads ++ Starts state clock.now rules ∷ tail) }
-    ensures dated { (state : Path) (clock : Clock) (rules : Rules) (reads tail : List Entry) (t : AllTurnedBy state clock rules tail)
+    ensures { (state : Path) (clock : Clock) (rules : Rules) (reads tail : List Entry) (t : AllTurnedBy state clock rules tail)
         (x : Target) → AreQuiet reads → IsIn x t.turns.targets → x.job ≡ None
-        → (format : Format) → x.naming.dated ≡ Some format
-        → DatedRotatesAmong (paths_beside state x t.turns.targets) x.log x.naming x.count (dated_target x.naming clock x.stand.members)
-        (all_by x.naming x.maxage clock x.stand.members) x.stand.members (reads ++ Starts state clock.now rules ∷ tail) }
+        → RotatesAmong (paths_beside state x t.turns.targets) x.naming (rotation_by x) (reads ++ Starts state clock.now rules ∷ tail) }
 {}
 
 /// Each member of a set whose log the run doesn't rotate, numbered or dated, names what it named as the run began, however

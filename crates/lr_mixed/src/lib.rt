@@ -5,8 +5,10 @@
 #![tactic(auto)]
 
 mod laws;
+mod rotation;
 
 pub use laws::{
     all_logs_stay_safe, dated_log_turns, quiet_runs_are_such, seen_log_can_be_rotated, seen_names,
     sets_of_others_are_left, whole_run_rotates_all,
 };
+pub use rotation::{dated_plan_rotates, numbered_plan_rotates, plan_is_one};

@@ -19,13 +19,14 @@ use Rattle.lr_targets.specs.Apart.{HasNames}
 use Rattle.lr_rotations.specs.Shown.{SawDir}
 use Rattle.lr_targets.specs.Target.{Target, IsMissingDir, IsDirSeenBy, IsSeen}
 use Rattle.lr_rotations.proofs.Fitting.{first_named}
-use Rattle.lr_rotations.proofs.Moments.{SawFile, saw_one}
+use Rattle.lr_rotations.proofs.Moments.{saw_one}
+use Rattle.lr_laws_family.specs.Shown.{SawFile}
 use Rattle.lr_rotations.proofs.Paths.{path_parent}
 use Rattle.lr_targets.proofs.SeenFits.{seen_names}
-use Rattle.lr_dated_seen.proofs.Names.{stands_in}
+use Rattle.lr_laws_family.proofs.DatedNames.{stands_in}
 use Rattle.lr_chain.specs.Rotation.{places_of}
 use Rattle.lr_mixed.specs.Seen.{IsLogSeen}
-use Rattle.lr_mixed.proofs.Seen.{numbered_seen, dated_seen, ready_of}
+use Rattle.lr_mixed.proofs.Seen.{numbered_seen, ready_of}
 use Rattle.lr_placed.proofs.Dirs.{IsDirOfLog}
 use Rattle.lr_placed.proofs.Lasting.{Says}
 
@@ -43,9 +44,8 @@ numbers_dir rules clock looks t seen =
 
 days_dir : (rules : Rules) (clock : Clock) (looks : List Entry) (t : Target) (format : Format) → IsLogSeen rules clock looks t → t.naming.dated ≡ Some format → parent_of t.ready.target ≡ t.naming.dir
 days_dir rules clock looks t format l dated =
-    let d = dated_seen rules clock looks t format l dated in
-    let r = ready_of rules clock looks t l.given.rule.maxage d in
-    stands_in t.log t.naming _ r.serial t.ready.target d.family.kin d.family.format r.target_is d.family.dir
+    let r = ready_of rules clock looks t format l dated in
+    stands_in t.log t.naming _ r.serial t.ready.target l.family.kin l.family.format r.target_is l.family.dir
 
 target_dir : (rules : Rules) (clock : Clock) (looks : List Entry) (t : Target) → IsLogSeen rules clock looks t → parent_of t.ready.target ≡ t.naming.dir
 target_dir rules clock looks t l = go t.naming.dated refl

@@ -27,7 +27,8 @@ use Rattle.lr_family.specs.declared.stand.Member.{Member}
 use Rattle.lr_family.specs.Spots.{path_at}
 use Rattle.lr_family.specs.Stands.{number_in}
 use Rattle.lr_chain.specs.Rotation.{is_left, is_expired, goes, going}
-use Rattle.lr_rotations.specs.Members.{IsFamily, HasName, MayGo}
+use Rattle.lr_rotations.specs.Members.{IsFamily, MayGo}
+use Rattle.lr_laws_family.specs.Numbered.{HasName}
 use Rattle.lr_rotations.specs.Shown.{SawMembers}
 use Rattle.lr_rotations.proofs.Turning.{numbered, key_at}
 

@@ -17,7 +17,7 @@ use Rattle.lr_host.proofs.Each.{filter_reverse, none_passed}
 use Rattle.lr_host.proofs.Left.{changes_split, later_fit, still_step}
 use Rattle.lr_host.proofs.More.{IsMoreAt, wrote_names}
 use Rattle.lr_rotations.specs.Calls.{after_call, FitCalls, CanCalls}
-use Rattle.lr_rotations.proofs.Fed.{IsTurn}
+use Rattle.lr_laws_family.proofs.Fed.{IsTurn}
 
 -- ---- kinds
 

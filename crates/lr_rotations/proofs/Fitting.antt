@@ -23,7 +23,8 @@ use Rattle.lr_chain.proofs.Falling.{falls_all}
 use Rattle.lr_chain.proofs.Fitting.{rotation_fits}
 use Rattle.lr_chain.proofs.Kept.{kept_stay, kept_as}
 use Rattle.lr_chain.proofs.Retired.{every_retired}
-use Rattle.lr_rotations.specs.Members.{IsFamily, HasName, AreThere, HaveNext}
+use Rattle.lr_rotations.specs.Members.{IsFamily, AreThere}
+use Rattle.lr_laws_family.specs.Numbered.{HasName, HaveNext}
 use Rattle.lr_rotations.proofs.Paths.{path_same, path_other}
 
 pub after_one : (m : Names) (done : List Entry) (e : Entry) → names_after (names_after m (changes_of done)) (changes_of (e ∷ [])) ≡ names_after m (changes_of (e ∷ done))

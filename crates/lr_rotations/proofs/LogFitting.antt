@@ -16,10 +16,12 @@ use Rattle.lr_family.specs.Spots.{path_at}
 use Rattle.lr_family.proofs.Numbers.{Every}
 use Rattle.lr_chain.specs.Rotation.{rotation}
 use Rattle.lr_chain.specs.Standing.{AreGoing}
-use Rattle.lr_rotations.specs.Members.{IsFamily, HasName, IsNoMember, HaveNext}
-use Rattle.lr_rotations.proofs.FamilyRotated.{older, newer, turned_round, older_members, newer_members}
-use Rattle.lr_rotations.proofs.Members.{IsOfMembers, members_spare, spared_alone}
-use Rattle.lr_rotations.proofs.OrMade.{Spares}
+use Rattle.lr_rotations.specs.Members.{IsFamily, IsNoMember}
+use Rattle.lr_laws_family.specs.Numbered.{HasName, HaveNext}
+use Rattle.lr_rotations.proofs.Round.{older, newer, turned_round, older_members, newer_members}
+use Rattle.lr_rotations.proofs.Members.{IsOfMembers, members_spare}
+use Rattle.lr_laws_family.proofs.These.{spared_alone}
+use Rattle.lr_laws_family.proofs.OrMade.{Spares}
 use Rattle.lr_rotations.proofs.Paths.{path_other}
 
 -- it doesn't rename the log

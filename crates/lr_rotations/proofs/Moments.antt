@@ -23,14 +23,17 @@ use Rattle.lr_host.proofs.More.{file_more}
 use Rattle.lr_family.specs.Named.{member_name}
 use Rattle.lr_family.specs.Spots.{path_at}
 use Rattle.lr_host.specs.Looks.{Sees, IsFile}
-use Rattle.lr_rotations.specs.Members.{IsFamily, HasName, AreThere, IsNoMember, NoMemberAttached}
-use Rattle.lr_rotations.specs.Weave.{Among}
+use Rattle.lr_rotations.specs.Members.{IsFamily, AreThere, IsNoMember, NoMemberAttached}
+use Rattle.lr_laws_family.specs.Numbered.{HasName}
+use Rattle.lr_laws_family.specs.Weave.{Among}
 use Rattle.lr_host.specs.Lists.{IsIn}
 use Rattle.lr_host.proofs.Lists.{in_front, in_back, from_reverse}
-use Rattle.lr_host.specs.Quiet.{AreQuiet, ChangeNothing, Quiet, here, wrote, looked}
+use Rattle.lr_host.specs.Quiet.{AreQuiet, ChangeNothing, Quiet}
 use Rattle.lr_host.proofs.Quiet.{quiet_still, still_in_order, since_as, since_of, since_any, IsAny, quiet_more, quiet_same, moment}
 use Rattle.lr_host.proofs.Looked.{seen_file, seen_none, is_nothing}
 use Rattle.lr_rotations.proofs.Paths.{name_part, path_parent}
+use Rattle.lr_laws_family.specs.Shown.{SawFile}
+use Rattle.lr_laws_family.proofs.Stood.{quiet_journal}
 use Rattle.lr_rotations.specs.Shown.{Shown, IsUnseen, unlisted, gone, no_dir}
 use Rattle.lr_rotations.proofs.Turning.{numbered, key_at}
 
@@ -51,10 +54,6 @@ shown_in n places ts us more s = record {
   others = λ place i out. unseen_in n place ts us more (s.others place i out);
 }
 
--- a look at this path saw a file
-abbrev pub SawFile : Path → List Entry → Type 0
-SawFile x ts = (seen : Seen) × (seen.kind ≡ kind.File) × IsIn (entry.Look x (Some seen)) ts
-
 pub saw_one : (x : Path) (ts : List Entry) → Among (Sees x IsFile) ts → SawFile x ts
 saw_one x ts a = go a.is.seen a.is.is (in_among (entry.Look x a.is.seen) ts a.before a.part a.after a.joined (subst (IsIn (entry.Look x a.is.seen)) (sym a.is.look) (inl refl)))
   where
@@ -74,12 +73,6 @@ saw_file p q es x m quiet a =
 -- a member names what it named
 pub quiet_members : (n : Naming) (p q : Past) (place : ℕ) → Quiet (IsNoMember n) p q → HasName n place → names (world q) (path_at n place) ≡ names (world p) (path_at n place)
 quiet_members n p q place quiet i = quiet_same (IsNoMember n) p q (path_at n place) quiet (λ none. none place i refl)
-
--- quiet entries lead from a journal to one
-pub quiet_journal : (P : Path → Type 0) (p q : Past) → Quiet P p q → IsJournal p → IsJournal q
-quiet_journal P p _ here j = j
-quiet_journal P p _ (wrote {q = q} w i f only) j = (quiet_journal P p q w j, f)
-quiet_journal P p _ (looked {q = q} w i f still) j = (quiet_journal P p q w j, f)
 
 -- where there is no directory, no member stands in it
 no_member : (log : Path) (n : Naming) (place : ℕ) (p : Past) → IsFamily log n → HasName n place → IsJournal p → names (world p) n.dir ≡ thing.Nothing → names (world p) (path_at n place) ≡ thing.Nothing
@@ -122,11 +115,7 @@ found log n places p q r es family journal none made still s same = record {
         same k t.at i t.since t.until
         ∙ no_member log n k t.at family i (quiet_journal (IsNoMember n) p t.at t.since journal) (seen_none (world t.at) (names (world t.at) n.dir) t.fits)
 
--- they stood before these entries
-pub members_before : (log : Path) (n : Naming) (places : List ℕ) (p q : Past) (es : List Entry) → IsFamily log n → IsJournal p → NoMemberAttached n p q → Made p es q → ChangeNothing es → Shown n places es → AreThere n (names (world p)) places
-members_before log n places p q es family journal none made still s = found log n places p q p es family journal none made still s (λ k a i since until. sym (quiet_members n p a k since i))
-
--- and stand behind them
+-- they stand behind these entries
 pub members_behind : (log : Path) (n : Naming) (places : List ℕ) (p q : Past) (es : List Entry) → IsFamily log n → IsJournal p → NoMemberAttached n p q → Made p es q → ChangeNothing es → Shown n places es → AreThere n (names (world q)) places
 members_behind log n places p q es family journal none made still s = found log n places p q q es family journal none made still s (λ k a i since until. quiet_members n a q k until i)
 

@@ -17,7 +17,7 @@ use Rattle.lr_family.specs.Spots.{path_at}
 use Rattle.lr_family.proofs.Numbers.{Every, every_filter}
 use Rattle.lr_chain.specs.Rotation.{is_left, leftovers, kept, retired, unlink_at, move_at, leftover_steps, shift_steps, turn_steps, retire_steps, rotation}
 use Rattle.lr_chain.specs.Standing.{AreGoing}
-use Rattle.lr_rotations.specs.Members.{HasName, HaveNext}
+use Rattle.lr_laws_family.specs.Numbered.{HasName, HaveNext}
 use Rattle.lr_rotations.proofs.Fitting.{kept_next, first_named, retire_named}
 
 -- the name of a place has a member's shape

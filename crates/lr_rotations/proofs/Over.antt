@@ -9,7 +9,7 @@ use Rattle.lr_host.specs.Sets.{LogSet}
 use Rattle.lr_host.proofs.Each.{filter_reverse, each_reverse, each_first}
 use Rattle.lr_laws.specs.Rotation.{IsAside}
 use Rattle.lr_laws.proofs.Calls.{passed_aside}
-use Rattle.lr_rotations.specs.Weave.{IsFirstOf}
+use Rattle.lr_laws_family.specs.Weave.{IsFirstOf}
 
 -- where the changes lie aside, all that the tool left does
 aside_all : (s : LogSet) (v q : Past) (es : List Entry) → Made v es q → Each (IsAside s) (filter is_change es) → Each (IsAside s) es

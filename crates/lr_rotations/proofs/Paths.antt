@@ -8,7 +8,8 @@ use Rattle.lr_host.specs.Fits.{IsPart}
 use Rattle.lr_family.specs.Named.{member_name}
 use Rattle.lr_family.specs.Spots.{path_at}
 use Rattle.lr_family.proofs.Paths.{places_apart, log_apart, stands_in, name_part as part}
-use Rattle.lr_rotations.specs.Members.{IsFamily, HasName}
+use Rattle.lr_rotations.specs.Members.{IsFamily}
+use Rattle.lr_laws_family.specs.Numbered.{HasName}
 
 pub name_part : (log : Path) (n : Naming) (place : ℕ) → IsFamily log n → HasName n place → IsPart (member_name n (n.start + place))
 name_part log n place f i = part log n (n.start + place) f.kin i

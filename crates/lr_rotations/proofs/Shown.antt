@@ -23,7 +23,7 @@ use Rattle.lr_family.proofs.Paths.{places_apart}
 use Rattle.lr_family.proofs.Placed.{numbered_at}
 use Rattle.lr_family.proofs.Shown.{members_named, members_seen, others_unseen}
 use Rattle.lr_chain.specs.Rotation.{places_of}
-use Rattle.lr_rotations.specs.Members.{HasName}
+use Rattle.lr_laws_family.specs.Numbered.{HasName}
 use Rattle.lr_rotations.specs.Shown.{Shown, IsUnseen, unlisted, gone}
 
 -- the path of a member at another place is none of theirs

@@ -25,7 +25,8 @@ use Rattle.lr_chain.specs.Rotation.{is_left, leftovers, kept, retired, unlink_at
 use Rattle.lr_chain.specs.Standing.{AreGoing}
 use Rattle.lr_chain.proofs.Falling.{falls_all}
 use Rattle.lr_chain.proofs.Turned.{run, Renamed, renamed_so, stays_below}
-use Rattle.lr_rotations.specs.Members.{IsFamily, HasName, AreThere, HaveNext, MayGo}
+use Rattle.lr_rotations.specs.Members.{IsFamily, AreThere, MayGo}
+use Rattle.lr_laws_family.specs.Numbered.{HasName, HaveNext}
 use Rattle.lr_rotations.proofs.Paths.{path_member, path_same}
 use Rattle.lr_rotations.proofs.Fitting.{Before, unlinked, moved, move_free, log_free, after_one, left_apart, kept_next, first_named, top_named, next_named, next_at, so_standing, above_all, all_below, at_start}
 

@@ -1,59 +1,23 @@
 -- Entries woven into others.
-use Rattle.std.proofs.Common.{◌≡◌, ◌⊎◌, inl, inr, ℕ, Bool, true, false, cond, refl, sym, ◌∙◌, ap, subst, Option, Some, None, is_some, bytes_eq, List, [], ◌∷◌, ◌++◌, ◌<◌, reverse, append-nil, ℤ, pos}
-use Rattle.std.proofs.lemmas.List.{reverse-append}
+use Rattle.std.proofs.Common.{◌≡◌, ◌⊎◌, inl, inr, ℕ, Bool, true, false, refl, sym, ◌∙◌, ap, subst, Option, Some, None, is_some, List, ◌∷◌, ◌<◌, ℤ, pos}
 use Rattle.lr_rules.specs.declared.path.Path.{Path}
-use Rattle.lr_host.specs.declared.thing.Thing.{Thing}
 use Rattle.lr_host.specs.declared.thing.Thing.TheVariants as thing
 use Rattle.lr_host.specs.declared.entry.Entry.{Entry}
 use Rattle.lr_host.specs.declared.entry.Entry.TheVariants as entry
 use Rattle.lr_host.specs.declared.entry.Entry.TheVariants.{Renames, Unlinks, Makes, MakesDir}
 use Rattle.lr_host.specs.World.{Names, put, names_after, Past, world, names}
 use Rattle.lr_host.specs.Fits.{IsFileAt}
-use Rattle.lr_host.specs.Lists.{IsIn}
-use Rattle.lr_host.specs.Told.{CanCall, Each}
+use Rattle.lr_host.specs.Told.{CanCall}
 use Rattle.lr_host.specs.Steps.{changes_of}
 use Rattle.lr_host.specs.Sets.{LogSet, is_unplaced, in_reach}
 use Rattle.lr_host.proofs.Names.{put_other}
 use Rattle.lr_laws.specs.Rotation.{IsAside, IsTurn, straight, put_aside, taken_up, IsStep, limit_by, limit_after, IsRotation, LogFits}
 use Rattle.lr_laws.proofs.Reach.{unplaced_reach, keyed_reach, reach_unplaced, reach_keyless}
-use Rattle.lr_rotations.specs.Rotated.{MakesAt}
-use Rattle.lr_rotations.specs.Weave.{Weave, none, own, other}
+use Rattle.lr_laws_family.specs.Beside.{MakesAt}
+use Rattle.lr_laws_family.specs.Weave.{Weave, none, own, other}
+use Rattle.lr_laws_family.proofs.Weaving.{both_put}
 
 -- ---- lists
-
-pub each_in : (P : Entry → Type 0) (es : List Entry) (e : Entry) → Each P es → IsIn e es → P e
-each_in P [] e a i = absurd i
-each_in P (x ∷ xs) e a (inl is) = subst P is a.0
-each_in P (x ∷ xs) e a (inr i) = each_in P xs e a.1 i
-
-pub weave_as : (P Q : Entry → Type 0) (os es : List Entry) → ((e : Entry) → P e → Q e) → Weave P os es → Weave Q os es
-weave_as P Q _ _ f none = none
-weave_as P Q _ _ f (own {steps = os} {all = es} e w) = own e (weave_as P Q os es f w)
-weave_as P Q os _ f (other {all = es} e p w) = other e (f e p) (weave_as P Q os es f w)
-
-pub weave_on : (P : Entry → Type 0) (os es os' es' : List Entry) → Weave P os es → Weave P os' es' → Weave P (os ++ os') (es ++ es')
-weave_on P _ _ os' es' none v = v
-weave_on P _ _ os' es' (own {steps = os} {all = es} e w) v = own e (weave_on P os es os' es' w v)
-weave_on P os _ os' es' (other {all = es} e p w) v = other e p (weave_on P os es os' es' w v)
-
-pub weave_back : (P : Entry → Type 0) (os es : List Entry) → Weave P os es → Weave P (reverse os) (reverse es)
-weave_back P _ _ none = none
-weave_back P _ _ (own {steps = os} {all = es} e w) =
-    subst (λ xs. Weave P xs (reverse (e ∷ es))) (sym (reverse-append (e ∷ []) os)) (subst (λ xs. Weave P (reverse os ++ e ∷ []) xs) (sym (reverse-append (e ∷ []) es))
-    (weave_on P (reverse os) (reverse es) (e ∷ []) (e ∷ []) (weave_back P os es w) (own e none)))
-weave_back P os _ (other {all = es} e p w) =
-    subst (λ xs. Weave P xs (reverse (e ∷ es))) (append-nil (reverse os)) (subst (λ xs. Weave P (reverse os ++ []) xs) (sym (reverse-append (e ∷ []) es))
-    (weave_on P (reverse os) (reverse es) [] (e ∷ []) (weave_back P os es w) (other e p none)))
-
--- entries of P alone
-pub weave_others : (P : Entry → Type 0) (es : List Entry) → Each P es → Weave P [] es
-weave_others P [] a = none
-weave_others P (e ∷ es) a = other e a.0 (weave_others P es a.1)
-
--- entries alone
-pub weave_own : (P : Entry → Type 0) (es : List Entry) → Weave P es es
-weave_own P [] = none
-weave_own P (e ∷ es) = own e (weave_own P es)
 
 -- ---- entries outside of a set
 
@@ -84,13 +48,6 @@ AreAlike s n n' = (y : Path) → in_reach s y ≡ true → n y ≡ n' y
 
 clash : (b : Bool) → b ≡ true → b ≡ false → ⊥
 clash b p q = cc
-
-pub both_put : (x y : Path) (t u : Thing) (n n' : Names) → t ≡ u → n y ≡ n' y → put n x t y ≡ put n' x u y
-both_put x y t u n n' tu is = go (bytes_eq x y)
-  where
-    go : (b : Bool) → cond b t (n y) ≡ cond b u (n' y)
-    go true = tu
-    go false = is
 
 pub apart_alike : (s : LogSet) (n : Names) (es : List Entry) (e : Entry) → IsApart s e → AreAlike s (names_after n (changes_of es)) (names_after n (changes_of (e ∷ es)))
 apart_alike s n es (Renames from to) out = λ y i.

@@ -1,5 +1,3 @@
 pub mod Calls
 pub mod Members
-pub mod Rotated
 pub mod Shown
-pub mod Weave

@@ -1,9 +1,8 @@
 -- The members of a family that stand, by their places.
-use Rattle.std.specs.Prelude.{◌≡◌, ◌≢◌, ◌⊎◌, ◌+◌, ◌≤◌, ℕ, suc, true, List, reverse, All, Contains, None}
+use Rattle.std.specs.Prelude.{◌≡◌, ◌≢◌, ◌⊎◌, ℕ, suc, true, List, reverse, All, Contains, None}
 use Rattle.std.specs.List.Sorted.{IsStrictlyIncreasing}
 use Rattle.lr_rules.specs.declared.path.Path.{Path}
 use Rattle.lr_rules.specs.declared.rule.Count.{Count}
-use Rattle.lr_rules.specs.declared.rule.Count.TheVariants as count
 use Rattle.lr_rules.specs.declared.rule.Naming.{Naming}
 use Rattle.lr_rules.specs.Path.{path_fault}
 use Rattle.lr_host.specs.declared.thing.Thing.TheVariants as thing
@@ -16,16 +15,13 @@ use Rattle.lr_host.specs.Sets.{LogSet}
 use Rattle.lr_family.specs.Kin.{IsKin}
 use Rattle.lr_family.specs.Spots.{path_at}
 use Rattle.lr_chain.specs.Rotation.{is_left}
+use Rattle.lr_laws_family.specs.Numbered.{HasName}
 
 -- The log and the naming are those of a numbered family, whose directory has a path.
 pub record IsFamily (log : Path) (n : Naming) : Type 0 where
   pub numbered : n.dated ≡ None
   pub kin : IsKin log n
   pub dir : path_fault n.dir ≡ None
-
--- the place has a name
-abbrev pub HasName : Naming → ℕ → Type 0
-HasName n place = n.start + place ≤ 4294967295
 
 -- the path is no member's
 abbrev pub IsNoMember : Naming → Path → Type 0
@@ -41,11 +37,6 @@ pub record AreThere (n : Naming) (m : Names) (places : List ℕ) : Type 0 where
   pub named : All (HasName n) places
   pub files : (place : ℕ) → Contains places place → IsFileAt m (path_at n place)
   pub others : (place : ℕ) → HasName n place → (Contains places place → ⊥) → m (path_at n place) ≡ thing.Nothing
-
--- The place that the log comes to has a name, and each that a member comes to.
-abbrev pub HaveNext : Naming → Count → List ℕ → Type 0
-HaveNext n (count.Keep k) places = HasName n k
-HaveNext n count.Always places = HasName n 0 × All (λ place. HasName n (place + 1)) places
 
 -- The members at these places may go behind one move more: the count leaves no room for one at its new place, or a rule of the log lets its file go by its age.
 abbrev pub MayGo : LogSet → Past → Count → List ℕ → Type 0

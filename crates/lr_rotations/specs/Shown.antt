@@ -12,7 +12,7 @@ use Rattle.lr_family.specs.declared.stand.Member.{Member}
 use Rattle.lr_family.specs.Named.{member_name}
 use Rattle.lr_family.specs.Spots.{path_at}
 use Rattle.lr_family.specs.Stands.{number_in}
-use Rattle.lr_rotations.specs.Members.{HasName}
+use Rattle.lr_laws_family.specs.Numbered.{HasName}
 
 -- a look at the path saw a directory
 abbrev pub SawDir : Path → List Entry → Type 0

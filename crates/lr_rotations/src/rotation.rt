@@ -15,7 +15,8 @@ ghost use Rattle.lr_laws.specs.Rotation.{IsAside};
 ghost use Rattle.lr_laws.specs.Stays.{Rotates};
 ghost use Rattle.lr_chain.specs.Rotation.{rotation};
 ghost use Rattle.lr_chain.specs.Standing.{AreGoing};
-ghost use Rattle.lr_rotations.specs.Members.{IsFamily, HasName, AreThere, HaveNext, MayGo};
+ghost use Rattle.lr_rotations.specs.Members.{IsFamily, AreThere, MayGo};
+ghost use Rattle.lr_laws_family.specs.Numbered.{HasName, HaveNext};
 
 /// Where these members stand in a directory that is there, and the log is a file, the steps of a rotation fit one after
 /// another.

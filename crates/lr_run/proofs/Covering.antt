@@ -29,23 +29,24 @@ use Rattle.lr_chain.specs.Ready.{removal_at}
 use Rattle.lr_chain.specs.Rotation.{places_of, is_left, leftovers, kept, retired, leftover_steps, shift_steps, retire_steps}
 use Rattle.lr_targets.specs.AllTurns.{IsItsDir, AlsoDoes, IsOf, IsOfSome}
 use Rattle.lr_targets.specs.Apart.{HasNames}
-use Rattle.lr_rotations.specs.Members.{IsFamily, HasName}
+use Rattle.lr_rotations.specs.Members as places
+use Rattle.lr_laws_family.specs.Numbered.{HasName}
 use Rattle.lr_targets.specs.Target.{Target, transfer_of, rotation_of}
 use Rattle.lr_rotations.proofs.Fitting.{kept_next, first_named, retire_named}
 use Rattle.lr_rotations.proofs.Members.{IsOfMembers, unlinks_of, moves_of}
 use Rattle.lr_targets.proofs.PartFile.{part_parent, job_target, job_part}
 use Rattle.lr_rotations.proofs.Paths.{path_parent}
 use Rattle.lr_targets.proofs.Rotating.{left_are, shift_are, retire_are, each_part}
-use Rattle.lr_rotations.proofs.Weaving.{each_in}
+use Rattle.lr_laws_family.proofs.Weaving.{each_in}
 use Rattle.lr_targets.proofs.SeenFits.{seen_names}
-use Rattle.lr_dated_seen.specs.Family.{IsDatedFamily}
-use Rattle.lr_dated_seen.proofs.Names.{stands_in}
+use Rattle.lr_laws_family.specs.Members.{IsFamily}
+use Rattle.lr_laws_family.proofs.DatedNames.{stands_in}
 use Rattle.lr_dated_run.specs.Own.{IsDatedName, MakesItsDir, HasDatedNames, HaveAnyNames}
 use Rattle.lr_dated_run.proofs.Own.{dated_turns}
 use Rattle.lr_dated_run.proofs.Mixed.{any_change}
 use Rattle.lr_dated_run.proofs.PartFile.{part_parent as dated_part_parent}
 use Rattle.lr_mixed.specs.Seen.{IsLogSeen}
-use Rattle.lr_mixed.proofs.Seen.{numbered_seen, dated_seen, ready_of, dated_names}
+use Rattle.lr_mixed.proofs.Seen.{numbered_seen, ready_of, dated_names}
 use Rattle.lr_seen.specs.Free.{reserved_by, AreFreeOf}
 
 -- ---- entries that change nothing
@@ -103,7 +104,7 @@ makes_on : (t : Target) (y : Path) (mode : Option ℕ) → IsItsDir t y → IsOn
 makes_on t y mode d x (inl same) = inl (subst (IsItsDir t) same d)
 makes_on t y mode d x (inr none) = absurd none
 
-of_members : (log : Path) (n : Naming) → IsFamily log n → (e : Entry) → IsOfMembers n e → IsOnFamily log n e
+of_members : (log : Path) (n : Naming) → places.IsFamily log n → (e : Entry) → IsOfMembers n e → IsOnFamily log n e
 of_members log n family (Renames from to) h x (inl is) = inr (ap parent_of (sym is ∙ h.2) ∙ path_parent log n h.0 family h.1)
 of_members log n family (Renames from to) h x (inr (inl is)) = inr (ap parent_of (sym is ∙ h.3.2) ∙ path_parent log n h.3.0 family h.3.1)
 of_members log n family (Renames from to) h x (inr (inr none)) = absurd none
@@ -111,7 +112,7 @@ of_members log n family (Unlinks y) h x (inl is) = inr (ap parent_of (sym is ∙
 of_members log n family (Unlinks y) h x (inr none) = absurd none
 of_members log n family _ h x i = absurd h
 
-each_member : (log : Path) (n : Naming) → IsFamily log n → (es : List Entry) → Each (IsOfMembers n) es → Each (IsOnFamily log n) es
+each_member : (log : Path) (n : Naming) → places.IsFamily log n → (es : List Entry) → Each (IsOfMembers n) es → Each (IsOnFamily log n) es
 each_member log n family [] a = tt
 each_member log n family (e ∷ es) a = (of_members log n family e a.0, each_member log n family es a.1)
 
@@ -187,7 +188,7 @@ makes_its_on : (t : Target) (e : Entry) → MakesItsDir t e → IsOnTarget t e
 makes_its_on t (entry.MakesDir y mode) d x i = makes_on t y mode d x i
 makes_its_on t _ none x i = absurd none
 
-dated_on : (t : Target) → HasDatedNames t → IsDatedFamily t.log t.naming → (e : Entry) → IsOf t e → IsOnTarget t e
+dated_on : (t : Target) → HasDatedNames t → IsFamily t.log t.naming → (e : Entry) → IsOf t e → IsOnTarget t e
 dated_on t h family e i = ⊎_elim (λ changes x j. inr (go x (changes x (renamed_changed e x j)))) (λ makes. makes_its_on t e makes) (dated_turns t e h i)
   where
     go : (x : Path) → IsDatedName t.log t.naming x → (x ≡ t.log) ⊎ (parent_of x ≡ t.naming.dir)
@@ -215,11 +216,10 @@ log_placed rules clock looks t l = go t.naming.dated refl
           no_leftovers = λ none. h.ready.leftovers_are ∙ ap (λ (ms : List Member). map (removal_at t.naming) (leftovers t.count (places_of ms))) none;
         }
     go (Some format) is =
-        let d = dated_seen rules clock looks t format l is in
-        let r = ready_of rules clock looks t l.given.rule.maxage d in
+        let r = ready_of rules clock looks t format l is in
         record {
-          on = dated_on t (dated_names rules clock looks t format l is) d.family;
-          target = stands_in t.log t.naming (clock_seconds t.naming.dated clock) r.serial t.ready.target d.family.kin d.family.format r.target_is d.family.dir;
+          on = dated_on t (dated_names rules clock looks t format l is) l.family;
+          target = stands_in t.log t.naming (clock_seconds t.naming.dated clock) r.serial t.ready.target l.family.kin l.family.format r.target_is l.family.dir;
           no_leftovers = λ none. r.no_leftovers;
         }
 

@@ -56,7 +56,7 @@ use Rattle.lr_rotations.proofs.Paths.{path_member}
 use Rattle.lr_targets.proofs.SeenFits.{seen_names}
 use Rattle.lr_mixed.specs.Seen.{IsLogSeen, AreLogsSeen}
 use Rattle.lr_mixed.proofs.Calls.{log_paths}
-use Rattle.lr_mixed.proofs.Seen.{numbered_seen, dated_seen, ready_of}
+use Rattle.lr_mixed.proofs.Seen.{numbered_seen, ready_of}
 use Rattle.lr_weave.specs.Planned.{AreReadyFor, HaveLogs}
 use Rattle.lr_seen.specs.Targets.{groups_of, all_targets}
 use Rattle.lr_seen.proofs.Apart.{kept_at}
@@ -201,7 +201,7 @@ is_copy rules sets faults ts clock mailer decide made s job i cut = record {
     newest : (d : Option Format) → t.naming.dated ≡ d → IsNewestBy d t.naming clock job.to
     newest None is = let h = seen_names rules clock.now.seconds ts t (numbered_seen rules clock ts t seen is) in
         subst (IsMemberAt t.naming 0) (sym (job_target t job h.ready j)) (path_member t.naming 0 (first_named t.naming t.count (places_of t.stand.members) h.next))
-    newest (Some format) is = let d = ready_of rules clock ts t seen.given.rule.maxage (dated_seen rules clock ts t format seen is) in
+    newest (Some format) is = let d = ready_of rules clock ts t format seen is in
         (d.serial, subst (IsDatedAt t.naming (clock_seconds t.naming.dated clock) d.serial) (sym j.to_is) d.target_is)
 
 -- ---- what a run leaves

@@ -1,7 +1,6 @@
 -- A log with dates that can't be rotated since a member has the name that it would get: the member was seen, and the acts spare it.
 use Rattle.std.proofs.Common.{◌≡◌, ◌≢◌, inl, inr, ⊎_elim, ℕ, suc, ◌+◌, Bool, true, false, cond, not, ◌&&◌, Option, Some, None, List, [], ◌∷◌, ◌++◌, map, reverse, slice_get, refl, sym, ap, ◌∙◌, subst}
 use Rattle.std.specs.Option.{is_some}
-use Rattle.std.specs.Str.{bytes_eq}
 use Rattle.std.proofs.lemmas.Bool.{and_left, and_right}
 use Rattle.std.specs.Prelude.{ℤ, filter, codes}
 use Rattle.std.proofs.lemmas.List.Elements.{All-contains}
@@ -43,7 +42,7 @@ use Rattle.lr_plan.specs.declared.looks.SetLooks.{SetLooks}
 use Rattle.lr_plan.specs.declared.mark.Mark.{Mark}
 use Rattle.lr_plan.specs.Course.{Course}
 use Rattle.lr_plan.specs.Done.{SetsDone}
-use Rattle.lr_plan.specs.Planned.{is_made, makes_dir, empty_stand, stand_for, standing, numbered_hindrances, hindrances_by, hindrances, is_too_high, where_due, log_faults, all_faults, all_plans}
+use Rattle.lr_plan.specs.Planned.{is_made, dir_is_log, makes_dir, empty_stand, stand_for, standing, numbered_hindrances, hindrances_by, hindrances, is_too_high, where_due, log_faults, all_faults, all_plans}
 use Rattle.lr_plan.specs.Steps.{steps_of_set, state_steps}
 use Rattle.lr_acts.specs.Named.{IsNamed}
 use Rattle.lr_acts.specs.Taken.{Spares, WasTaken}
@@ -54,8 +53,8 @@ use Rattle.lr_looks.specs.Sets.{looked_in}
 use Rattle.lr_looks.specs.Shown.{ShowsLooks}
 use Rattle.lr_targets.specs.AllTurns.{IsOf, IsOfSome, IsOfState}
 use Rattle.lr_targets.specs.Target.{Target}
-use Rattle.lr_dated_seen.specs.Shown.{WasSeen, ShownDated}
-use Rattle.lr_dated_seen.proofs.Rotating.{file_stands}
+use Rattle.lr_laws_family.specs.Shown.{WasSeen, Shown}
+use Rattle.lr_laws_family.proofs.Stood.{file_stands}
 use Rattle.lr_dated_run.specs.Own.{HasAnyNames, HaveAnyNames}
 use Rattle.lr_dated_run.proofs.Own.{dated_own}
 use Rattle.lr_weave.proofs.Parting.{done_some}
@@ -66,7 +65,7 @@ use Rattle.lr_seen.proofs.Apart.{OffLooked, kept_off, looked_pairs, targets_apar
 use Rattle.lr_seen.proofs.Coming.{Comes, comes_from, was_looked, in_looked}
 use Rattle.lr_seen.proofs.Elements.{in_flat, pairs_two}
 use Rattle.lr_seen.proofs.Kept.{kept_has_none}
-use Rattle.lr_seen.proofs.Listed.{ShownBy, WasShown, all_shown}
+use Rattle.lr_seen.proofs.Listed.{WasShown, all_shown}
 use Rattle.lr_seen.proofs.Quiet.{whole_quiet}
 use Rattle.lr_seen.proofs.Ready.{plans_have_logs}
 use Rattle.lr_seen.proofs.Seen.{targets_have_names}
@@ -144,7 +143,7 @@ dated_hinders clock rule look format is = ap (λ (d : Option Format). hindrances
 -- a directory that is there isn't made
 pub stands_as_seen : (rule : Rule) (look : LogLook) → look.stand.there ≡ true → stand_for rule look ≡ look.stand
 stands_as_seen rule look there = ap (λ (b : Bool). cond b empty_stand look.stand)
-    (and_right (is_made rule.createolddir) (not look.stand.there && (look.stand.parent && not (bytes_eq look.family.naming.dir look.path))) (and_left (not look.stand.there) (look.stand.parent && not (bytes_eq look.family.naming.dir look.path)) (ap not there)))
+    (and_right (is_made rule.createolddir) (not look.stand.there && (look.stand.parent && not (dir_is_log look.family.naming look.path))) (and_left (not look.stand.there) (look.stand.parent && not (dir_is_log look.family.naming look.path)) (ap not there)))
 
 -- nothing is taken in one that was just made
 barred_as_seen : (makes : Bool) (n : Naming) (stand : Stand) (path : Path) → IsBarred n (cond makes empty_stand stand) path → IsBarred n stand path
@@ -240,10 +239,10 @@ module _ (state : Path) (rules : Rules) (sets : List SetLooks) (faults : List Fa
   in_sights : IsIn x (looked_of s.kept s.entries.second.families.sights)
   in_sights = subst (IsIn x) s.entries.second.families.looked_are looked
 
-  shown : ShownDated n h.look.stand.members looks
+  shown : Shown n h.look.stand.members looks
   shown =
       let w : WasShown n h.look.stand looks = all_shown looks s.kept s.entries.second.listings s.entries.second.families.sights s.entries.back (λ e i. subst (IsIn e) (sym s.entries.joined) (in_back e s.entries.front s.entries.back i)) s.entries.second.families.shown x in_sights in
-      subst (λ (d : Option Format). ShownBy d n h.look.stand looks) format.1 (w.0 barred.there).1
+      (w.0 barred.there).1
 
   -- it was seen, a file
   member_seen : (m : Member) × (m.path ≡ path) × WasSeen looks m

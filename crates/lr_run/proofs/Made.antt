@@ -17,7 +17,7 @@ use Rattle.lr_host.proofs.Looked.{seen_none, nothing_no_dir}
 use Rattle.lr_host.proofs.Made.{Cut, cut, made_journal, made_tools}
 use Rattle.lr_host.proofs.More.{dir_before, nothing_before}
 use Rattle.lr_host.proofs.Quiet.{IsAny, Moment, moment, quiet_more, quiet_still, since_any, still_reverse}
-use Rattle.lr_rotations.proofs.Moments.{quiet_journal}
+use Rattle.lr_laws_family.proofs.Stood.{quiet_journal}
 use Rattle.lr_placed.proofs.Lasting.{Says}
 
 -- The tool left these entries, in order, on a disk.

@@ -24,14 +24,14 @@ use Rattle.lr_chain.specs.Rotation.{places_of, is_left, leftovers, kept, retired
 use Rattle.lr_dated.specs.Steps.{Ranked, gone, AreDatedAt}
 use Rattle.lr_dated_chain.specs.Ready.{removal_of}
 use Rattle.lr_dated_chain.proofs.Order.{all_dated}
-use Rattle.lr_rotations.specs.Members.{HasName}
+use Rattle.lr_laws_family.specs.Numbered.{HasName}
 use Rattle.lr_rotations.proofs.Fitting.{kept_next, first_named, retire_named}
 use Rattle.lr_rotations.proofs.Outside.{place_shape, place_name}
 use Rattle.lr_targets.specs.Apart.{HasNames}
 use Rattle.lr_targets.specs.Target.{Target, HasDir, HasJob}
 use Rattle.lr_targets.proofs.PartFile.{part_no_member}
 use Rattle.lr_targets.proofs.SeenFits.{seen_names}
-use Rattle.lr_dated_seen.specs.Family.{IsDatedFamily}
+use Rattle.lr_laws_family.specs.Members.{IsFamily}
 use Rattle.lr_dated_run.specs.Own.{HasDatedNames, all_members}
 use Rattle.lr_dated_run.proofs.CallsFit.{dated_gone}
 use Rattle.lr_dated_run.proofs.Own.{dated_own}
@@ -40,7 +40,7 @@ use Rattle.lr_plan.specs.declared.plan.SetPlan.{SetPlan}
 use Rattle.lr_weave.specs.Fitting.{NoneMeets}
 use Rattle.lr_weave.specs.Planned.{AreReadyFor, HaveLogs}
 use Rattle.lr_mixed.specs.Seen.{IsLogSeen}
-use Rattle.lr_mixed.proofs.Seen.{numbered_seen, dated_seen, dated_names}
+use Rattle.lr_mixed.proofs.Seen.{numbered_seen, dated_names}
 use Rattle.lr_seen.proofs.Elements.{each_in}
 use Rattle.lr_seen.proofs.Ready.{ready_both}
 
@@ -156,7 +156,7 @@ dated_in n [] m d i = absurd i
 dated_in n (x ∷ xs) m d (inl same) = subst (λ (y : Ranked). IsDatedAt n y.seconds y.serial y.path) same d.0
 dated_in n (x ∷ xs) m d (inr i) = dated_in n xs m d.1 i
 
-module _ (t : Target) (family : IsDatedFamily t.log t.naming) (h : HasDatedNames t) where
+module _ (t : Target) (family : IsFamily t.log t.naming) (h : HasDatedNames t) where
   abbrev those_gone : List Ranked
   those_gone = gone t.count 0 (all_members t h)
 
@@ -177,7 +177,7 @@ module _ (t : Target) (family : IsDatedFamily t.log t.naming) (h : HasDatedNames
 
   dated_no_log : IsMember t.naming t.log → ⊥
   dated_no_log (inl (numbered, (place, at))) = let clash : None ≡ Some h.ready.target_is.format = sym numbered ∙ h.ready.target_is.dated in cc
-  dated_no_log (inr (seconds, serial, at)) = family.apart seconds serial at
+  dated_no_log (inr at) = family.apart (inr at)
 
   dated_members : HasMembers t
   dated_members = record {
@@ -199,7 +199,7 @@ seen_members rules clock looks t l = go t.naming.dated refl
   where
     go : (d : Option Format) → t.naming.dated ≡ d → HasMembers t
     go None is = numbered_members t (seen_names rules clock.now.seconds looks t (numbered_seen rules clock looks t l is))
-    go (Some format) is = dated_members t (dated_seen rules clock looks t format l is).family (dated_names rules clock looks t format l is)
+    go (Some format) is = dated_members t l.family (dated_names rules clock looks t format l is)
 
 -- ---- the logs of a plan
 

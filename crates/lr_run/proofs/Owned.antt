@@ -10,7 +10,7 @@ use Rattle.lr_targets.specs.AllTurns.{IsItsDir, AlsoDoes, IsOf}
 use Rattle.lr_targets.specs.Apart.{HasNames}
 use Rattle.lr_targets.specs.Target.{Target, rotation_of}
 use Rattle.lr_targets.proofs.Apart.{AllOwn, part_own, own_paths}
-use Rattle.lr_rotations.proofs.Weaving.{each_in}
+use Rattle.lr_laws_family.proofs.Weaving.{each_in}
 use Rattle.lr_dated_run.specs.Own.{ChangesOwn, MakesItsDir, HasAnyNames}
 use Rattle.lr_dated_run.proofs.Own.{dated_turns, named_own}
 

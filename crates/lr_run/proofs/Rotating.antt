@@ -1,17 +1,13 @@
--- A run of which no call failed, no program ended badly and no copy broke off rotates each log of its plan that isn't copied.
-use Rattle.std.proofs.Common.{◌≡◌, ◌≢◌, inl, inr, ⊎_elim, ℕ, ℤ, true, false, Option, Some, None, List, [], ◌∷◌, ◌++◌, reverse, refl, sym, ap, ◌∙◌, subst, append_assoc}
-use Rattle.std.specs.Prelude.{codes, IsSome}
+-- A run of which no call failed, no program ended badly and no copy broke off rotated each log of its plan whole: what is known of one of them.
+use Rattle.std.proofs.Common.{◌≡◌, ◌≢◌, inl, inr, ⊎_elim, ℕ, Option, Some, None, List, [], ◌∷◌, ◌++◌, reverse, refl, sym, ap, ◌∙◌, subst, append_assoc}
+use Rattle.std.specs.Prelude.{codes}
 use Rattle.lr_rules.specs.declared.clock.Clock.{Clock}
 use Rattle.lr_rules.specs.declared.fault.Fault.{Fault}
 use Rattle.lr_rules.specs.declared.path.Path.{Path}
-use Rattle.lr_rules.specs.declared.rule.Format.{Format}
-use Rattle.lr_rules.specs.declared.rule.Naming.{Naming}
 use Rattle.lr_rules.specs.declared.rule.Rule.{Rule}
 use Rattle.lr_rules.specs.declared.rules.Rules.{Rules}
-use Rattle.lr_rules.specs.Dated.{IsDatedAt}
-use Rattle.lr_rules.specs.Names.{IsOwnName, the_log, IsName, Meet}
+use Rattle.lr_rules.specs.Names.{IsOwnName, IsName, Meet}
 use Rattle.lr_rules.specs.Path.{parent_of}
-use Rattle.lr_stamps.specs.Dated.{clock_seconds}
 use Rattle.lr_host.specs.declared.entry.Entry.{Entry}
 use Rattle.lr_host.specs.declared.entry.Entry.TheVariants as entry
 use Rattle.lr_host.specs.Lists.{IsIn}
@@ -25,35 +21,22 @@ use Rattle.lr_host.proofs.Quiet.{quiet_both}
 use Rattle.lr_family.specs.Kin.{IsKin}
 use Rattle.lr_kept.proofs.Finding.{meet_back}
 use Rattle.lr_due.specs.declared.answer.Due.{Due}
-use Rattle.lr_chain.specs.declared.ready.Ready.{Ready}
-use Rattle.lr_chain.specs.Ready.{with_dir}
-use Rattle.lr_dated_chain.specs.Next.{IsNext}
-use Rattle.lr_dated_chain.specs.Ready.{IsDatedReady}
-use Rattle.lr_dated_ready.specs.Ready.{next_serial, dated_target}
-use Rattle.lr_dated_ready.proofs.Serials.{is_next, one_next}
 use Rattle.lr_plan.specs.Asked.{Asked}
 use Rattle.lr_plan.specs.declared.looks.LogLook.{LogLook}
 use Rattle.lr_plan.specs.Done.{PlanDone}
 use Rattle.lr_plan.specs.Planned.{decision}
 use Rattle.lr_targets.specs.AllTurns.{dir_paths, other_paths, paths_beside}
-use Rattle.lr_targets.specs.Apart.{HasNames}
-use Rattle.lr_rotations.specs.Members.{IsNoMember}
-use Rattle.lr_rotations.specs.Rotated.{AreOutside, RotatesAmong}
-use Rattle.lr_rotations.proofs.Outside.{place_name}
 use Rattle.lr_targets.specs.Target.{Target, HasDir}
-use Rattle.lr_targets.proofs.SeenFits.{has_dir, seen_names}
-use Rattle.lr_rotations.proofs.WholeRotated.{seen_members, rotated_whole}
-use Rattle.lr_dated_seen.specs.Family.{IsNoDated, IsDatedFamily}
-use Rattle.lr_dated_turned.specs.Rotated.{AreDatedOutside, DatedRotatesAmong}
-use Rattle.lr_dated_turned.proofs.WholeRotated.{seen_members as dated_seen_members, rotated_whole as dated_rotated_whole}
-use Rattle.lr_dated_run.specs.Own.{HaveAnyNames}
-use Rattle.lr_dated_run.proofs.Own.{dated_own}
-use Rattle.lr_dated_run.proofs.Mixed.{all_outside, all_dated_outside}
+use Rattle.lr_laws_family.specs.Turned.{IsRotation}
+use Rattle.lr_targets.specs.Rotation.{rotation_by}
+use Rattle.lr_targets.proofs.SeenFits.{has_dir}
+use Rattle.lr_dated_run.specs.Own.{LieOutside, HasAnyNames, HaveAnyNames}
+use Rattle.lr_dated_run.proofs.Mixed.{name_out, all_outside}
 use Rattle.lr_mixed.specs.AllTurns.{AllTurnedBy}
-use Rattle.lr_mixed.specs.Rotated.{all_by}
-use Rattle.lr_mixed.specs.Seen.{IsDatedSeen, IsLogSeen}
-use Rattle.lr_mixed.proofs.Seen.{numbered_seen, dated_seen, ready_of, log_among}
-use Rattle.lr_mixed.proofs.Whole.{numbered_rotates, dated_rotates}
+use Rattle.lr_mixed.proofs.Plan.{plan_is_one}
+use Rattle.lr_mixed.proofs.Seen.{any_names, log_among}
+use Rattle.lr_run.specs.Rotated.{rotated_in}
+use Rattle.lr_mixed.specs.Seen.{IsLogSeen}
 use Rattle.lr_weave.specs.Fitting.{NoneMeets, DontMeet}
 use Rattle.lr_weave.proofs.Planning.{ready_planned}
 use Rattle.lr_weave.proofs.Turned.{done_turned}
@@ -64,20 +47,11 @@ use Rattle.lr_seen.proofs.Free.{targets_free}
 use Rattle.lr_seen.proofs.Ready.{plans_have_logs}
 use Rattle.lr_seen.proofs.Seen.{targets_seen, targets_have_names}
 use Rattle.lr_run.specs.Met.{MetNothing}
-use Rattle.lr_run.specs.Rotated.{rotated_in, IsRotatedAmong, IsDatedRotatedAmong}
 use Rattle.lr_run.specs.Runs.{Inside, Looked, Worked, plan_in, dirs_in}
 use Rattle.lr_run.proofs.Called.{worked_met_none}
 use Rattle.lr_run.proofs.Shape.{sees_quiet, ended_whole, written_whole, seen_later, seen_quiet, in_parts, all_of_state}
 
 -- ---- one of the logs
-
--- it and its members are kin, be their names numbers or dates
-seen_kin : (rules : Rules) (clock : Clock) (looks : List Entry) (t : Target) → IsLogSeen rules clock looks t → IsKin t.log t.naming
-seen_kin rules clock looks t l = go t.naming.dated refl
-  where
-    go : (d : Option Format) → t.naming.dated ≡ d → IsKin t.log t.naming
-    go None is = (numbered_seen rules clock looks t l is).family.kin
-    go (Some format) is = (dated_seen rules clock looks t format l is).family.kin
 
 none_of : (t x : Target) (xs : List Target) → NoneMeets t xs → IsIn x xs → Meet x.log x.naming t.log t.naming → ⊥
 none_of t x [] n i m = i
@@ -104,39 +78,6 @@ dir_apart t has x i = go t.ready.dir refl i
     go None is j = absurd j
     go (Some (dir, mode)) is (inl same) = λ own. (has dir mode is).1 (subst (IsOwnName t.log t.naming) (sym same) own)
     go (Some (dir, mode)) is (inr none) = absurd none
-
--- what is no own name is neither the log nor a member, be their names numbers or dates
-numbered_apart : (log : Path) (n : Naming) → n.dated ≡ None → (x : Path) → (IsOwnName log n x → ⊥) → (x ≢ log) × IsNoMember n x
-numbered_apart log n numbered x none = ((λ is. none (the_log is)), λ k i is. none (subst (IsOwnName log n) (sym is) (place_name log n k numbered i)))
-
-dated_apart : (log : Path) (n : Naming) (x : Path) → (IsOwnName log n x → ⊥) → (x ≢ log) × IsNoDated n x
-dated_apart log n x none = ((λ is. none (the_log is)), λ seconds k at. none (dated_own log n seconds k x at))
-
--- ---- the stamp of a log with dates
-
--- no format is none
-pub no_format : IsSome {T = Format} None → ⊥
-no_format some = let no : false ≡ true = some in cc
-
--- the path that it gets has the clock's stamp, and the serial number that comes next among its members
-module _ (rules : Rules) (clock : Clock) (looks : List Entry) (t : Target) (format : Format) (l : IsLogSeen rules clock looks t) (is : t.naming.dated ≡ Some format) where
-  abbrev seconds : ℤ
-  seconds = clock_seconds t.naming.dated clock
-
-  d : IsDatedSeen l.given.rule.maxage clock looks t
-  d = dated_seen rules clock looks t format l is
-
-  r : IsDatedReady t.log t.naming t.count t.ready.make l.given.rule.maxage clock.now.seconds (clock_seconds t.naming.dated clock) t.stand.members (with_dir None t.ready)
-  r = ready_of rules clock looks t l.given.rule.maxage d
-
-  pub stamped_to : t.ready.target ≡ dated_target t.naming clock t.stand.members
-  stamped_to = ap (λ (x : Ready). x.target) d.ready
-
-  pub next_stamp : IsNext t.stand.members (clock_seconds t.naming.dated clock) (next_serial t.stand.members (clock_seconds t.naming.dated clock))
-  next_stamp = is_next t.stand.members (clock_seconds t.naming.dated clock)
-
-  pub stamped_at : IsDatedAt t.naming (clock_seconds t.naming.dated clock) (next_serial t.stand.members (clock_seconds t.naming.dated clock)) (dated_target t.naming clock t.stand.members)
-  stamped_at = subst (λ k. IsDatedAt t.naming seconds k (dated_target t.naming clock t.stand.members)) (one_next t.stand.members seconds r.serial (next_serial t.stand.members seconds) r.next next_stamp) (subst (IsDatedAt t.naming seconds r.serial) stamped_to r.target_is)
 
 -- ---- the run
 
@@ -207,66 +148,14 @@ module _ (state : Path) (asked : Asked) (clock : Clock) (rules : Rules) (own : L
   known_dir = has_dir t turned.turns.looks seen.dir
 
   others_apart : (x : Target) → IsIn x targets → x.log ≢ t.log → Meet x.log x.naming t.log t.naming → ⊥
-  others_apart x j = apart_of t x targets (λ y k. seen_kin rules clock turned.turns.looks y (log_among rules clock turned.turns.looks turned.turns.targets turned.turns.seen y k)) (targets_dont_meet rules.sets l.sets l.of_looks l.looks clock decide l.shown) j one
+  others_apart x j = apart_of t x targets (λ y k. (log_among rules clock turned.turns.looks turned.turns.targets turned.turns.seen y k).family.kin) (targets_dont_meet rules.sets l.sets l.of_looks l.looks clock decide l.shown) j one
 
-  -- ---- a log with numbers
+  pub names_any : HasAnyNames t
+  names_any = any_names rules clock turned.turns.looks t seen
 
-  pub has : t.naming.dated ≡ None → HasNames t
-  has numbered = seen_names rules clock.now.seconds turned.turns.looks t (numbered_seen rules clock turned.turns.looks t seen numbered)
+  pub is_one : IsRotation t.naming (rotation_by t)
+  is_one = plan_is_one t names_any seen.family seen.seen.named
 
-  pub aside_paths : t.naming.dated ≡ None → AreOutside (paths_beside state t targets) t.log t.naming
-  aside_paths numbered x j = ⊎_elim (λ k. numbered_apart t.log t.naming numbered x (dir_apart t known_dir x k)) (λ k. all_outside t.log t.naming state targets named others_apart no_state no_part (has numbered).family x k) (in_append x (dir_paths t.ready.dir) (other_paths state t.log targets) j)
-
-  pub run_rotated : t.job ≡ None → t.naming.dated ≡ None → IsRotatedAmong state targets p q t
-  run_rotated by_rename numbered = λ unattached. (
-    seen_members (paths_beside state t targets) t.log t.naming t.count t.from t.stand p q es made journal (has numbered).family (has numbered).next unattached (aside_paths numbered) among,
-    rotated_whole (paths_beside state t targets) t.log t.naming t.count t.from t.stand p q es made journal (has numbered).family (has numbered).next unattached (aside_paths numbered) among,
-  )
-    where
-      among : RotatesAmong (paths_beside state t targets) t.log t.naming t.count t.from t.stand (reverse es)
-      among = subst (RotatesAmong (paths_beside state t targets) t.log t.naming t.count t.from t.stand) (sym whole_run)
-          (numbered_rotates state clock rules (reads ++ i.before) (work ++ entry.Ends ∷ []) turned t quiet_first one by_rename numbered)
-
-  -- ---- a log with dates
-
-  pub dated_aside_paths : AreDatedOutside (paths_beside state t targets) t.log t.naming
-  dated_aside_paths x j = ⊎_elim (λ k. dated_apart t.log t.naming x (dir_apart t known_dir x k)) (λ k. all_dated_outside t.log t.naming state targets named others_apart no_state no_part x k) (in_append x (dir_paths t.ready.dir) (other_paths state t.log targets) j)
-
-  module _ (by_rename : t.job ≡ None) (format : Format) (is : t.naming.dated ≡ Some format) where
-    abbrev stamp : ℤ
-    stamp = clock_seconds t.naming.dated clock
-
-    abbrev serial : ℕ
-    serial = next_serial t.stand.members (clock_seconds t.naming.dated clock)
-
-    abbrev target : Path
-    target = dated_target t.naming clock t.stand.members
-
-    abbrev others : List Path
-    others = paths_beside state t targets
-
-    family : IsDatedFamily t.log t.naming
-    family = (dated_seen rules clock turned.turns.looks t format seen is).family
-
-    next : IsNext t.stand.members stamp serial
-    next = next_stamp rules clock turned.turns.looks t format seen is
-
-    at : IsDatedAt t.naming stamp serial target
-    at = stamped_at rules clock turned.turns.looks t format seen is
-
-    among : DatedRotatesAmong others t.log t.naming t.count target (all_by t.naming t.maxage clock t.stand.members) t.stand.members (reverse es)
-    among = subst (DatedRotatesAmong others t.log t.naming t.count target (all_by t.naming t.maxage clock t.stand.members) t.stand.members) (sym whole_run)
-        (dated_rotates state clock rules (reads ++ i.before) (work ++ entry.Ends ∷ []) turned t quiet_first one by_rename format is)
-
-    dated_rotated : IsDatedRotatedAmong state targets clock p q t
-    dated_rotated = λ unattached. (
-      dated_seen_members others t.log t.naming t.count t.maxage clock.now.seconds stamp serial target t.stand.members p q es made journal family next at unattached dated_aside_paths among,
-      dated_rotated_whole others t.log t.naming t.count t.maxage clock.now.seconds stamp serial target t.stand.members p q es made journal family next at unattached dated_aside_paths among,
-    )
-
-  pub run_dated_rotated : t.job ≡ None → IsSome t.naming.dated → IsDatedRotatedAmong state targets clock p q t
-  run_dated_rotated by_rename dated = go t.naming.dated refl dated
-    where
-      go : (d : Option Format) → t.naming.dated ≡ d → IsSome d → IsDatedRotatedAmong state targets clock p q t
-      go None is some = absurd (no_format some)
-      go (Some format) is some = dated_rotated by_rename format is
+  -- the paths beside it are neither the log's nor a member's
+  pub paths_out : LieOutside (paths_beside state t targets) t.log t.naming
+  paths_out x j = ⊎_elim (λ k. name_out t.log t.naming x (dir_apart t known_dir x k)) (λ k. all_outside t.log t.naming state targets named others_apart no_state no_part x k) (in_append x (dir_paths t.ready.dir) (other_paths state t.log targets) j)

@@ -7,7 +7,6 @@ use Rattle.lr_rules.specs.declared.clock.Clock.{Clock}
 use Rattle.lr_rules.specs.declared.fault.Fault.{Fault}
 use Rattle.lr_rules.specs.declared.path.Path.{Path}
 use Rattle.lr_rules.specs.declared.rule.Count.{Count}
-use Rattle.lr_rules.specs.declared.rule.Format.{Format}
 use Rattle.lr_rules.specs.declared.rule.Naming.{Naming}
 use Rattle.lr_rules.specs.declared.rule.Rule.{Rule}
 use Rattle.lr_rules.specs.declared.rules.Rules.{Rules}
@@ -23,10 +22,7 @@ use Rattle.lr_host.proofs.Each.{each_append, each_as}
 use Rattle.lr_host.proofs.Lists.{in_back}
 use Rattle.lr_host.proofs.Quiet.{quiet_both}
 use Rattle.lr_family.specs.declared.stand.Member.{Member}
-use Rattle.lr_family.specs.Spots.{path_at}
-use Rattle.lr_family.specs.Stands.{number_in}
 use Rattle.lr_copy.specs.declared.job.Job.{Job}
-use Rattle.lr_chain.specs.Rotation.{places_of}
 use Rattle.lr_due.specs.declared.answer.Due.{Due}
 use Rattle.lr_plan.specs.Asked.{Asked}
 use Rattle.lr_plan.specs.declared.looks.LogLook.{LogLook}
@@ -34,11 +30,10 @@ use Rattle.lr_plan.specs.Planned.{decision}
 use Rattle.lr_targets.specs.AllTurns.{IsOfSome, IsOfState, StandsBetween}
 use Rattle.lr_reading.proofs.Quiet.{state_quiet}
 use Rattle.lr_targets.specs.Target.{Target, rotation_of, IsGiven, IsDirSeenBy, IsJobOf}
-use Rattle.lr_rotations.specs.Weave.{Weave, FirstWoven, Among}
-use Rattle.lr_rotations.proofs.Moments.{shown_in}
-use Rattle.lr_rotations.proofs.Weaving.{weave_on, weave_others}
+use Rattle.lr_laws_family.specs.Weave.{Weave, FirstWoven, Among}
+use Rattle.lr_laws_family.proofs.Weaving.{weave_on, weave_others}
 use Rattle.lr_mixed.specs.AllTurns.{AllTurnsBy, AllTurnedBy, started, IsWholeRunBy}
-use Rattle.lr_mixed.specs.Seen.{IsSeenBy, AreLogsSeen}
+use Rattle.lr_mixed.specs.Seen.{AreLogsSeen}
 use Rattle.lr_weave.proofs.Parting.{done_turns, cut_turns}
 use Rattle.lr_weave.proofs.Planning.{ready_planned}
 use Rattle.lr_seen.specs.Targets.{groups_of, all_targets}
@@ -140,23 +135,6 @@ given_later xs looks g = record {
   way_is = g.way_is;
 }
 
--- so they do of a log, by its kind
-shows_later : (maxage : Option ℕ) (clock : Clock) (xs looks : List Entry) (t : Target) (d : Option Format) → IsSeenBy d maxage clock looks t → IsSeenBy d maxage clock (xs ++ looks) t
-shows_later maxage clock xs looks t None s = record {
-  family = s.family;
-  seen = shown_in t.naming (places_of t.stand.members) looks (xs ++ looks) (λ e i. in_back e xs looks i) s.seen;
-  sights = λ m i. in_back (entry.Look (path_at t.naming (number_in m.place)) (Some m.seen)) xs looks (s.sights m i);
-  from_is = s.from_is;
-  low = s.low;
-  ready = s.ready;
-}
-shows_later maxage clock xs looks t (Some format) s = record {
-  family = s.family;
-  seen = shown_more t.naming t.stand.members looks (xs ++ looks) (λ e i. in_back e xs looks i) s.seen;
-  free = s.free;
-  ready = s.ready;
-}
-
 -- the directory was seen, or was missing
 dir_later : (log : Path) (n : Naming) (members : List Member) (job : Option Job) (xs looks : List Entry) (d : Option (Path × Option ℕ)) → IsDirSeenBy d log n members job looks → IsDirSeenBy d log n members job (xs ++ looks)
 dir_later log n members job xs looks None s = (s.0, s.1, in_back _ xs looks s.2)
@@ -175,8 +153,10 @@ seen_later rules clock xs looks [] s = tt
 seen_later rules clock xs looks (t ∷ ts) s = (
   record {
     given = given_later xs looks s.0.given;
+    family = s.0.family;
     log_seen = among_later (Sees t.log IsFile) xs looks s.0.log_seen;
-    shows = shows_later s.0.given.rule.maxage clock xs looks t t.naming.dated s.0.shows;
+    seen = shown_more t.naming t.stand.members looks (xs ++ looks) (λ e i. in_back e xs looks i) s.0.seen;
+    shows = s.0.shows;
     maxage_is = s.0.maxage_is;
     dir = dir_later t.log t.naming t.stand.members t.job xs looks t.ready.dir s.0.dir;
     job = job_later s.0.job;

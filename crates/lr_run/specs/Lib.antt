@@ -9,4 +9,3 @@ pub mod Runs
 pub mod Scripts
 pub mod State
 pub mod Taken
-pub mod Turned

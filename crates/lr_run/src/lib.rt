@@ -26,4 +26,4 @@ mod work;
 
 pub use answer::{Ran, RunStop};
 pub use asked::run;
-pub use laws::{run_rotates_all, run_turns_copied};
+pub use laws::run_rotates_all;

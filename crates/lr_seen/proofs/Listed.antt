@@ -1,10 +1,7 @@
 -- What the looks showed of a family, whose directory may have been listed for another log before.
-use Rattle.std.proofs.Common.{◌≡◌, inl, inr, ⊎_elim, ℕ, ◌+◌, Bool, true, false, List, [], ◌∷◌, map, Option, Some, None, refl, sym, ◌∙◌, ap, subst}
+use Rattle.std.proofs.Common.{◌≡◌, inl, inr, ⊎_elim, ℕ, Bool, true, false, List, [], ◌∷◌, map, Option, Some, None, refl, sym, ◌∙◌, ap, subst}
 use Rattle.std.specs.List.Sorted.{IsPermutation}
-use Rattle.std.proofs.lemmas.List.Elements.{All-contains}
-use Rattle.std.proofs.lemmas.List.Sorted.{Contains-permutation, IsPermutation-sym}
 use Rattle.lr_rules.specs.declared.path.Path.{Path}
-use Rattle.lr_rules.specs.declared.rule.Format.{Format}
 use Rattle.lr_rules.specs.declared.rule.Naming.{Naming}
 use Rattle.lr_rules.specs.Path.{parent_of}
 use Rattle.lr_host.specs.declared.thing.Kind.{Kind}
@@ -15,24 +12,17 @@ use Rattle.lr_host.specs.declared.entry.Entry.TheVariants as entry
 use Rattle.lr_host.specs.Lists.{IsIn}
 use Rattle.lr_host.specs.Looks.{Sees, IsDir, is_dir}
 use Rattle.lr_host.specs.Told.{Then}
-use Rattle.lr_host.proofs.Lists.{in_from, in_to, in_map, in_unmap, in_front, in_back, in_append}
+use Rattle.lr_host.proofs.Lists.{in_map, in_front, in_back, in_append}
 use Rattle.lr_family.specs.declared.listing.Listing.{Listing}
-use Rattle.lr_family.specs.declared.stand.Member.{Member}
 use Rattle.lr_family.specs.declared.stand.Stand.{Stand}
 use Rattle.lr_family.specs.Among.{StandsAmong, ShowsMembers, ShowsIn}
 use Rattle.lr_family.specs.Listed.{HasListed, ShowsListing}
 use Rattle.lr_family.specs.Parts.{part_if_file, part_seen, part_in, part_look, PartsAmong, ShowsParts}
-use Rattle.lr_family.specs.Places.{IsPlaceOf}
-use Rattle.lr_family.proofs.Placed.{numbered_at}
-use Rattle.lr_family.proofs.Rising.{spots_more}
-use Rattle.lr_family.proofs.Shown.{members_named, members_seen}
-use Rattle.lr_chain.specs.Rotation.{places_of}
 use Rattle.lr_looks.specs.Families.{FamilySight, Stood, Stopped, ShowsFamily, behind_listing, with_listing, not_listed, ShowFamilies, LookedLog, looked_by, looked_of}
 use Rattle.lr_looks.specs.Found.{FoundLog}
-use Rattle.lr_dated_seen.specs.Shown.{WasSeen, ShownDated}
-use Rattle.lr_dated_seen.proofs.Shows.{members_shown as looks_shown}
-use Rattle.lr_rotations.specs.Shown.{SawDir, Shown, SawMembers}
-use Rattle.lr_rotations.proofs.Shown.{stands_shown}
+use Rattle.lr_rotations.specs.Shown.{SawDir}
+use Rattle.lr_laws_family.specs.Shown.{Shown}
+use Rattle.lr_laws_family.proofs.Shows.{members_shown}
 use Rattle.lr_seen.proofs.Elements.{in_list, in_flat}
 
 -- ---- listings
@@ -193,28 +183,6 @@ pub all_told : (all : List Entry) (fs : List FoundLog) (after : List Listing) (s
     → (x : LookedLog) → IsIn x (looked_of fs ss) → WasTold x.naming x.stand all
 all_told all fs after ss ts in_all h = families_told all [] fs after ss ts in_all (λ l i. absurd i) h
 
--- ---- members
-
--- looks at the members among names are those at the members among the same names in another order
-stands_as : (n : Naming) (names listed : List (List ℕ)) (members : List Member) (us : List Entry) → IsPermutation listed names → StandsAmong n names members us → StandsAmong n listed members us
-stands_as n names listed members us same s = record {
-  spots = s.spots;
-  spots_are = spots_more n names listed s.spots (λ name c. Contains-permutation names listed name (IsPermutation-sym listed names same) c) (λ name c. Contains-permutation listed names name same c) s.spots_are;
-  shown = s.shown;
-  each = s.each;
-  newest_first = s.newest_first;
-  looks = s.looks;
-}
-
--- what was seen of each member a look told
-sights_among : (n : Naming) (names : List (List ℕ)) (members : List Member) (us all : List Entry) → n.dated ≡ None → ((e : Entry) → IsIn e us → IsIn e all) → StandsAmong n names members us → SawMembers n members all
-sights_among n names members us all numbered in_all s m i =
-    let c = in_to m members i in
-    let named = All-contains (λ (m : Member). IsPlaceOf n m.place m.path) members m (members_named n names members us all in_all s) c in
-    let seen = All-contains (WasSeen all) members m (members_seen n names members us all in_all s) c in
-    let place = numbered_at n m.place m.path numbered named in
-    subst (λ (x : Path). IsIn (entry.Look x (Some m.seen)) all) place.named seen.1
-
 -- ---- part files
 
 -- of each of these paths a look saw a regular file
@@ -244,24 +212,12 @@ parts_shown all n names parts ts in_all p x i =
 
 -- ---- what was shown of a family
 
--- The members of a family were seen: numbered ones each by a look that tells what was seen of it, dated ones the newest first.
-abbrev pub ShownBy : Option Format → Naming → Stand → List Entry → Type 0
-ShownBy None n stand all = Shown n (places_of stand.members) all × SawMembers n stand.members all
-ShownBy (Some format) n stand all = ShownDated n stand.members all
-
--- So they were where its directory is there, which was seen too, and the part files of every one. Where it isn't, that was seen, and nothing stands.
+-- The members of a family were seen where its directory is there, which was seen too, and the part files of every one. Where it isn't, that was seen, and nothing stands.
 abbrev pub WasShown : Naming → Stand → List Entry → Type 0
-WasShown n stand all = (stand.there ≡ true → SawDir n.dir all × ShownBy n.dated n stand all) × SawFiles stand.parts all × (stand.there ≡ false → IsMissing n stand all)
-
-shown_by : (all : List Entry) (n : Naming) (stand : Stand) (d : Option Format) → n.dated ≡ d → IsListed n stand all → ShownBy d n stand all
-shown_by all n stand None numbered l = (
-  stands_shown n l.listed stand.members l.front all numbered l.front_in l.list (stands_as n l.names l.listed stand.members l.front l.same l.members),
-  sights_among n l.names stand.members l.front all numbered l.front_in l.members,
-)
-shown_by all n stand (Some format) dated l = looks_shown n l.listed l.names stand.members l.front all l.same l.list l.front_in l.members
+WasShown n stand all = (stand.there ≡ true → SawDir n.dir all × Shown n stand.members all) × SawFiles stand.parts all × (stand.there ≡ false → IsMissing n stand all)
 
 was_shown : (all : List Entry) (n : Naming) (stand : Stand) → WasTold n stand all → WasShown n stand all
-was_shown all n stand told = ((λ there. let l = told.0 there in (l.dir, shown_by all n stand n.dated refl l)), parts stand.there refl, told.1)
+was_shown all n stand told = ((λ there. let l = told.0 there in (l.dir, members_shown n l.listed l.names stand.members l.front all l.same l.list l.front_in l.members)), parts stand.there refl, told.1)
   where
     parts : (b : Bool) → stand.there ≡ b → SawFiles stand.parts all
     parts true there = let l = told.0 there in parts_shown all n l.names stand.parts l.back l.back_in l.parts

@@ -2,7 +2,7 @@
 use Rattle.std.proofs.Common.{◌≡◌, ◌≢◌, ◌↔◌, inl, inr, ℕ, ◌+◌, ◌&&◌, ◌||◌, bytes_eq, Bool, true, false, not, cond, if◌then◌else◌, true≢false, List, [], ◌∷◌, ◌++◌, Option, Some, None, slice_get, refl, sym, ap, ◌∙◌, subst, arith, eq-eqb}
 use Rattle.std.specs.List.{list_any}
 use Rattle.std.specs.List.Sorted.{IsStrictlySortedBy}
-use Rattle.std.specs.Prelude.{ℤ, IsSome}
+use Rattle.std.specs.Prelude.{ℤ}
 use Rattle.std.proofs.lemmas.Bool.{and_parts, not-true, or_left, or_right}
 use Rattle.std.proofs.lemmas.List.Folds.{list_any_at}
 use Rattle.std.proofs.lemmas.Slice.Eq.{bytes_eq-Decides}
@@ -28,7 +28,7 @@ use Rattle.lr_host.specs.declared.thing.Kind.TheVariants as kind
 use Rattle.lr_host.specs.declared.thing.Seen.{Seen}
 use Rattle.lr_host.specs.Lists.{IsIn}
 use Rattle.lr_host.specs.Looks.{Sees, IsFile, is_dir_kind, is_dir}
-use Rattle.lr_host.proofs.Lists.{in_from, in_to, in_front, in_back}
+use Rattle.lr_host.proofs.Lists.{in_to, in_front, in_back}
 use Rattle.lr_family.specs.declared.stand.Member.{Member}
 use Rattle.lr_family.specs.declared.stand.Stand.{Stand}
 use Rattle.lr_family.specs.Kin.{IsKin}
@@ -49,14 +49,13 @@ use Rattle.lr_looks.specs.Found.{FoundLog, HasLogPath, HaveLogPaths}
 use Rattle.lr_looks.specs.Sets.{looked_in}
 use Rattle.lr_looks.specs.Shown.{ShowsLooks}
 use Rattle.lr_looks.proofs.Kindred.{kin_of}
-use Rattle.lr_rotations.specs.Members.{IsFamily}
-use Rattle.lr_rotations.specs.Shown.{SawDir, no_dir as number_no_dir}
+use Rattle.lr_rotations.specs.Shown.{SawDir}
 use Rattle.lr_targets.specs.Target.{Target, IsOneTooHigh, IsDirSeenBy, Gives}
-use Rattle.lr_rotations.specs.Weave.{Among}
+use Rattle.lr_laws_family.specs.Weave.{Among}
 use Rattle.lr_dated_ready.specs.Hindrances.{dated_hindrances}
-use Rattle.lr_dated_seen.specs.Family.{IsDatedFamily}
-use Rattle.lr_dated_seen.specs.Shown.{no_dir}
-use Rattle.lr_dated_seen.proofs.Names.{log_apart}
+use Rattle.lr_laws_family.specs.Members.{IsFamily}
+use Rattle.lr_laws_family.specs.Shown.{no_dir, Shown}
+use Rattle.lr_laws_family.proofs.DatedNames.{no_member}
 use Rattle.lr_dated_run.specs.Own.{HaveAnyNames}
 use Rattle.lr_mixed.specs.Seen.{IsSeenBy, IsLogSeen, AreLogsSeen}
 use Rattle.lr_mixed.proofs.Seen.{have_names}
@@ -66,26 +65,18 @@ use Rattle.lr_seen.proofs.Apart.{kept_at}
 use Rattle.lr_seen.proofs.Coming.{Comes, comes_from, was_looked, in_kept, IsFrom, came_from}
 use Rattle.lr_seen.proofs.Directory.{dir_apart}
 use Rattle.lr_seen.proofs.Gives.{all_in, gives_kept}
-use Rattle.lr_seen.proofs.Listed.{SawParent, ShownBy, WasShown, all_shown}
+use Rattle.lr_seen.proofs.Listed.{SawParent, WasShown, all_shown}
 use Rattle.lr_seen.proofs.Ready.{by_copy, by_rename, target_job}
 
 -- ---- the family
 
--- the log and the naming that its rule gives it are a family, numbered or dated
-is_family : (rule : Rule) (f : FoundLog) → rule.dated ≡ None → CanAsk rule → HasLogPath f → naming_of rule f.log.path ≡ f.log.naming → IsFamily f.log.path f.log.naming
-is_family rule f numbered can fit is = subst (IsFamily f.log.path) is (record {
-  numbered = numbered;
-  kin = kin_of rule f.log.path can fit.path fit.size fit.last;
-  dir = subst (λ (m : Naming). path_fault m.dir ≡ None) (sym is) fit.dir;
-})
-
-is_dated_family : (rule : Rule) (f : FoundLog) → IsSome rule.dated → CanAsk rule → HasLogPath f → naming_of rule f.log.path ≡ f.log.naming → IsDatedFamily f.log.path f.log.naming
-is_dated_family rule f some can fit is = subst (IsDatedFamily f.log.path) is (record {
-  dated = some;
-  format = format;
+-- the log and the naming that its rule gives it are a family
+is_family : (rule : Rule) (f : FoundLog) → CanAsk rule → HasLogPath f → naming_of rule f.log.path ≡ f.log.naming → IsFamily f.log.path f.log.naming
+is_family rule f can fit is = subst (IsFamily f.log.path) is (record {
   kin = kin;
+  format = format;
   dir = subst (λ (m : Naming). path_fault m.dir ≡ None) (sym is) fit.dir;
-  apart = log_apart rule f.log.path format kin;
+  apart = no_member rule f.log.path format kin;
 })
   where
     format : or_none is_format rule.dated ≡ true
@@ -125,12 +116,8 @@ module _ {reserved : List Path} (rules : Rules) (sets : List SetLooks) (faults :
   looked_format : or_none is_format x.naming.dated ≡ true
   looked_format = subst (λ (n : Naming). or_none is_format n.dated ≡ true) of.naming_is fits.format
 
-  looked_family : x.naming.dated ≡ None → IsFamily x.path x.naming
-  looked_family numbered = subst (λ (p : Path). IsFamily p x.naming) of.path_is (subst (IsFamily of.found.log.path) of.naming_is (is_family of.by_word.word.rule of.found (sym rule_dated ∙ numbered) can fits by_rule))
-
-  looked_dated_family : IsSome x.naming.dated → IsDatedFamily x.path x.naming
-  looked_dated_family some =
-      subst (λ (p : Path). IsDatedFamily p x.naming) of.path_is (subst (IsDatedFamily of.found.log.path) of.naming_is (is_dated_family of.by_word.word.rule of.found (subst IsSome rule_dated some) can fits by_rule))
+  pub looked_family : IsFamily x.path x.naming
+  looked_family = subst (λ (p : Path). IsFamily p x.naming) of.path_is (subst (IsFamily of.found.log.path) of.naming_is (is_family of.by_word.word.rule of.found can fits by_rule))
 
 -- ---- the look at the log
 
@@ -220,21 +207,12 @@ unfolding IsStrictlySortedBy
 none_fall = tt
 
 -- a directory that is missing has no member
-none_shown : (n : Naming) (ts : List Entry) → IsIn (entry.Look n.dir None) ts → (d : Option Format) → ShownBy d n empty_stand ts
-none_shown n ts gone None = (
-  record {
-    falling = λ k lt. absurd (omega (arith, lt));
-    named = λ place c. absurd (in_from place [] c);
-    files = λ place c. absurd (in_from place [] c);
-    others = λ place named out. number_no_dir gone;
-  },
-  λ m i. absurd i,
-)
-none_shown n ts gone (Some format) = record {
+none_shown : (n : Naming) (ts : List Entry) → IsIn (entry.Look n.dir None) ts → Shown n [] ts
+none_shown n ts gone = record {
   newest_first = none_fall;
   named = λ at m lt. absurd (omega (arith, lt));
   files = λ at m lt. absurd (omega (arith, lt));
-  others = λ x seconds serial is none. no_dir gone;
+  others = λ x is none. no_dir gone;
 }
 
 dir_kind : (k : Kind) → is_dir_kind k ≡ true → k ≡ kind.Dir
@@ -255,9 +233,9 @@ none_stale look way target job is = let by = by_copy way (with_stand empty_stand
 
 module _ (rule : Rule) (look : LogLook) (ts : List Entry) (shown : WasShown look.family.naming look.stand ts) where
   -- the members that stand as the rotation begins were seen
-  stand_shown : (made : Bool) → makes_dir rule look ≡ made → (if made then empty_stand else look.stand).there ≡ true → ShownBy look.family.naming.dated look.family.naming (if made then empty_stand else look.stand) ts
+  stand_shown : (made : Bool) → makes_dir rule look ≡ made → (if made then empty_stand else look.stand).there ≡ true → Shown look.family.naming (if made then empty_stand else look.stand).members ts
   stand_shown false is there = (shown.0 there).1
-  stand_shown true is there = none_shown look.family.naming ts (shown.2 (to_make rule look is).gone).look look.family.naming.dated
+  stand_shown true is there = none_shown look.family.naming ts (shown.2 (to_make rule look is).gone).look
 
   -- a part file that stands then stood
   part_stood : (made : Bool) (x : Path) → IsIn x (if made then empty_stand else look.stand).parts → IsIn x look.stand.parts
@@ -282,28 +260,17 @@ module _ (rule : Rule) (look : LogLook) (ts : List Entry) (shown : WasShown look
 
 -- ---- one log, and all
 
--- its members were seen, and its rotation is theirs, where this stands of its family
-shows_by : {reserved : List Path} (rules : Rules) (sets : List SetLooks) (faults : List Fault) (ts : List Entry) (clock : Clock) (rule : Rule) (look : LogLook) (k : ℕ) (s : ShowsLooks reserved rules.sets sets faults ts) → IsIn (looked_in k look) s.looked
-    → (dir : Option (Path × Option ℕ)) (stand : Stand) → (stand.there ≡ true → ShownBy look.family.naming.dated look.family.naming stand ts) → (d : Option Format) → look.family.naming.dated ≡ d → hindrances_by d clock rule (with_stand stand look) ≡ []
-    → IsSeenBy d rule.maxage clock ts (target_by d dir clock rule (with_stand stand look))
-shows_by rules sets faults ts clock rule look k s looked dir stand shown None e free =
+-- its rotation is that of the members that were seen, where this stands of its family
+shows_by : (ts : List Entry) (clock : Clock) (rule : Rule) (look : LogLook) (dir : Option (Path × Option ℕ)) (stand : Stand) → (d : Option Format) → look.family.naming.dated ≡ d → hindrances_by d clock rule (with_stand stand look) ≡ []
+    → IsSeenBy d rule.maxage clock (target_by d dir clock rule (with_stand stand look))
+shows_by ts clock rule look dir stand None e free =
     let f = is_free rule (with_stand stand look) free in
-    let members : ShownBy None look.family.naming stand ts = subst (λ d. ShownBy d look.family.naming stand ts) e (shown f.0) in
     record {
-      family = looked_family rules sets faults ts (looked_in k look) s looked e;
-      seen = members.0;
-      sights = members.1;
       from_is = refl;
       low = not_high look.family.naming rule.count stand.members f.1;
       ready = record { leftovers_are = refl; no_dir = refl; moves_are = refl; log_is = refl; target_is = refl; make_is = refl; retire_is = refl };
     }
-shows_by rules sets faults ts clock rule look k s looked dir stand shown (Some format) e free =
-    record {
-      family = looked_dated_family rules sets faults ts (looked_in k look) s looked (subst IsSome (sym e) refl);
-      seen = subst (λ d. ShownBy d look.family.naming stand ts) e (shown (dated_free look.family.naming stand _ free));
-      free = free;
-      ready = refl;
-    }
+shows_by ts clock rule look dir stand (Some format) e free = record { free = free; ready = refl }
 
 target_seen : {reserved : List Path} (rules : Rules) (sets : List SetLooks) (faults : List Fault) (ts : List Entry) (clock : Clock) (t : Target) → (s : ShowsLooks reserved rules.sets sets faults ts) → Comes clock rules.sets sets t → IsLogSeen rules clock ts t
 target_seen rules sets faults ts clock t s c = subst (IsLogSeen rules clock ts) (sym c.is) (record {
@@ -324,8 +291,10 @@ target_seen rules sets faults ts clock t s c = subst (IsLogSeen rules clock ts) 
     way_is = subst (λ (r : Rule). (r.way ≡ Rename) ↔ ((target_of clock c.rule c.look).job ≡ None)) same (by_rename c.rule.way (standing c.rule c.look) (ready_for clock c.rule c.look).target);
   };
   log_seen = sees_file x.path o.found.seen ts o.file (subst (λ (p : Path). IsIn (entry.Look p (Some o.found.seen)) ts) o.path_is look);
-  shows = subst (λ (r : Rule). IsSeenBy c.look.family.naming.dated r.maxage clock ts (target_of clock c.rule c.look)) same
-      (shows_by rules sets faults ts clock c.rule c.look (0 + c.place) s looked (dir_of c.rule c.look) (stand_for c.rule c.look) (stand_shown c.rule c.look ts shown (makes_dir c.rule c.look) refl) c.look.family.naming.dated refl c.free);
+  family = looked_family rules sets faults ts x s looked;
+  seen = stand_shown c.rule c.look ts shown (makes_dir c.rule c.look) refl (there_of c.look.family.naming.dated clock c.rule (standing c.rule c.look) c.free);
+  shows = subst (λ (r : Rule). IsSeenBy c.look.family.naming.dated r.maxage clock (target_of clock c.rule c.look)) same
+      (shows_by ts clock c.rule c.look (dir_of c.rule c.look) (stand_for c.rule c.look) c.look.family.naming.dated refl c.free);
   maxage_is = ap (λ (r : Rule). r.maxage) (sym same);
   dir = dir_seen c.rule c.look ts shown (ready_for clock c.rule c.look).target (looked_format rules sets faults ts x s looked) (makes_dir c.rule c.look) refl (there_of c.look.family.naming.dated clock c.rule (standing c.rule c.look) c.free);
   job = λ job is. (target_job clock c.rule c.look job is, λ stale. let old = shown.1 job.part (part_stood c.rule c.look ts shown (makes_dir c.rule c.look) job.part (stale_stands clock c.rule c.look job is stale)) in sees_file job.part old.0 ts old.1 old.2);

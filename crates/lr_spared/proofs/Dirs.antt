@@ -25,7 +25,7 @@ use Rattle.lr_plan.specs.Course.{Course}
 use Rattle.lr_chain.specs.declared.directory.DirStop.TheVariants as unmade
 use Rattle.lr_plan.specs.Outcomes.{Fails, badly, not_run, maybe_run, bytes_fault}
 use Rattle.lr_synced.specs.Synced.{made_of, to_make_of, all_to_make_of}
-use Rattle.lr_rotations.proofs.Weaving.{each_in}
+use Rattle.lr_laws_family.proofs.Weaving.{each_in}
 use Rattle.lr_targets.specs.AllTurns.{IsStatePath, IsOfState, IsItsDir, IsOf, IsOfSome}
 use Rattle.lr_targets.specs.Target.{Target, HasDir, rotation_of}
 use Rattle.lr_dated_run.specs.Own.{ChangesOwn, HasAnyNames, HaveAnyNames}

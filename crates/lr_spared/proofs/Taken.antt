@@ -12,7 +12,7 @@ use Rattle.lr_host.proofs.Lists.{in_append}
 use Rattle.lr_host.proofs.Made.{made_on}
 use Rattle.lr_host.proofs.Quiet.{since_before}
 use Rattle.lr_acts.specs.Taken.{Spares, WasTaken, at_last}
-use Rattle.lr_rotations.proofs.Weaving.{each_in}
+use Rattle.lr_laws_family.proofs.Weaving.{each_in}
 use Rattle.lr_spared.proofs.Naming.{Avoids, Spared, made_same, still_nothing, still_gone}
 use Rattle.lr_weave.proofs.Planning.{each_end}
 

@@ -13,7 +13,7 @@ use Rattle.lr_host.specs.Told.{Counts, Rose}
 use Rattle.lr_host.specs.World.{Past, world, names}
 use Rattle.lr_family.specs.Parts.{IsDated, IsMembersPart}
 use Rattle.lr_looks.specs.Found.{FoundLog}
-use Rattle.lr_rotations.specs.Rotated.{IsBehind}
+use Rattle.lr_laws_family.specs.Moments.{IsBehind}
 
 -- neither the count of failed calls rose nor that of bad ends; at its greatest value a count counts as risen
 abbrev pub NoneRose : Counts → Counts → Type 0

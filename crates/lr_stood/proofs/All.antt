@@ -1,48 +1,28 @@
 -- All looks of a run.
 use Rattle.std.proofs.Common.{◌≡◌, ℕ, List, ◌++◌, reverse, Some, Ok, slice_get, sym, ap, ◌∙◌, subst, append_assoc}
-use Rattle.std.proofs.lemmas.List.Elements.{All-contains}
-use Rattle.std.proofs.lemmas.List.Sums.{AllPass-from_list_all}
 use Rattle.lr_rules.specs.declared.fault.Fault.{Fault}
 use Rattle.lr_rules.specs.declared.path.Path.{Path}
-use Rattle.lr_rules.specs.declared.rule.Rule.{Rule}
 use Rattle.lr_rules.specs.declared.rules.Rules.{Rules}
-use Rattle.lr_rules.specs.Limits.{meets_limits}
-use Rattle.lr_rules.specs.Names.{naming_of}
 use Rattle.lr_host.specs.declared.entry.Entry.{Entry}
 use Rattle.lr_host.specs.Lists.{IsIn}
 use Rattle.lr_host.specs.Opening.{IsJournal}
 use Rattle.lr_host.specs.Quiet.{AreQuiet, ChangeNothing}
 use Rattle.lr_host.specs.Told.{Made}
 use Rattle.lr_host.specs.World.{Past}
-use Rattle.lr_host.proofs.Lists.{in_to, in_back}
+use Rattle.lr_host.proofs.Lists.{in_back}
 use Rattle.lr_host.proofs.Quiet.{quiet_both, quiet_still, still_in_order}
-use Rattle.lr_family.specs.Kin.{IsKin}
 use Rattle.lr_glob.specs.declared.found.Found.{Found as Match}
 use Rattle.lr_plan.specs.declared.looks.SetLooks.{SetLooks}
-use Rattle.lr_looks.specs.Asked.{CanAsk, Word, asked_by}
-use Rattle.lr_looks.specs.Choices.{kept_of}
+use Rattle.lr_looks.specs.Asked.{Word, asked_by}
 use Rattle.lr_looks.specs.Families.{LookedLog}
-use Rattle.lr_looks.specs.Found.{FoundLog, HasLogPath}
 use Rattle.lr_looks.specs.Shown.{ShowsLooks}
-use Rattle.lr_looks.proofs.Kindred.{kin_of}
-use Rattle.lr_seen.proofs.Coming.{in_kept, IsFrom, came_from}
-use Rattle.lr_seen.proofs.Elements.{in_list}
 use Rattle.lr_seen.proofs.Listed.{all_shown}
 use Rattle.lr_seen.proofs.Quiet.{whole_quiet}
-use Rattle.lr_seen.proofs.Seen.{log_path}
+use Rattle.lr_seen.proofs.Seen.{looked_family}
 use Rattle.lr_stood.specs.True.{IsTrueWord, IsTrueFamily, AreTrue}
 use Rattle.lr_stood.proofs.Families.{true_family}
-use Rattle.lr_stood.proofs.Members.{IsAnyFamily}
 use Rattle.lr_stood.proofs.Sought.{all_sought}
 use Rattle.lr_stood.proofs.Words.{WasShown, word_shown, text_at, true_word}
-
--- ---- a log and its family
-
--- the log and the naming that its rule gives it are a family
-is_family : (rule : Rule) (f : FoundLog) → CanAsk rule → HasLogPath f → naming_of rule f.log.path ≡ f.log.naming → IsAnyFamily f.log.path f.log.naming
-is_family rule f can fit is = record { kin = subst (IsKin f.log.path) is (kin_of rule f.log.path can fit.path fit.size fit.last); dir = fit.dir; format = fit.format }
-
--- ---- all looks
 
 module _ {reserved : List Path} (rules : Rules) (sets : List SetLooks) (faults : List Fault) (front ts es : List Entry) (p q : Past) (s : ShowsLooks reserved rules.sets sets faults ts) (journal : IsJournal p) (made : Made p es q) (joined : reverse es ≡ front ++ ts)
     (quiet : AreQuiet front) where
@@ -75,24 +55,8 @@ module _ {reserved : List Path} (rules : Rules) (sets : List SetLooks) (faults :
       shown : WasShown w matches s.entries.front
       shown = word_shown 0 (asked_by rules.sets) s.entries.first.sights s.entries.front place w matches s.entries.first.shown at is
 
-  any_family : (x : LookedLog) → IsIn x s.looked → IsAnyFamily x.path x.naming
-  any_family x i = subst (λ (l : Path). IsAnyFamily l x.naming) o.path_is (subst (IsAnyFamily o.found.log.path) o.naming_is
-      (is_family o.by_word.word.rule o.found can (log_path s.found o.found s.paths (in_kept s.found s.keeps.choices o.found from.1)) naming))
-    where
-      from : (o : IsFrom rules.sets s.entries.front s.found x) × IsIn o.found (kept_of s.found s.keeps.choices)
-      from = came_from rules.sets sets faults ts s x i
-
-      o : IsFrom rules.sets s.entries.front s.found x
-      o = from.0
-
-      can : CanAsk o.by_word.word.rule
-      can = All-contains CanAsk rules.sets o.by_word.word.rule (AllPass-from_list_all meets_limits rules.sets rules.limits) (in_to o.by_word.word.rule rules.sets (in_list rules.sets x.set o.by_word.word.rule o.at))
-
-      naming : naming_of o.by_word.word.rule o.found.log.path ≡ o.found.log.naming
-      naming = ap (λ (g : FoundLog). naming_of o.by_word.word.rule g.log.path) o.by_word.is ∙ sym (ap (λ (g : FoundLog). g.log.naming) o.by_word.is)
-
   one_family : (x : LookedLog) → IsIn x s.looked → IsTrueFamily x.naming x.stand p q
-  one_family x i = true_family x.path x.naming x.stand p q es (any_family x i) made journal still
+  one_family x i = true_family x.path x.naming x.stand p q es (looked_family rules sets faults ts x s i) made journal still
       (all_shown (reverse es) s.kept f.listings f.families.sights s.entries.back in_families f.families.shown x of_sights)
       (all_sought (reverse es) s.kept f.listings f.families.sights s.entries.back in_families f.families.shown x of_sights)
     where

@@ -27,13 +27,15 @@ use Rattle.lr_laws.proofs.StandsIn.{stands_in}
 use Rattle.lr_family.specs.declared.stand.Member.{Member}
 use Rattle.lr_family.specs.declared.stand.Stand.{Stand}
 use Rattle.lr_family.specs.Parts.{IsMember, IsMembersPart}
-use Rattle.lr_dated_seen.specs.Shown.{IsUnlisted, IsUnseen, unlisted, gone, no_dir}
-use Rattle.lr_dated_seen.proofs.Picking.{has_or_none}
+use Rattle.lr_laws_family.specs.Shown.{IsUnlisted, IsUnseen, unlisted, gone, no_dir}
+use Rattle.lr_laws_family.proofs.Picking.{has_or_none}
 use Rattle.lr_seen.proofs.Listed.{WasShown}
 use Rattle.lr_sought.specs.Finds.{StoodOrCame}
 use Rattle.lr_sought.proofs.Came.{quiet_prefix, stood_or_came}
 use Rattle.lr_stood.specs.True.{HasMember, IsTrueFamily}
-use Rattle.lr_stood.proofs.Members.{IsAnyFamily, HasNameIn, member_in, part_in, WereSeen, members_seen}
+use Rattle.lr_laws_family.specs.Members.{IsFamily}
+use Rattle.lr_laws_family.proofs.Directory.{IsNameIn, member_in}
+use Rattle.lr_stood.proofs.Members.{part_in, WereSeen, members_seen}
 use Rattle.lr_stood.proofs.Sought.{WereSought, WasSought}
 
 -- a file is seen as one
@@ -53,7 +55,7 @@ path_or_not x (y ∷ ys) = go (bytes_eq y x) refl (path_or_not x ys)
     go false e (inl i) = inl (inr i)
     go false e (inr none) = inr (λ i. ⊎_elim (λ (same : y ≡ x). absurd (let t = (bytes_eq-Decides y x).1 same in cc)) none i)
 
-module _ (log : Path) (n : Naming) (stand : Stand) (p q : Past) (es : List Entry) (family : IsAnyFamily log n) (m : Made p es q) (journal : IsJournal p) (still : ChangeNothing es) (shown : WasShown n stand (reverse es)) (sought : WasSought n stand (reverse es)) where
+module _ (log : Path) (n : Naming) (stand : Stand) (p q : Past) (es : List Entry) (family : IsFamily log n) (m : Made p es q) (journal : IsJournal p) (still : ChangeNothing es) (shown : WasShown n stand (reverse es)) (sought : WasSought n stand (reverse es)) where
   -- just before one of the entries
   then_ : (e : Entry) → IsIn e (reverse es) → Moment IsAny p q e
   then_ e i = moment IsAny p q e es (since_any p q es m) m still (from_reverse e es i)
@@ -76,14 +78,14 @@ module _ (log : Path) (n : Naming) (stand : Stand) (p q : Past) (es : List Entry
       other (file_seen (world t.at) (names (world t.at) x) f.0 o f.1 t.fits)
 
   -- so does a listing of its directory without its name
-  not_listed : (x : Path) (listed : List (List ℕ)) → HasNameIn n x → IsIn (entry.List n.dir listed) (reverse es) → IsUnlisted n.dir listed x → IsFileAt (names (world p)) x → ⊥
+  not_listed : (x : Path) (listed : List (List ℕ)) → IsNameIn n.dir x → IsIn (entry.List n.dir listed) (reverse es) → IsUnlisted n.dir listed x → IsFileAt (names (world p)) x → ⊥
   not_listed x listed h i absent file =
       let t = then_ (entry.List n.dir listed) i in
       let f = stands (joined n.dir h.name) (entry.List n.dir listed) t (subst (IsFileAt (names (world p))) h.named file) in
       absent h.name ((t.fits.1.all h.name).1 (h.part, λ none. nothing_no_file (names (world t.at) (joined n.dir h.name)) f.0 none f.1)) h.named
 
   -- and a look that saw no directory
-  no_directory : (x : Path) → HasNameIn n x → IsIn (entry.Look n.dir None) (reverse es) → IsFileAt (names (world p)) x → ⊥
+  no_directory : (x : Path) → IsNameIn n.dir x → IsIn (entry.Look n.dir None) (reverse es) → IsFileAt (names (world p)) x → ⊥
   no_directory x h i file = nothing_no_dir (names (world t.at) n.dir) (seen_none (world t.at) (names (world t.at) n.dir) t.fits) (directory_more (names (world p)) (names (world t.at)) n.dir (quiet_more IsAny p t.at t.since) dir)
     where
       t : Moment IsAny p q (entry.Look n.dir None)
@@ -104,7 +106,7 @@ module _ (log : Path) (n : Naming) (stand : Stand) (p q : Past) (es : List Entry
   -- ---- members
 
   seen : stand.there ≡ true → WereSeen n stand.members (reverse es)
-  seen there = members_seen n stand (reverse es) n.dated refl (shown.0 there).1 (sought there).members
+  seen there = members_seen n stand.members (reverse es) (shown.0 there).1
 
   member_stood : (x : Path) → IsMember n x → IsFileAt (names (world p)) x → (b : Bool) → stand.there ≡ b → HasMember stand.members x
   member_stood x member file true there = ⊎_elim (λ h. h) (λ none. absurd (unseen (s.others x member none))) (has_or_none x stand.members)

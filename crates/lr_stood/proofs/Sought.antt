@@ -18,7 +18,7 @@ use Rattle.lr_family.specs.declared.stand.Stand.{Stand}
 use Rattle.lr_family.specs.Parts.{IsMembersPart, PartSight, part_if_file, part_seen, part_in, part_look, PartsAmong}
 use Rattle.lr_family.specs.Places.{AreNamed}
 use Rattle.lr_family.proofs.Shown.{members_named}
-use Rattle.lr_dated_seen.specs.Shown.{IsUnlisted}
+use Rattle.lr_laws_family.specs.Shown.{IsUnlisted}
 use Rattle.lr_looks.specs.Families.{FamilySight, ShowFamilies, LookedLog, looked_of}
 use Rattle.lr_looks.specs.Found.{FoundLog}
 use Rattle.lr_seen.proofs.Listed.{all_told}

@@ -19,14 +19,15 @@ use Rattle.lr_copy.specs.Copying.{clearing}
 use Rattle.lr_chain.specs.Rotation.{places_of, is_left, leftovers, kept, retired, leftover_steps, shift_steps, retire_steps}
 use Rattle.lr_targets.specs.AllTurns.{AlsoDoes, IsOf}
 use Rattle.lr_targets.specs.Apart.{HasNames}
-use Rattle.lr_rotations.specs.Members.{IsFamily, HasName}
+use Rattle.lr_rotations.specs.Members.{IsFamily}
+use Rattle.lr_laws_family.specs.Numbered.{HasName}
 use Rattle.lr_targets.specs.Target.{Target, transfer_of, rotation_of}
 use Rattle.lr_rotations.proofs.Fitting.{kept_next, first_named, retire_named}
 use Rattle.lr_rotations.proofs.Members.{IsOfMembers, unlinks_of, moves_of}
 use Rattle.lr_rotations.proofs.Outside.{place_shape, place_name}
 use Rattle.lr_targets.proofs.PartFile.{part_at, part_joined, job_target, job_part}
 use Rattle.lr_targets.proofs.Rotating.{left_are, shift_are, retire_are, each_part}
-use Rattle.lr_rotations.proofs.Weaving.{each_in}
+use Rattle.lr_laws_family.proofs.Weaving.{each_in}
 
 -- ---- the paths of a rotation are own names
 

@@ -38,9 +38,9 @@ use Rattle.lr_family.specs.Parts.{IsDated, IsMember}
 use Rattle.lr_family.specs.Stands.{number_in}
 use Rattle.lr_copy.specs.declared.job.Job.{Job}
 use Rattle.lr_chain.specs.Rotation.{places_of}
-use Rattle.lr_rotations.specs.Members.{HasName, HaveNext}
+use Rattle.lr_laws_family.specs.Numbered.{HasName, HaveNext}
 use Rattle.lr_targets.specs.Target.{Gives, IsGiven, IsOneTooHigh}
-use Rattle.lr_rotations.specs.Weave.{Among}
+use Rattle.lr_laws_family.specs.Weave.{Among}
 
 -- what holds of all holds of each of them
 all_in : {A : Type 0} (P : A → Type 0) (xs : List A) (x : A) → All P xs → Contains xs x → P x

@@ -6,3 +6,4 @@ pub mod PartFile
 pub mod Rotating
 pub mod Safety
 pub mod SeenFits
+pub mod Steps

@@ -4,32 +4,26 @@ use Rattle.std.specs.Prelude.{filter}
 use Rattle.std.specs.List.{flat_map}
 use Rattle.std.proofs.lemmas.Slice.Eq.{bytes_eq-Decides}
 use Rattle.lr_rules.specs.declared.path.Path.{Path}
-use Rattle.lr_rules.specs.declared.civil.Moment.{Moment}
-use Rattle.lr_rules.specs.declared.rules.Rules.{Rules}
 use Rattle.lr_host.specs.declared.entry.Entry.{Entry}
 use Rattle.lr_host.specs.declared.entry.Entry.TheVariants as entry
 use Rattle.lr_host.specs.declared.entry.Entry.TheVariants.{Renames, Makes, MakesDir, Appends, Truncates, Unlinks}
 use Rattle.lr_host.specs.Lists.{IsIn}
-use Rattle.lr_host.specs.Looks.{Sees, IsFile}
-use Rattle.lr_host.specs.Quiet.{is_disk_change, AreQuiet}
+use Rattle.lr_host.specs.Quiet.{is_disk_change}
 use Rattle.lr_host.specs.Steps.{is_change}
 use Rattle.lr_host.specs.Told.{Each}
 use Rattle.lr_host.proofs.Each.{all_pass}
 use Rattle.lr_host.proofs.Lists.{in_front, in_back}
-use Rattle.lr_host.proofs.Quiet.{disk_of_changes, quiet_still, still_both}
+use Rattle.lr_host.proofs.Quiet.{disk_of_changes}
 use Rattle.lr_laws.specs.Follow.{changed_paths}
 use Rattle.lr_copy.specs.declared.job.Job.{Job}
-use Rattle.lr_chain.specs.Rotation.{places_of}
 use Rattle.lr_targets.specs.AllTurns.{IsStatePath, IsOfState, IsPartFile, IsItsDir, AlsoDoes, IsOf, IsOfOther, StandsBetween, part_paths, dir_paths, paths_of, paths_of_others, other_paths, paths_beside}
-use Rattle.lr_rotations.specs.Rotated.{IsOn, IsBeside, RotatesAmong}
-use Rattle.lr_targets.specs.Target.{Target, rotation_of, IsSeen}
-use Rattle.lr_rotations.specs.Weave.{Among, Weave}
-use Rattle.lr_rotations.proofs.Fed.{IsTurn}
-use Rattle.lr_rotations.proofs.Moments.{shown_in}
-use Rattle.lr_targets.proofs.Rotating.{rotation_is, each_turn}
-use Rattle.lr_targets.proofs.SeenFits.{seen_names}
-use Rattle.lr_rotations.proofs.Splitting.{weave_each}
-use Rattle.lr_rotations.proofs.Weaving.{weave_as, each_in}
+use Rattle.lr_laws_family.specs.Beside.{IsOn, IsBeside}
+use Rattle.lr_targets.specs.Target.{Target, rotation_of}
+use Rattle.lr_laws_family.specs.Weave.{Among, Weave}
+use Rattle.lr_laws_family.proofs.Fed.{IsTurn}
+use Rattle.lr_targets.proofs.Rotating.{each_turn}
+use Rattle.lr_laws_family.proofs.Splitting.{weave_each}
+use Rattle.lr_laws_family.proofs.Weaving.{weave_as, each_in}
 
 -- ---- on which paths
 
@@ -202,20 +196,3 @@ rotates_beside state x ts acts none w = subst (Weave (IsBeside paths x.log) (rot
 
     on : Weave (IsBeside paths x.log) (rotation_of x) (filter is_change acts)
     on = weave_as (StandsBetween state x ts) (IsBeside paths x.log) (rotation_of x) (filter is_change acts) (λ e h. between_beside state x ts e none h) w
-
--- where its rotation is whole
-pub one_rotates : (state : Path) (now : Moment) (rules : Rules) (reads tail looks acts : List Entry) (ts : List Target) (x : Target) → tail ≡ looks ++ acts → AreQuiet reads → AreQuiet looks → IsSeen rules now.seconds looks x
-    → Weave (StandsBetween state x ts) (rotation_of x) (filter is_change acts) → x.job ≡ None → RotatesAmong (paths_beside state x ts) x.log x.naming x.count x.from x.stand (reads ++ entry.Starts state now rules ∷ tail)
-one_rotates state now rules reads tail looks acts ts x joined read quiet seen w none = record {
-  front = reads ++ starts ∷ looks;
-  back = acts;
-  joined = ap (λ ts. reads ++ starts ∷ ts) joined ∙ sym (append_assoc reads (starts ∷ looks) acts);
-  still = still_both reads (starts ∷ looks) (quiet_still reads read) (quiet_still looks quiet);
-  log_seen = among_behind (Sees x.log IsFile) starts reads looks seen.log_seen;
-  seen = shown_in x.naming (places_of x.stand.members) looks (reads ++ starts ∷ looks) (λ e h. in_back e reads (starts ∷ looks) (inr h)) seen.seen;
-  going = (seen_names rules now.seconds looks x seen).going;
-  changes = subst (λ (steps : List Entry). Weave (IsBeside (paths_beside state x ts) x.log) steps (filter is_disk_change acts)) (rotation_is x seen.ready none) (rotates_beside state x ts acts none w);
-}
-  where
-    starts : Entry
-    starts = entry.Starts state now rules

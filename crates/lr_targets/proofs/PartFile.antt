@@ -16,7 +16,8 @@ use Rattle.lr_family.specs.Parts.{part_of}
 use Rattle.lr_family.specs.Spots.{path_at}
 use Rattle.lr_copy.specs.declared.job.Job.{Job}
 use Rattle.lr_copy.specs.Fits.{ArePaths}
-use Rattle.lr_rotations.specs.Members.{IsFamily, HasName, IsNoMember}
+use Rattle.lr_rotations.specs.Members.{IsFamily, IsNoMember}
+use Rattle.lr_laws_family.specs.Numbered.{HasName}
 use Rattle.lr_targets.specs.Target.{Target, HasReady, IsJob}
 use Rattle.lr_rotations.proofs.Paths.{name_part, path_parent, path_other}
 

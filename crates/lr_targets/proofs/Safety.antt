@@ -39,19 +39,22 @@ use Rattle.lr_family.proofs.Numbers.{every_all}
 use Rattle.lr_chain.specs.Rotation.{places_of, rotation}
 use Rattle.lr_targets.specs.AllTurns.{IsStatePath, IsOfState}
 use Rattle.lr_targets.specs.Apart.{HasNames}
-use Rattle.lr_rotations.specs.Members.{IsFamily, HasName, AreThere, HaveNext, MayGo}
+use Rattle.lr_rotations.specs.Members.{IsFamily, AreThere, MayGo}
+use Rattle.lr_laws_family.specs.Numbered.{HasName, HaveNext}
 use Rattle.lr_rotations.specs.Shown.{Shown, SawMembers}
 use Rattle.lr_targets.specs.Target.{Target, rotation_of, IsSeen}
-use Rattle.lr_rotations.specs.Weave.{Among, FirstWoven}
+use Rattle.lr_laws_family.specs.Weave.{Among, FirstWoven}
 use Rattle.lr_rotations.proofs.Aged.{looked_run, may_go}
 use Rattle.lr_rotations.proofs.LogFitting.{log_fits, log_fits_first}
 use Rattle.lr_targets.proofs.Given.{gives, journal_before, naming_same, no_copy, by_rule}
 use Rattle.lr_rotations.proofs.Moments.{saw_file, shown_members}
 use Rattle.lr_targets.proofs.Rotating.{rotation_is}
-use Rattle.lr_targets.proofs.SeenFits.{seen_names}
+use Rattle.lr_rotations.proofs.Sights.{sights_of}
+use Rattle.lr_targets.proofs.SeenFits.{seen_names, seen_places}
 use Rattle.lr_rotations.proofs.Still.{IsStill, quiet_safe_on, made_still}
 use Rattle.lr_rotations.proofs.Turning.{is_one}
-use Rattle.lr_rotations.proofs.Weaving.{weave_back, IsApart, IsApartOrMakes, IsWoven, woven}
+use Rattle.lr_laws_family.proofs.Weaving.{weave_back}
+use Rattle.lr_rotations.proofs.Weaving.{IsApart, IsApartOrMakes, IsWoven, woven}
 
 -- ---- the state's path
 
@@ -158,14 +161,14 @@ module _ (s : LogSet) (state : Path) (now : ℤ) (rules : Rules) (u v : Past) (l
       may : MayGo s v t.count t.from
       may = subst (MayGo s v t.count) (sym seen.from_is)
           (may_go s u v looks t.count now seen.given.rule t.stand.members family m quiet none_at here.now_is (λ g old. some (ByAge v g) old)
-          (λ place h. subst (λ (n : Naming). HasName n place) (sym naming) (seen.seen.named place (k.names_all.going.there place (subst (λ (ks : List ℕ). Contains ks place) (sym seen.from_is) h))))
-          (subst (λ (n : Naming). SawMembers n t.stand.members looks) (sym naming) seen.sights))
+          (λ place h. subst (λ (n : Naming). HasName n place) (sym naming) ((seen_places rules now looks t seen).named place (k.names_all.going.there place (subst (λ (ks : List ℕ). Contains ks place) (sym seen.from_is) h))))
+          (subst (λ (n : Naming). SawMembers n t.stand.members looks) (sym naming) (sights_of t.naming seen.family.numbered t.stand.members looks seen.seen)))
 
       stands : AreThere t.naming (names (world v)) places
       stands =
           subst (λ (x : Naming). AreThere x (names (world v)) places) naming
           (shown_members s u v (reverse looks) places family (journal_before u v (reverse looks) m here.journal) m quiet_in_order none_at
-          (subst (λ (x : Naming). Shown x places (reverse (reverse looks))) (sym naming) (subst (Shown t.naming places) (sym in_order) seen.seen)))
+          (subst (λ (x : Naming). Shown x places (reverse (reverse looks))) (sym naming) (subst (Shown t.naming places) (sym in_order) (seen_places rules now looks t seen))))
 
       -- it isn't copied
       steps_are : rotation_of t ≡ rotation t.naming t.count t.log places t.from

@@ -43,17 +43,21 @@ use Rattle.lr_chain.proofs.Steps.{each_rotation}
 use Rattle.lr_targets.specs.Apart.{HasNames}
 use Rattle.lr_rotations.specs.Calls.{after_call, FitCalls, CanCalls, copy_calls}
 use Rattle.lr_targets.specs.Calls.{transfer_calls, calls_of}
-use Rattle.lr_rotations.specs.Members.{IsFamily, HasName, IsNoMember, HaveNext}
+use Rattle.lr_rotations.specs.Members.{IsFamily, IsNoMember}
+use Rattle.lr_laws_family.specs.Numbered.{HasName, HaveNext}
 use Rattle.lr_rotations.specs.Shown.{SawDir, Shown, IsUnseen, unlisted, gone, no_dir}
 use Rattle.lr_targets.specs.Target.{Target, HasDir, IsMissingDir, IsDirSeenBy, IsDirSeen, IsJob, IsSeen}
+use Rattle.lr_rotations.proofs.Sights.{places_shown}
 use Rattle.lr_rotations.proofs.Alike.{IsLike, like_self, AreLike, Reads, fit_like, afters, fit_first, fit_rest, fit_both, afters_on, fit_calls}
 use Rattle.lr_rotations.proofs.CopyFits.{copy_fits, copied_to, copied_other}
-use Rattle.lr_rotations.proofs.Fed.{IsTurn}
+use Rattle.lr_laws_family.proofs.Fed.{IsTurn}
 use Rattle.lr_rotations.proofs.Fitting.{fits, kept_next, first_named, retire_named}
 use Rattle.lr_targets.proofs.Given.{have_next}
 use Rattle.lr_rotations.proofs.Members.{IsOfMembers, unlinks_of, moves_of, members_spare}
-use Rattle.lr_rotations.proofs.Moments.{SawFile, saw_one, saw_file, quiet_journal}
-use Rattle.lr_rotations.proofs.OrMade.{Spares}
+use Rattle.lr_rotations.proofs.Moments.{saw_one, saw_file}
+use Rattle.lr_laws_family.specs.Shown.{SawFile}
+use Rattle.lr_laws_family.proofs.Stood.{quiet_journal}
+use Rattle.lr_laws_family.proofs.OrMade.{Spares}
 use Rattle.lr_rotations.proofs.Outside.{place_name}
 use Rattle.lr_targets.proofs.PartFile.{part_no_member, job_target, job_part, job_paths, job_no_dir}
 use Rattle.lr_rotations.proofs.Paths.{name_part, path_parent, path_same, path_other}
@@ -215,19 +219,23 @@ pub has_dir : (t : Target) (looks : List Entry) → IsDirSeen t looks → HasDir
 has_dir t looks seen dir mode is = let missing : IsMissingDir t.log t.naming t.stand.members t.job looks dir = subst (λ (d : Option (Path × Option ℕ)). IsDirSeenBy d t.log t.naming t.stand.members t.job looks) is seen in
     (missing.dir_is, missing.apart)
 
+-- what was seen of its members, by their places
+pub seen_places : (rules : Rules) (now : ℤ) (looks : List Entry) (t : Target) → IsSeen rules now looks t → Shown t.naming (places_of t.stand.members) looks
+seen_places rules now looks t seen = places_shown t.naming seen.family.numbered t.stand.members looks seen.seen
+
 pub seen_names : (rules : Rules) (now : ℤ) (looks : List Entry) (t : Target) → IsSeen rules now looks t → HasNames t
 seen_names rules now looks t seen = record {
   family = seen.family;
   named = named;
   next = have_next rules looks t.log t.naming t.count t.job t.stand.members seen.given named seen.low;
-  going = subst (AreGoing t.count (places_of t.stand.members)) (sym seen.from_is) (going_are t.count seen.given.rule.maxage now t.stand.members seen.seen.falling);
+  going = subst (AreGoing t.count (places_of t.stand.members)) (sym seen.from_is) (going_are t.count seen.given.rule.maxage now t.stand.members (seen_places rules now looks t seen).falling);
   ready = seen.ready;
   dir = has_dir t looks seen.dir;
   job = λ job is. (seen.job job is).0;
 }
   where
     named : All (HasName t.naming) (places_of t.stand.members)
-    named = All-weaker (Contains (places_of t.stand.members)) (HasName t.naming) seen.seen.named (places_of t.stand.members) (All-contains_itself (places_of t.stand.members))
+    named = All-weaker (Contains (places_of t.stand.members)) (HasName t.naming) (seen_places rules now looks t seen).named (places_of t.stand.members) (All-contains_itself (places_of t.stand.members))
 
 -- the paths of its copy
 pub seen_paths : (rules : Rules) (now : ℤ) (looks : List Entry) (t : Target) (job : Job) → IsSeen rules now looks t → t.job ≡ Some job → ArePaths job
@@ -351,7 +359,7 @@ module _ (rules : Rules) (seconds : ℤ) (t : Target) (p q : Past) (es : List En
     -- the rotation of the places fits
     by_places : FitCalls now (L ++ ((S ++ R t ∷ []) ++ U t))
     by_places = fit_calls now (rotation t.naming t.count t.log places t.from) (each_rotation IsTurn (λ x. tt) (λ x y. tt) t.naming t.count t.log places t.from)
-        (rotation_at t.log t.naming t.count places t.from p q es seen.family names_all.next names_all.going m quiet saw_log saw seen.seen)
+        (rotation_at t.log t.naming t.count places t.from p q es seen.family names_all.next names_all.going m quiet saw_log saw (seen_places rules seconds (reverse es) t seen))
 
     -- behind the leftovers, and behind the moves
     abbrev left : Names

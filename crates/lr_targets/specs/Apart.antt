@@ -2,7 +2,8 @@
 use Rattle.std.specs.Prelude.{All}
 use Rattle.lr_chain.specs.Rotation.{places_of}
 use Rattle.lr_chain.specs.Standing.{AreGoing}
-use Rattle.lr_rotations.specs.Members.{IsFamily, HasName, HaveNext}
+use Rattle.lr_rotations.specs.Members.{IsFamily}
+use Rattle.lr_laws_family.specs.Numbered.{HasName, HaveNext}
 use Rattle.lr_targets.specs.Target.{Target, HasReady, HasDir, HasJob}
 
 -- Each member that was seen has a name, and each place that one comes to; those that go are among them. The rotation that is ready is theirs, and so are the directory and the copy.

@@ -29,10 +29,11 @@ use Rattle.lr_copy.specs.declared.job.Job.{Job}
 use Rattle.lr_copy.specs.Copying.{clearing}
 use Rattle.lr_chain.specs.declared.ready.Ready.{Ready}
 use Rattle.lr_chain.specs.Ready.{IsReady, with_dir, move_step}
-use Rattle.lr_chain.specs.Rotation.{places_of, going}
+use Rattle.lr_chain.specs.Rotation.{going}
 use Rattle.lr_rotations.specs.Members.{IsFamily}
-use Rattle.lr_rotations.specs.Shown.{SawDir, Shown, SawMembers}
-use Rattle.lr_rotations.specs.Weave.{Among}
+use Rattle.lr_laws_family.specs.Shown.{Shown}
+use Rattle.lr_rotations.specs.Shown.{SawDir}
+use Rattle.lr_laws_family.specs.Weave.{Among}
 
 -- What looks and listings tell of a log where they are true: this word of one of the rules gives it. Where the word is a wildcard that gives another log too, which named a file before and of which it is a member, by numbers or dates, it is none by the naming of a rule that gives that log.
 pub record Gives (rules : List Rule) (rule : Rule) (word : List ℕ) (log : Path) (ts : List Entry) : Type 0 where
@@ -125,8 +126,7 @@ pub record IsSeen (rules : Rules) (now : ℤ) (looks : List Entry) (t : Target) 
   pub given : IsGiven rules.sets looks t.log t.naming t.count t.job
   pub family : IsFamily t.log t.naming
   pub log_seen : Among (Sees t.log IsFile) looks
-  pub seen : Shown t.naming (places_of t.stand.members) looks
-  pub sights : SawMembers t.naming t.stand.members looks
+  pub seen : Shown t.naming t.stand.members looks
   pub from_is : t.from ≡ going t.count given.rule.maxage now t.stand.members
   pub low : IsOneTooHigh t.naming t.count t.stand.members → ⊥
   pub ready : HasReady t

@@ -1,64 +1,34 @@
 -- A run that rotates a log by copy: its copy stands whole amid the steps of its rotation, and nothing else empties the log.
-use Rattle.std.proofs.Common.{◌≡◌, inl, inr, ⊎_elim, ℕ, Bool, true, false, not, cond, refl, sym, ◌∙◌, ap, subst, append_assoc, Some, None, List, [], ◌∷◌, ◌++◌}
+use Rattle.std.proofs.Common.{◌≡◌, inl, inr, ⊎_elim, Bool, true, false, cond, refl, sym, ◌∙◌, ap, subst, append_assoc, Some, List, [], ◌∷◌, ◌++◌}
 use Rattle.std.specs.Prelude.{filter}
 use Rattle.std.proofs.lemmas.List.Elements.{filter-append}
-use Rattle.lr_rules.specs.declared.clock.Clock.{Clock}
 use Rattle.lr_rules.specs.declared.path.Path.{Path}
-use Rattle.lr_rules.specs.declared.rule.Naming.{Naming}
-use Rattle.lr_rules.specs.declared.rules.Rules.{Rules}
 use Rattle.lr_host.specs.declared.entry.Entry.{Entry}
-use Rattle.lr_host.specs.declared.entry.Entry.TheVariants as entry
 use Rattle.lr_host.specs.declared.entry.Entry.TheVariants.{Renames, Makes, Truncates, Unlinks, SyncsFile, SyncsDir}
 use Rattle.lr_host.specs.Lists.{IsIn}
-use Rattle.lr_host.specs.Looks.{Sees, IsFile}
-use Rattle.lr_host.specs.Quiet.{is_disk_change, AreQuiet}
+use Rattle.lr_host.specs.Quiet.{is_disk_change}
 use Rattle.lr_host.specs.Steps.{is_change}
 use Rattle.lr_host.specs.Told.{Each, Are}
 use Rattle.lr_host.proofs.Each.{each_append, each_as, each_first, all_pass}
-use Rattle.lr_host.proofs.Lists.{in_back}
-use Rattle.lr_host.proofs.Quiet.{disk_of_changes, quiet_still, still_both}
-use Rattle.lr_family.proofs.Numbers.{Every, every_all, every_filter}
+use Rattle.lr_host.proofs.Quiet.{disk_of_changes}
 use Rattle.lr_copy.specs.declared.job.Job.{Job}
 use Rattle.lr_copy.specs.Copying.{Copies, clearing, cutting}
 use Rattle.lr_copy.proofs.EachOfBytes.{each_all, each_are, each_both}
 use Rattle.lr_copied.specs.Whole.{Named}
-use Rattle.lr_chain.specs.Rotation.{places_of, is_left, leftovers, kept, retired, leftover_steps, shift_steps, retire_steps}
 use Rattle.lr_durable.proofs.Lists.{each_last}
 use Rattle.lr_emptied.specs.Emptied.{CopiedLast, EmptiesCopied}
 use Rattle.lr_targets.specs.AllTurns.{StandsBetween, paths_beside}
-use Rattle.lr_targets.specs.Apart.{HasNames}
-use Rattle.lr_rotations.specs.Members.{HasName}
-use Rattle.lr_rotations.specs.Rotated.{IsBeside, AreOutside}
-use Rattle.lr_targets.specs.Target.{Target, transfer_of, rotation_of, IsSeen}
-use Rattle.lr_rotations.specs.Weave.{Among, Weave}
-use Rattle.lr_rotations.proofs.Fitting.{kept_next, first_named, retire_named}
-use Rattle.lr_rotations.proofs.Members.{IsOfThese, IsOfMembers, IsMember, members_these, unlinks_of, moves_of}
-use Rattle.lr_rotations.proofs.Moments.{shown_in}
-use Rattle.lr_targets.proofs.PartFile.{job_target}
-use Rattle.lr_targets.proofs.Rotating.{left_are, shift_are, retire_are, two}
-use Rattle.lr_targets.proofs.SeenFits.{seen_names}
-use Rattle.lr_targets.proofs.Others.{among_behind, beside_changes}
-use Rattle.lr_rotations.proofs.Splitting.{weave_each}
-use Rattle.lr_rotations.proofs.Weaving.{weave_as}
-use Rattle.lr_mixed.specs.AllTurns.{AllTurnedBy}
-use Rattle.lr_mixed.proofs.Seen.{numbered_seen, log_among}
-use Rattle.lr_turned.specs.Turned.{CopiesAmong}
+use Rattle.lr_laws_family.specs.Beside.{IsBeside}
+use Rattle.lr_targets.specs.Target.{Target, rotation_of}
+use Rattle.lr_laws_family.specs.Weave.{Weave}
+use Rattle.lr_laws_family.proofs.These.{IsOfThese}
+use Rattle.lr_targets.proofs.Others.{beside_changes}
+use Rattle.lr_laws_family.proofs.Splitting.{weave_each}
+use Rattle.lr_laws_family.proofs.Weaving.{weave_as}
+use Rattle.lr_turned.specs.Copied.{CopyStands, IsSameFor}
 use Rattle.lr_turned.proofs.Beside.{IsBesideOrCut, between_beside}
-use Rattle.lr_turned.proofs.Changes.{CopyParts, copy_parts}
+use Rattle.lr_laws_family.proofs.Changes.{CopyParts, copy_parts}
 use Rattle.lr_turned.proofs.Weaves.{IsOther, stands_once, all_other, each_filter, other_unfiltered, weave_at, weave_front, weave_behind, weave_less, weave_drop}
-
--- A copy by this job stands among these entries, one entry behind another, with the truncation of the log where the job asks for that.
-pub record CopyStands (job : Job) (ts : List Entry) : Type 0 where
-  pub before : List Entry
-  pub named : List Entry
-  pub after : List Entry
-  pub count : ℕ
-  pub is_named : Named job count named
-  pub joined : ts ≡ before ++ (named ++ (cutting job ++ after))
-
--- of the jobs of one log it is this one
-abbrev pub IsSameFor : Job → Job → Type 0
-IsSameFor job other = other.from ≡ job.from → other ≡ job
 
 -- a rename or an unlink of certain paths changes the disk
 these_change : (Own : Path → Type 0) (e : Entry) → IsOfThese Own e → is_disk_change e ≡ true
@@ -251,79 +221,3 @@ module _ (state : Path) (x : Target) (targets : List Target) (acts : List Entry)
       (weave_less Q (IsBeside paths job.from) (IsOther cut) last (filter is_change stands.after) uncut_beside
       (weave_behind Q (IsOfThese Own) last (filter is_change (cutting job)) (filter is_change stands.after) (subst (Weave Q last) (filter-append is_change (cutting job) stands.after) cut_in_two.1) last_own cutting_apart)
       (each_filter (IsOther cut) is_change stands.after after_uncut))
-
--- ---- a log with numbers
-
--- The run rotated each log whole, and this one it copied, one entry behind another, emptying it behind that copy alone.
-module _ (state : Path) (clock : Clock) (rules : Rules) (reads tail : List Entry) (t : AllTurnedBy state clock rules tail) (x : Target) (job : Job) (quiet : AreQuiet reads) (one : IsIn x t.turns.targets) (job_is : x.job ≡ Some job) (none : x.naming.dated ≡ None)
-    (outside : AreOutside (job.part ∷ paths_beside state x t.turns.targets) job.from x.naming) (copy_stands : CopyStands job t.turns.acts) (empties : EmptiesCopied (IsSameFor job) t.turns.acts) where
-  abbrev n : Naming
-  n = x.naming
-
-  abbrev places : List ℕ
-  places = places_of x.stand.members
-
-  seen : IsSeen rules clock.now.seconds t.turns.looks x
-  seen = numbered_seen rules clock t.turns.looks x (log_among rules clock t.turns.looks t.turns.targets t.turns.seen x one) none
-
-  has : HasNames x
-  has = seen_names rules clock.now.seconds t.turns.looks x seen
-
-  from_log : x.log ≡ job.from
-  from_log = sym (seen.job job job_is).0.from_is
-
-  -- ---- the steps
-
-  abbrev ls : List Entry
-  ls = leftover_steps n x.count places
-
-  abbrev ss : List Entry
-  ss = shift_steps n x.count places
-
-  abbrev us : List Entry
-  us = retire_steps n x.count x.from
-
-  rotation_is : rotation_of x ≡ ((ls ++ ss) ++ clearing job) ++ (Renames job.part job.to ∷ us)
-  rotation_is = two (left_are x seen.ready) (two (shift_are x seen.ready) (two (ap (transfer_of x.ready) job_is) (retire_are x seen.ready)))
-      ∙ (ap (λ zs. ls ++ (ss ++ zs)) (append_assoc (clearing job) (Renames job.part job.to ∷ []) us)
-      ∙ (sym (append_assoc ls ss (clearing job ++ (Renames job.part job.to ∷ us))) ∙ sym (append_assoc (ls ++ ss) (clearing job) (Renames job.part job.to ∷ us))))
-
-  named_places : Every (HasName n) places
-  named_places = every_all (HasName n) places has.named
-
-  early_steps : Each (IsOfThese (IsMember n)) (ls ++ ss)
-  early_steps = each_as (IsOfMembers n) (IsOfThese (IsMember n)) (ls ++ ss) (members_these n)
-      (each_append (IsOfMembers n) ls ss (unlinks_of n (leftovers x.count places) (every_filter (HasName n) (is_left x.count) places named_places))
-      (moves_of n (kept x.count places) (every_filter (HasName n) (λ k. not (is_left x.count k)) places named_places) (kept_next n x.count places has.next)))
-
-  late_steps : Each (IsOfThese (IsMember n)) us
-  late_steps = each_as (IsOfMembers n) (IsOfThese (IsMember n)) us (members_these n) (unlinks_of n (retired x.count x.from) (retire_named n x.count places x.from has.next has.going))
-
-  to_member : IsMember n job.to
-  to_member = (0, first_named n x.count places has.next, job_target x job seen.ready (seen.job job job_is).0)
-
-  no_member : (y : Path) → IsIn y (job.part ∷ paths_beside state x t.turns.targets) → IsMember n y → ⊥
-  no_member y i member = (outside y i).1 member.0 member.1 member.2
-
-  -- ---- the whole
-
-  abbrev starts : Entry
-  starts = entry.Starts state clock.now rules
-
-  -- so its copy stands amid its rotation
-  pub copies_among : CopiesAmong (paths_beside state x t.turns.targets) job x.naming x.count x.from x.stand (reads ++ entry.Starts state clock.now rules ∷ tail)
-  copies_among = record {
-    front = reads ++ starts ∷ t.turns.looks;
-    early = copy_stands.before;
-    named = copy_stands.named;
-    late = copy_stands.after;
-    joined = ap (λ ts. reads ++ starts ∷ ts) (t.turns.joined ∙ ap (λ zs. t.turns.looks ++ zs) copy_stands.joined) ∙ sym (append_assoc reads (starts ∷ t.turns.looks) _);
-    still = still_both reads (starts ∷ t.turns.looks) (quiet_still reads quiet) (quiet_still t.turns.looks t.turns.quiet);
-    log_seen = among_behind (Sees job.from IsFile) starts reads t.turns.looks (subst (λ (y : Path). Among (Sees y IsFile) t.turns.looks) from_log seen.log_seen);
-    going = has.going;
-    seen = shown_in x.naming places t.turns.looks (reads ++ starts ∷ t.turns.looks) (λ e h. in_back e reads (starts ∷ t.turns.looks) (inr h)) seen.seen;
-    before_it = early_woven state x t.turns.targets t.turns.acts job (IsMember n) (ls ++ ss) us job_is from_log (t.whole x one) rotation_is early_steps late_steps to_member no_member copy_stands empties;
-    count = copy_stands.count;
-    is_named = copy_stands.is_named;
-    behind_it = late_woven state x t.turns.targets t.turns.acts job (IsMember n) (ls ++ ss) us job_is from_log (t.whole x one) rotation_is early_steps late_steps to_member no_member copy_stands empties;
-  }

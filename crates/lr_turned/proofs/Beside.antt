@@ -7,7 +7,7 @@ use Rattle.lr_host.specs.Lists.{IsIn}
 use Rattle.lr_host.proofs.Lists.{in_front, in_back}
 use Rattle.lr_copy.specs.declared.job.Job.{Job}
 use Rattle.lr_targets.specs.AllTurns.{IsItsDir, AlsoDoes, StandsBetween, dir_paths, paths_of_others, other_paths, paths_beside}
-use Rattle.lr_rotations.specs.Rotated.{IsBeside}
+use Rattle.lr_laws_family.specs.Beside.{IsBeside}
 use Rattle.lr_targets.specs.Target.{Target}
 use Rattle.lr_targets.proofs.Others.{on_more, dir_in, other_on, state_on}
 

@@ -27,7 +27,7 @@ use Rattle.lr_emptied.proofs.Steps.{plan_copied}
 use Rattle.lr_targets.specs.Target.{Target, IsJob}
 use Rattle.lr_weave.specs.Planned.{AreReadyFor, HaveLogs, NoneHas, AreApart}
 use Rattle.lr_weave.proofs.Whole.{one_none, nil_split}
-use Rattle.lr_turned.proofs.Among.{CopyStands, IsSameFor}
+use Rattle.lr_turned.specs.Copied.{CopyStands, IsSameFor}
 
 -- ---- steps that were all made
 

@@ -4,13 +4,8 @@ use Rattle.std.specs.Prelude.{filter}
 use Rattle.lr_host.specs.declared.entry.Entry.{Entry}
 use Rattle.lr_host.specs.Told.{Each}
 use Rattle.lr_durable.proofs.Lists.{each_last}
-use Rattle.lr_rotations.specs.Weave.{Weave, none, own, other}
-
-heads : (x y : Entry) (xs ys : List Entry) → x ∷ xs ≡ y ∷ ys → x ≡ y
-heads x y xs ys e = cc
-
-tails : (x y : Entry) (xs ys : List Entry) → x ∷ xs ≡ y ∷ ys → xs ≡ ys
-tails x y xs ys e = cc
+use Rattle.lr_laws_family.specs.Weave.{Weave, none, own, other}
+use Rattle.lr_rules.proofs.Heads.{heads, tails}
 
 -- ---- an entry that stands once
 

@@ -1,28 +1,30 @@
-// What a copy of a log makes of the log's family.
-ghost use Rattle.std.specs.Prelude.{◌≡◌, ℕ, List, ◌∷◌, reverse};
+// A log that a run copies amid its rotation.
+ghost use Rattle.std.specs.Prelude.{◌≡◌, List, ◌∷◌, ◌++◌, Some};
+ghost use Rattle.lr_rules.specs.declared.clock.Clock.{Clock};
 ghost use Rattle.lr_rules.specs.declared.path.Path.{Path};
-ghost use Rattle.lr_rules.specs.declared.rule.Count.{Count};
-ghost use Rattle.lr_rules.specs.declared.rule.Naming.{Naming};
+ghost use Rattle.lr_rules.specs.declared.rules.Rules.{Rules};
 ghost use Rattle.lr_host.specs.declared.entry.Entry.{Entry};
-ghost use Rattle.lr_host.specs.Opening.{IsJournal};
-ghost use Rattle.lr_host.specs.Told.{Made};
-ghost use Rattle.lr_host.specs.World.{Past, world, names};
-ghost use Rattle.lr_family.specs.declared.stand.Stand.{Stand};
-ghost use Rattle.lr_family.specs.Spots.{path_at};
+ghost use Rattle.lr_host.specs.declared.entry.Entry.TheVariants.{Starts};
+ghost use Rattle.lr_host.specs.Lists.{IsIn};
+ghost use Rattle.lr_host.specs.Quiet.{AreQuiet};
 ghost use Rattle.lr_copy.specs.declared.job.Job.{Job};
-ghost use Rattle.lr_copy.specs.Fits.{ArePaths};
-ghost use Rattle.lr_chain.specs.Rotation.{places_of};
-ghost use Rattle.lr_rotations.specs.Members.{IsFamily, AreThere, HaveNext};
-ghost use Rattle.lr_rotations.specs.Rotated.{AreOutside};
-ghost use Rattle.lr_turned.specs.Turned.{NoneOfSetAttached, CopiesAmong, IsTurnedByCopy};
+ghost use Rattle.lr_emptied.specs.Emptied.{EmptiesCopied};
+ghost use Rattle.lr_laws_family.specs.Made.{RotatesAmong};
+ghost use Rattle.lr_laws_family.specs.Members.{IsNoMember};
+ghost use Rattle.lr_laws_family.specs.Rotation.{IsOfMembers};
+ghost use Rattle.lr_targets.specs.AllTurns.{paths_beside};
+ghost use Rattle.lr_targets.specs.Rotation.{rotation_by};
+ghost use Rattle.lr_targets.specs.Target.{Target};
+ghost use Rattle.lr_mixed.specs.AllTurns.{AllTurnedBy};
+ghost use Rattle.lr_turned.specs.Copied.{CopyStands, IsSameFor};
 
-/// Where a log and its family were seen, and then the log was copied amid its rotation, with others between on paths outside
-/// of the family: the members that were seen are those that stood before; the copy has its place, with all bytes that the
-/// log had as it was last read; each member is where the rotation takes it, by its identity and with its bytes; and the log
-/// names its file still, whatever writers did meanwhile that attached no member and nothing at the part file's path.
-pub fn copied_family_is_turned()
-    ensures { (paths : List Path) (job : Job) (n : Naming) (c : Count) (from : List ℕ) (stand : Stand) (p q : Past) (es : List Entry)
-        → Made p es q → IsJournal p → IsFamily job.from n → job.to ≡ path_at n 0 → ArePaths job → HaveNext n c (places_of stand.members)
-        → NoneOfSetAttached job n p q → AreOutside (job.part ∷ paths) job.from n → CopiesAmong paths job n c from stand (reverse es)
-        → AreThere n (names (world p)) (places_of stand.members) × IsTurnedByCopy paths job n c from p q }
+/// Where each log was rotated whole, and one of them was copied, one entry behind another, with nothing else that empties it,
+/// the entries are the looks at that log and its rotation, as its plan has it, by the copy, with others between on the paths of
+/// other logs and of the state, and the making of the log's own directory: `family_is_turned` says what becomes of its files.
+pub fn copied_log_rotates()
+    ensures { (state : Path) (clock : Clock) (rules : Rules) (reads tail : List Entry) (t : AllTurnedBy state clock rules tail)
+        (x : Target) (job : Job) → AreQuiet reads → IsIn x t.turns.targets → x.job ≡ Some job → IsOfMembers x.naming (rotation_by x)
+        → ((y : Path) → IsIn y (job.part ∷ paths_beside state x t.turns.targets) → IsNoMember x.naming y)
+        → CopyStands job t.turns.acts → EmptiesCopied (IsSameFor job) t.turns.acts
+        → RotatesAmong (paths_beside state x t.turns.targets) x.naming (rotation_by x) (reads ++ Starts state clock.now rules ∷ tail) }
 {}

@@ -1,11 +1,11 @@
-//! What a rotation by copy makes of the family of a log, file by file, where nothing failed.
+//! A log that a run copies amid its rotation: its copy stands whole among the entries, and nothing else empties the log.
 //!
-//! A law is the contract of a function without a body; begin with `copied_family_is_turned`, whose words stand in
-//! `specs/Turned.antt`.
+//! A law is the contract of a function without a body; begin with `copied_log_rotates`, whose words stand in
+//! `specs/Copied.antt`.
 #![tactic(auto)]
 
 mod laws;
 mod worked;
 
-pub use laws::copied_family_is_turned;
+pub use laws::copied_log_rotates;
 pub use worked::unlinked_log_is_not_kept;

@@ -1,18 +1,19 @@
 // A log that is copied, worked through.
-ghost use Rattle.std.specs.Prelude.{ℕ, List};
+ghost use Rattle.std.specs.Prelude.{◌≡◌, List};
 ghost use Rattle.lr_rules.specs.declared.path.Path.{Path};
-ghost use Rattle.lr_rules.specs.declared.rule.Count.{Count};
 ghost use Rattle.lr_rules.specs.declared.rule.Naming.{Naming};
 ghost use Rattle.lr_host.specs.Opening.{IsJournal};
 ghost use Rattle.lr_host.specs.World.{Opens};
 ghost use Rattle.lr_laws.specs.Chain.{found};
 ghost use Rattle.lr_copied.specs.Worked.{job};
-ghost use Rattle.lr_turned.specs.Turned.{IsTurnedByCopy};
+ghost use Rattle.lr_laws_family.specs.Rotation.{Rotation, Copy};
+ghost use Rattle.lr_laws_family.specs.Turned.{IsTurned};
 ghost use Rattle.lr_turned.specs.Worked.{unlinked};
 
 /// Where the log is unlinked behind its copy, in place of being kept or emptied, its family wasn't turned by the copy, by
-/// whatever names and count.
+/// whatever names and rotation.
 pub fn unlinked_log_is_not_kept()
     ensures journal { IsJournal unlinked }
-    ensures lost { (paths : List Path) (n : Naming) (c : Count) (from : List ℕ) → IsTurnedByCopy paths job n c from (Opens found) unlinked → ⊥ }
+    ensures lost { (paths : List Path) (n : Naming) (r : Rotation) → r.by ≡ Copy job → r.source ≡ job.from
+        → IsTurned paths n r (Opens found) unlinked → ⊥ }
 {}

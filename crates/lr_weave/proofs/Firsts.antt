@@ -1,7 +1,7 @@
 -- First parts of lists of entries.
 use Rattle.std.proofs.Common.{sym, ◌∙◌, ap, List, ◌++◌, append_assoc}
 use Rattle.lr_host.specs.declared.entry.Entry.{Entry}
-use Rattle.lr_rotations.specs.Weave.{IsFirstOf}
+use Rattle.lr_laws_family.specs.Weave.{IsFirstOf}
 
 -- of more
 pub first_longer : (xs ys ts : List Entry) → IsFirstOf xs ts → IsFirstOf (xs ++ ys) ts

@@ -46,10 +46,10 @@ use Rattle.lr_targets.specs.Calls.{transfer_calls, calls_of}
 use Rattle.lr_targets.specs.Target.{Target, unlinks, transfer_of, rotation_of, IsJob, HasJob, HasDir}
 use Rattle.lr_dated_run.specs.Own.{ChangesDated, ChangesOwn, HasAnyNames}
 use Rattle.lr_dated_run.proofs.Own.{changes_own, turns_own}
-use Rattle.lr_rotations.specs.Weave.{IsFirstOf}
+use Rattle.lr_laws_family.specs.Weave.{IsFirstOf}
 use Rattle.lr_rotations.proofs.Alike.{IsLike, like_self, AreLike, Anywhere, more_like, put_like, Reads, can_like, after_like, fit_like, each_anywhere, calls_as, calls_made, calls_still}
 use Rattle.lr_targets.proofs.Apart.{own_paths}
-use Rattle.lr_rotations.proofs.Fed.{IsTurn}
+use Rattle.lr_laws_family.proofs.Fed.{IsTurn}
 use Rattle.lr_targets.proofs.Others.{rotation_turns}
 use Rattle.lr_plan.specs.declared.mark.Mark.{Mark}
 use Rattle.lr_plan.specs.declared.plan.LogPlan.{LogPlan}

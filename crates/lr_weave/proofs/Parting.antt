@@ -14,7 +14,7 @@ use Rattle.lr_host.specs.Lists.{IsIn}
 use Rattle.lr_host.specs.Told.{Each}
 use Rattle.lr_host.specs.Steps.{is_change}
 use Rattle.lr_host.proofs.Each.{each_append, each_first, each_as, none_pass}
-use Rattle.lr_rotations.specs.Weave.{IsFirstOf}
+use Rattle.lr_laws_family.specs.Weave.{IsFirstOf, Weave, none, own, other, FirstWoven}
 use Rattle.lr_host.specs.Quiet.{AreQuiet}
 use Rattle.lr_weave.proofs.Firsts.{first_longer, first_behind}
 use Rattle.lr_copy.specs.declared.job.BytesStop.{BytesStop}
@@ -29,14 +29,13 @@ use Rattle.lr_plan.specs.Outcomes.{Succeeds, Fails, badly, not_run, maybe_run}
 use Rattle.lr_plan.specs.Course.{Course}
 use Rattle.lr_plan.specs.Cut.{CourseCut, ListCut, LogsCut, in_each, in_last, SetCut, in_first, in_logs, SetsCut}
 use Rattle.lr_plan.specs.Done.{EachDone, LogsDone, is_rotated, if_rotated, SetDone, broke_off, went_on, SetsDone}
-use Rattle.lr_rotations.specs.Weave.{Weave, none, own, other, FirstWoven}
 use Rattle.lr_weave.specs.Parts.{takes_name, change_of, changes_by, IsPlain, ArePlain, EachPlain, IsPlainSet, ArePlainSets, MakesOnly, MakesOne, parts_of_set, parts_of_sets, FirstParts, AllOf, ArePlanned}
 use Rattle.lr_weave.specs.Planned.{NoneHas, AreApart}
 use Rattle.lr_targets.specs.Target.{Target, rotation_of}
 use Rattle.lr_targets.specs.AllTurns.{AlsoDoes, IsOf, IsOfSome, IsOfOther, IsOfState, StandsBetween}
 use Rattle.lr_mixed.specs.AllTurns.{AllTurnsBy}
 use Rattle.lr_mixed.specs.Seen.{AreLogsSeen}
-use Rattle.lr_rotations.proofs.Weaving.{weave_as, weave_on, weave_others}
+use Rattle.lr_laws_family.proofs.Weaving.{weave_as, weave_on, weave_others}
 use Rattle.lr_rules.specs.declared.rules.Rules.{Rules}
 
 -- ---- one step

@@ -21,7 +21,8 @@ use Rattle.lr_targets.specs.Target.{Target}
 use Rattle.lr_dated_run.specs.Own.{HaveAnyNames}
 use Rattle.lr_mixed.specs.Seen.{IsLogSeen, AreLogsSeen}
 use Rattle.lr_mixed.proofs.Calls.{log_can}
-use Rattle.lr_rotations.proofs.Moments.{SawFile, saw_one}
+use Rattle.lr_rotations.proofs.Moments.{saw_one}
+use Rattle.lr_laws_family.specs.Shown.{SawFile}
 use Rattle.lr_weave.specs.Fitting.{AreFit, HaveLogPaths}
 
 pub quiet_disk : (p q : Past) → Quiet IsAny p q → IsJournal p → IsJournal q

@@ -15,9 +15,9 @@ use Rattle.lr_targets.specs.AllTurns.{IsOfOther, StandsBetween}
 use Rattle.lr_mixed.specs.AllTurns.{AllTurnedBy}
 use Rattle.lr_mixed.specs.Seen.{AreLogsSeen}
 use Rattle.lr_weave.specs.Parts.{takes_name, MakesOne, ArePlanned, parts_of_sets}
-use Rattle.lr_rotations.specs.Weave.{Weave}
+use Rattle.lr_laws_family.specs.Weave.{Weave}
 use Rattle.lr_weave.proofs.Parting.{only_as, made_between, sets_parts, weave_change, done_turns}
-use Rattle.lr_rotations.proofs.Weaving.{weave_as}
+use Rattle.lr_laws_family.proofs.Weaving.{weave_as}
 use Rattle.lr_weave.proofs.Whole.{done_whole, one_joined}
 
 abbrev pub done_turned : (state : Path) (clock : Clock) (rules : Rules) (looks : List Entry) (targets : List Target) (sets : List SetPlan) (t : List Mark) (ts : List Entry) → AreQuiet looks → AreLogsSeen rules clock looks targets → ArePlanned targets (map steps_of_set sets)

@@ -14,11 +14,11 @@ use Rattle.lr_plan.specs.declared.step.SetSteps.{SetSteps}
 use Rattle.lr_plan.specs.Steps.{by_logs, steps_of_set}
 use Rattle.lr_plan.specs.Course.{Course}
 use Rattle.lr_plan.specs.Done.{EachDone, LogsDone, is_rotated, if_rotated, SetDone, broke_off, went_on, SetsDone}
-use Rattle.lr_rotations.specs.Weave.{Weave, none}
+use Rattle.lr_laws_family.specs.Weave.{Weave, none}
 use Rattle.lr_weave.specs.Parts.{takes_name, change_of, changes_by, ArePlain, EachPlain, IsPlainSet, ArePlainSets, parts_of_set, parts_of_sets, AllOf, InOnePart}
 use Rattle.lr_weave.proofs.Parting.{went_changes, joined_changes}
 use Rattle.lr_weave.proofs.Planning.{program_none}
-use Rattle.lr_rotations.proofs.Weaving.{weave_on, weave_others}
+use Rattle.lr_laws_family.proofs.Weaving.{weave_on, weave_others}
 
 -- ---- all parts whole
 

@@ -1,6 +1,7 @@
 // What the writing of a state file needs.
 ghost use Rattle.std.specs.Prelude.{◌≡◌, IfOk, MatchResult, None};
 ghost use Rattle.lr_rules.specs.Path.{path_fault, IsRefusal};
+ghost use Rattle.lr_rules.specs.StatePath.{state_part};
 
 use lr_rules::{Memory, Path, PathFault};
 use std::alloc::{AllocError, Global};
@@ -20,7 +21,7 @@ pub struct Writing {
 impl Model for Writing {
     ghost use Rattle.std.specs.Prelude.{◌≡◌, length};
     ghost use Rattle.lr_rules.specs.Path.{parent_of};
-    ghost use Rattle.lr_rules.specs.StatePath.{state_part, state_part};
+    ghost use Rattle.lr_rules.specs.StatePath.{state_part};
     ghost use Rattle.lr_writing.specs.Target.{Target};
 
     ghost Value = { Target };

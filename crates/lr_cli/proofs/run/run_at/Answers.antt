@@ -21,7 +21,7 @@ pub returns-in-Ok-clock_in-clause-told : goal.returns-in-Ok-clock_in-clause-told
 returns-in-Ok-clock_in-clause-told g c = at_clock c.args.request.now c.args.zone.now _ c.args.seconds c.in-Ok-clock_in.clock (plan_told c.run_by.result) (answer_of c.run_by.result) (own_seconds c.args.seconds c.ranges.seconds.sfits) c.in-Ok-clock_in.ensures.told c.run_by.ensures.told
 
 pub returns-in-Ok-clock_in-clause-clock : goal.returns-in-Ok-clock_in-clause-clock
-returns-in-Ok-clock_in-clause-clock g c = clock_clocked c.args.zone.now _ c.args.seconds c.in-Ok-clock_in.clock c.run_by.result (own_seconds c.args.seconds c.ranges.seconds.sfits) c.in-Ok-clock_in.ensures.clock c.run_by.ensures.counted
+returns-in-Ok-clock_in-clause-clock g c = clock_clocked c.args.zone.now _ c.args.seconds c.in-Ok-clock_in.clock c.run_by.result _ _ (own_seconds c.args.seconds c.ranges.seconds.sfits) c.in-Ok-clock_in.ensures.clock c.run_by.ensures.counted
 
 pub returns-in-Ok-clock_in-clause-counted : goal.returns-in-Ok-clock_in-clause-counted
 returns-in-Ok-clock_in-clause-counted g c = clock_reported c.run_by.result _ _ _ c.in-Ok-clock_in.ensures.counts.0 c.run_by.ensures.counted

@@ -1,4 +1,4 @@
-use Rattle.lr_rotations.specs.Members.{HasName}
+use Rattle.lr_laws_family.specs.Numbered.{HasName}
 use Rattle.lr_rotations.proofs.Outside.{lies_aside}
 use Rattle.lr_rotations.proofs.rotation.rotation_is_aside.Goals as goal
 use Rattle.lr_family.proofs.Numbers.{every_all}

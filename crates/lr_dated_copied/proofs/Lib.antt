@@ -1,4 +1,0 @@
-pub mod Among
-pub mod Copy
-pub mod Moments
-pub mod Turned

@@ -1,5 +1,0 @@
-pub mod Names
-pub mod Picking
-pub mod Rotating
-pub mod Shows
-pub mod Stood

@@ -1,3 +1,0 @@
-pub mod Family
-pub mod Shown
-pub mod There

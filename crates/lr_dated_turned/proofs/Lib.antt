@@ -1,4 +1,0 @@
-pub mod Alone
-pub mod FamilyRotated
-pub mod Members
-pub mod WholeRotated

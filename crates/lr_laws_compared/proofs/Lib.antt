@@ -1,0 +1,6 @@
+mod ByDate
+mod ByLog
+mod ByPlace
+mod Copied
+mod Days
+mod Same

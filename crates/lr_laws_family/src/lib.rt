@@ -1,0 +1,17 @@
+//! What a rotation makes of the family of a log, file by file, where nothing failed: by numbers or dates, by a
+//! rename, by a copy, or by a copy of what was set aside.
+//!
+//! The contract above it: behind looks that saw a log's source and the members of its family, and with other logs' changes and
+//! writers' entries between its steps, each file is where the rotation takes it, by its identity and with its bytes
+//! (`family_is_turned`). A law is the contract of a function without a body; begin with `IsTurned` in `specs/Turned.antt`.
+#![tactic(auto)]
+
+mod family;
+mod rotation;
+mod showing;
+mod standing;
+
+pub use family::family_is_turned;
+pub use rotation::{dates_rotate, numbers_rotate, woven_steps_rotate};
+pub use showing::{looks_show_members, stand_shows_members};
+pub use standing::{log_is_no_member, shown_members_stand};

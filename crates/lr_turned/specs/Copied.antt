@@ -1,0 +1,19 @@
+-- The copy of a log among the entries of a run.
+use Rattle.std.specs.Prelude.{◌≡◌, ℕ, List, ◌++◌}
+use Rattle.lr_host.specs.declared.entry.Entry.{Entry}
+use Rattle.lr_copy.specs.declared.job.Job.{Job}
+use Rattle.lr_copy.specs.Copying.{cutting}
+use Rattle.lr_copied.specs.Whole.{Named}
+
+-- A copy by this job stands among these entries, one entry behind another, with the truncation of the log where the job asks for that.
+pub record CopyStands (job : Job) (ts : List Entry) : Type 0 where
+  pub before : List Entry
+  pub named : List Entry
+  pub after : List Entry
+  pub count : ℕ
+  pub is_named : Named job count named
+  pub joined : ts ≡ before ++ (named ++ (cutting job ++ after))
+
+-- of the jobs of one log it is this one
+abbrev pub IsSameFor : Job → Job → Type 0
+IsSameFor job other = other.from ≡ job.from → other ≡ job
