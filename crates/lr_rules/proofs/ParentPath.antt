@@ -22,7 +22,7 @@ onto_front : (x : ℕ) (ps qs : List (List ℕ)) → 0 < length ps → onto_firs
 onto_front x [] qs some = absurd (omega arith)
 onto_front x (p ∷ ps) qs some = refl
 
-split_both : (xs ys : List ℕ) → slice_split is_slash (xs ++ 47 ∷ ys) ≡ slice_split is_slash xs ++ slice_split is_slash ys
+pub split_both : (xs ys : List ℕ) → slice_split is_slash (xs ++ 47 ∷ ys) ≡ slice_split is_slash xs ++ slice_split is_slash ys
 split_both [] ys = refl
 split_both (x ∷ xs) ys = go (is_slash x) (slice_split is_slash (xs ++ 47 ∷ ys)) (split_both xs ys)
   where
@@ -44,15 +44,15 @@ none_by true f rest h r = absurd (cc)
 none_by false f rest h r = r
 
 -- all that keeps bytes from being a path is absent
-record IsPath (bs : List ℕ) : Type 0 where
-  text : is_utf8 bs ≡ true
-  bytes : has_bad_byte bs ≡ false
-  size : nat_lt 4096 (length bs) ≡ false
-  absolute : is_absolute bs ≡ true
-  full : has_empty_part bs ≡ false
-  no_dots : has_dot_part bs ≡ false
+pub record IsPath (bs : List ℕ) : Type 0 where
+  pub text : is_utf8 bs ≡ true
+  pub bytes : has_bad_byte bs ≡ false
+  pub size : nat_lt 4096 (length bs) ≡ false
+  pub absolute : is_absolute bs ≡ true
+  pub full : has_empty_part bs ≡ false
+  pub no_dots : has_dot_part bs ≡ false
 
-is_path : (bs : List ℕ) → path_fault bs ≡ None → IsPath bs
+pub is_path : (bs : List ℕ) → path_fault bs ≡ None → IsPath bs
 unfolding path_fault
 is_path bs none =
     let text = none_of (not (is_utf8 bs)) _ _ none in

@@ -1,7 +1,7 @@
 // Whether bytes are a path.
-ghost use Rattle.std.specs.Prelude.{◌≡◌};
+ghost use Rattle.std.specs.Prelude.{◌≡◌, None, length, IsUtf8};
 ghost use Rattle.std.specs.List.{list_any, slice_split};
-ghost use Rattle.lr_rules.specs.Path.{path_fault, is_slash, is_empty, is_dots, is_absolute, has_bad_byte, has_empty_part, has_dot_part};
+ghost use Rattle.lr_rules.specs.Path.{path_fault, is_slash, is_empty, is_dots, is_absolute, has_bad_byte, has_empty_part, has_dot_part, joined};
 
 use crate::PathFault;
 use crate::text::is_utf8;
@@ -79,6 +79,47 @@ pub fn fault_of(bytes: &[u8]) -> Option<PathFault>
     } else if empty_part(bytes) {
         Some(PathFault::EmptyPart)
     } else if dot_part(bytes) {
+        Some(PathFault::DotPart)
+    } else {
+        None
+    }
+}
+
+// Whether a part of the path of a name in a directory is empty, where none of the directory is.
+fn joined_empty(dir: &[u8], last: &[u8]) -> bool
+    requires { path_fault dir.now ≡ None }
+    ensures { result ≡ has_empty_part (joined dir.now last.now) }
+{
+    if last.is_empty() {
+        return dir.len() != 1;
+    }
+    any_empty(last)
+}
+
+// How long the path of a name in a directory is.
+fn joined_len(dir: &[u8], last: &[u8]) -> usize
+    ensures { result ≡ length (joined dir.now last.now) }
+{
+    if dir.len() == 1 {
+        1 + last.len()
+    } else {
+        dir.len() + 1 + last.len()
+    }
+}
+
+// The first thing that keeps the path of a text in a directory from being one: the text or its length, as the directory is a path.
+pub fn joined_fault(dir: &[u8], last: &[u8]) -> Option<PathFault>
+    requires path { path_fault dir.now ≡ None }
+    requires text { IsUtf8 last.now }
+    ensures { result ≡ path_fault (joined dir.now last.now) }
+{
+    if has_bad_byte(last) {
+        Some(PathFault::BadByte)
+    } else if joined_len(dir, last) > 4096 {
+        Some(PathFault::TooLong)
+    } else if joined_empty(dir, last) {
+        Some(PathFault::EmptyPart)
+    } else if any_dots(last) {
         Some(PathFault::DotPart)
     } else {
         None

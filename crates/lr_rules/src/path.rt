@@ -1,9 +1,9 @@
 // An absolute path: `/`, or parts that each stand behind one `/`.
-ghost use Rattle.std.specs.Prelude.{◌≡◌, ◌≤◌, ◌↔◌, [], ◌++◌, length, MatchResult, OnOk, IfOk, IsTrue, None};
+ghost use Rattle.std.specs.Prelude.{◌≡◌, ◌≤◌, ◌↔◌, [], ◌++◌, length, MatchResult, OnOk, IfOk, IsTrue, None, string_bytes};
 ghost use Rattle.std.specs.Str.{bytes_eq};
 ghost use Rattle.lr_rules.specs.Path.{path_fault, word_fault, cleaned, behind_slash, kept_parts, is_kept, joined, last_of, parent_of, last_start_of, IsRefusal};
 
-use crate::form::{fault_of, is_absolute};
+use crate::form::{fault_of, is_absolute, joined_fault};
 use crate::{Memory, Text};
 use std::alloc::{AllocError, Global};
 use std::marker::Model;
@@ -157,8 +157,16 @@ impl Path {
     pub fn join(&self, alloc: Global, last: &[u8]) -> Result<Path, PathFault>
         ensures { MatchResult result (λ path. (path ≡ joined self.now last.now) × (path_fault path ≡ None)) (IsRefusal (path_fault (joined self.now last.now))) }
     {
-        match joined_bytes(alloc, self.text.as_bytes(), last) {
-            Ok(bytes) => Path::from_vec(bytes),
+        let dir = self.bytes();
+        let Ok(name) = str::from_utf8(last) else {
+            return Err(PathFault::NotUtf8);
+        };
+        // The directory is a path already: only the name and the length are looked at.
+        if let Some(fault) = joined_fault(dir, last) {
+            return Err(fault);
+        }
+        match joined_text(alloc, self.text.as_str(), name) {
+            Ok(text) => Ok(Path { text }),
             Err(_) => Err(PathFault::Memory),
         }
     }
@@ -200,16 +208,18 @@ impl Path {
     }
 }
 
-fn joined_bytes(alloc: Global, dir: &[u8], last: &[u8]) -> Result<Vec<u8>, AllocError>
-    ensures { IfOk result (λ bytes. bytes.items ≡ joined dir.now last.now) }
+// The text of a name in a directory.
+fn joined_text(alloc: Global, dir: &str, name: &str) -> Result<String, AllocError>
+    ensures { IfOk result (λ text. string_bytes text ≡ joined dir.now name.now) }
 {
-    let mut bytes = Vec::new(alloc);
+    let mut text = String::new(alloc);
+    text.reserve(dir.len() + 1 + name.len())?;
     if dir.len() != 1 {
-        bytes.extend_from_slice(dir)?;
+        text.push_str(dir)?;
     }
-    bytes.push(b'/')?;
-    bytes.extend_from_slice(last)?;
-    Ok(bytes)
+    text.push_str("/")?;
+    text.push_str(name)?;
+    Ok(text)
 }
 
 // Whether a part of a word is a part of its path: it is neither empty nor `.`.
