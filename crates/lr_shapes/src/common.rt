@@ -1,5 +1,7 @@
 // Whether two shapes have something in common.
-ghost use Rattle.std.specs.Prelude.{◌≡◌, ◌↔◌, ◌<◌, true, length, IfSome};
+ghost use Rattle.std.specs.Prelude.{◌≡◌, ◌↔◌, ◌<◌, ◌≤◌, ◌++◌, true, length, take, drop, IfSome};
+ghost use Rattle.std.specs.Str.{bytes_eq};
+ghost use Rattle.lr_shapes.specs.Pieces.{plain};
 ghost use Rattle.lr_shapes.specs.Shapes.{tokens_of};
 ghost use Rattle.lr_shapes.specs.Deciding.{may_be_empty, meet};
 ghost use Rattle.lr_shapes.specs.Tokens.{HaveCommon};
@@ -50,29 +52,77 @@ fn do_meet(a: &Shape, b: &Shape) -> bool
     }
 }
 
-// Whether the two begin with the same byte, and what is left of them then.
-fn step_both<'a, 'b>(a: &Shape<'a>, b: &Shape<'b>) -> Option<(Shape<'a>, Shape<'b>)>
-    ensures { IfSome result (λ r. (meet (tokens_of a.now) (tokens_of b.now) ≡ meet (tokens_of r.0) (tokens_of r.1)) × (length (tokens_of r.0) < length (tokens_of a.now))) }
+// The same shape, whose bytes at the front stand in its first part.
+fn fronted<'a>(s: &Shape<'a>) -> Shape<'a>
+    ensures { tokens_of result ≡ tokens_of s.now }
 {
-    let Some((Token::Byte(x), more)) = step(a) else {
-        return None;
-    };
-    let Some((Token::Byte(y), rest)) = step(b) else {
-        return None;
-    };
-    if x == y { Some((more, rest)) } else { None }
+    if let [_, ..] = s.dir {
+        return *s;
+    }
+    if let [_, ..] = s.slash {
+        return Shape {
+            dir: s.slash,
+            slash: &[],
+            ..*s
+        };
+    }
+    if let [_, ..] = s.base {
+        return Shape {
+            dir: s.base,
+            base: &[],
+            ..*s
+        };
+    }
+    *s
+}
+
+// What is left behind so many bytes.
+fn bytes_behind(bytes: &[u8], n: usize) -> &[u8]
+    requires { n ≤ length bytes.now }
+    ensures { result.now ≡ drop n bytes.now }
+{
+    &bytes[n..]
+}
+
+// What is left of a shape behind so many bytes of its first part.
+fn behind<'a>(s: &Shape<'a>, n: usize) -> Shape<'a>
+    requires { n ≤ length s.now.dir.now }
+    ensures { tokens_of s.now ≡ plain (take n s.now.dir.now) ++ tokens_of result }
+{
+    let rest = bytes_behind(s.dir, n);
+    fronted(&Shape { dir: rest, ..*s })
+}
+
+// How many bytes both have, where both have some.
+fn shared(a: &[u8], b: &[u8]) -> Option<usize>
+    ensures { IfSome result (λ n. (0 < n) × ((n ≤ length a.now) × (n ≤ length b.now))) }
+{
+    let n = a.len().min(b.len());
+    if n > 0 { Some(n) } else { None }
+}
+
+// Whether so many bytes of both are the same.
+fn begin_same(a: &[u8], b: &[u8], n: usize) -> bool
+    requires a { n ≤ length a.now }
+    requires b { n ≤ length b.now }
+    ensures { result ≡ bytes_eq (take n a.now) (take n b.now) }
+{
+    a[..n] == b[..n]
 }
 
 /// Whether some bytes have both shapes.
 pub fn have_common<'a, 'b>(a: &Shape<'a>, b: &Shape<'b>) -> bool
     ensures { (result ≡ true) ↔ HaveCommon (tokens_of a.now) (tokens_of b.now) }
 {
-    let mut left = *a;
-    let mut right = *b;
-    // What both begin with is most of two paths, so it is walked without recursion.
-    while let Some((more, rest)) = step_both(&left, &right) {
-        left = more;
-        right = rest;
+    let mut left = fronted(a);
+    let mut right = fronted(b);
+    // What both begin with is most of two paths, so it is compared at once, and not token by token.
+    while let Some(n) = shared(left.dir, right.dir) {
+        if !begin_same(left.dir, right.dir, n) {
+            return false;
+        }
+        left = behind(&left, n);
+        right = behind(&right, n);
     }
     do_meet(&left, &right)
 }

@@ -3,8 +3,8 @@ use Rattle.lr_shapes.specs.Shapes.{tokens_of}
 use Rattle.lr_shapes.specs.Deciding.{meet}
 use Rattle.lr_shapes.proofs.common.have_common.Given as goal
 
-abbrev pub invariant-loop-more : goal.invariant-loop-more
-invariant-loop-more l = meet (tokens_of l.left) (tokens_of l.right) ≡ meet (tokens_of l.a) (tokens_of l.b)
+abbrev pub invariant-loop-n : goal.invariant-loop-n
+invariant-loop-n l = meet (tokens_of l.left) (tokens_of l.right) ≡ meet (tokens_of l.a) (tokens_of l.b)
 
-abbrev pub decreases-loop-more : goal.decreases-loop-more
-decreases-loop-more l = length (tokens_of l.left)
+abbrev pub decreases-loop-n : goal.decreases-loop-n
+decreases-loop-n l = length (tokens_of l.left)
