@@ -1,5 +1,5 @@
 -- Where the fronts stand that begin with given bytes.
-use Rattle.std.proofs.Common.{◌≡◌, ◌∙◌, sym, subst, refl, ⊎_elim, ◌↔◌, ℕ, ◌<◌, ◌≤◌, List, length, get_or, drop, Bool, true, false, ◌||◌, Some, slice_get, eqb, true≢false, arith}
+use Rattle.std.proofs.Common.{◌≡◌, ◌∙◌, sym, ap, subst, refl, ⊎_elim, ◌↔◌, ℕ, ◌+◌, ◌<◌, ◌≤◌, List, length, get_or, drop, Bool, true, false, ◌||◌, Some, slice_get, eqb, true≢false, arith}
 use Rattle.std.specs.List.{starts_with}
 use Rattle.std.specs.List.Sorted.{IsPartitionedBy, IsPartitionPoint}
 use Rattle.std.proofs.lemmas.Bool.{cases_Bool, cases_lt, or_left, or_right, or_cases}
@@ -7,17 +7,14 @@ use Rattle.std.proofs.lemmas.Bool.Decides.{Decides-eqb}
 use Rattle.std.proofs.lemmas.List.Sorted.{sorted_far}
 use Rattle.std.proofs.lemmas.List.MinMax.{ranks_by}
 use Rattle.std.proofs.lemmas.Cmp.{nat_list_cmp_total}
-use Rattle.std.proofs.lemmas.Option.{slice_get_within, get_or_from_slice_get}
+use Rattle.std.proofs.lemmas.Option.{slice_get_within, slice_get-get_or, get_or_from_slice_get}
 use Rattle.std.proofs.lemmas.Slice.Eq.{starts_is}
 use Rattle.lr_kept.specs.declared.front.Front.{Front}
-use Rattle.lr_kept.specs.Fronts.{AreInOrder, Begins}
+use Rattle.lr_kept.specs.Fronts.{AreBegunWithin, AreInOrder, Begins}
 use Rattle.lr_kept.proofs.Order.{lt, between, lower, not_before}
 
 abbrev pub is_before : List ℕ → Front → Bool
 is_before b f = lt f.bytes b
-
-abbrev pub is_up_to : List ℕ → Front → Bool
-is_up_to b f = lt f.bytes b || starts_with eqb f.bytes b
 
 starts_from : (b x : List ℕ) → Begins b x → starts_with eqb x b ≡ true
 starts_from b x h = (starts_is Decides-eqb x b (starts_with eqb x b) refl).1 h.0 h.1
@@ -37,12 +34,6 @@ down b g h up begins = ⊎_elim
     (λ (e : lt g b ≡ false). or_right (lt g b) (starts_with eqb g b) (starts_from b g (between b g begins.0 (subst (λ (x : List ℕ). lt x g ≡ false) begins.1 up) e)))
     (cases_Bool (lt g b))
 
-pub up_to_parted : (b : List ℕ) (fs : List Front) → AreInOrder fs → IsPartitionedBy (is_up_to b) fs
-up_to_parted b fs up i j d le l h = ⊎_elim
-    (λ (e : lt (get_or fs j d).bytes b ≡ true). or_left (lt (get_or fs i d).bytes b) (starts_with eqb (get_or fs i d).bytes b) (lower (get_or fs i d).bytes (get_or fs j d).bytes b (far fs up i j d le l) e))
-    (λ (e : starts_with eqb (get_or fs j d).bytes b ≡ true). down b (get_or fs i d).bytes (get_or fs j d).bytes (far fs up i j d le l) (starts_so b (get_or fs j d).bytes e))
-    (or_cases (lt (get_or fs j d).bytes b) (starts_with eqb (get_or fs j d).bytes b) h)
-
 module _ (p : Front → Bool) (fs : List Front) (i : ℕ) (point : IsPartitionPoint (λ y. p y ≡ true) (λ y. p y ≡ false) fs i) (t : ℕ) (f : Front) (at : slice_get fs t ≡ Some f) where
   holds_below : t < i → p f ≡ true
   holds_below l = subst (λ (y : Front). p y ≡ true) (get_or_from_slice_get fs t f f at) (point.0 t f (omega arith) l)
@@ -56,15 +47,37 @@ module _ (p : Front → Bool) (fs : List Front) (i : ℕ) (point : IsPartitionPo
   from_where : p f ≡ false → i ≤ t
   from_where h = ⊎_elim (λ (l : t < i). absurd (true≢false (sym (holds_below l) ∙ h))) (λ l. l) (cases_lt t i)
 
-pub exact : (b : List ℕ) (fs : List Front) (from to : ℕ) → IsPartitionPoint (λ y. is_before b y ≡ true) (λ y. is_before b y ≡ false) fs from → IsPartitionPoint (λ y. is_up_to b y ≡ true) (λ y. is_up_to b y ≡ false) fs to
-    → (t : ℕ) (f : Front) → slice_get fs t ≡ Some f → ((from ≤ t) × (t < to)) ↔ Begins b f.bytes
-exact b fs from to first last t f at = (
-  λ r. ⊎_elim
-      (λ (e : lt f.bytes b ≡ true). absurd (true≢false (sym e ∙ fails_from (is_before b) fs from first t f at r.0)))
-      (λ (e : starts_with eqb f.bytes b ≡ true). starts_so b f.bytes e)
-      (or_cases (lt f.bytes b) (starts_with eqb f.bytes b) (holds_below (is_up_to b) fs to last t f at r.1)),
-  λ h. (
-    from_where (is_before b) fs from first t f at (subst (λ (x : List ℕ). lt x b ≡ false) (sym h.1) (not_before b h.0)),
-    below_where (is_up_to b) fs to last t f at (or_right (lt f.bytes b) (starts_with eqb f.bytes b) (starts_from b f.bytes h)),
-  ),
-)
+-- one more begins so
+pub begun_more : (b : List ℕ) (fs : List Front) (from to : ℕ) (f : Front) → slice_get fs to ≡ Some f → starts_with eqb f.bytes b ≡ true → AreBegunWithin fs b from to → AreBegunWithin fs b from (to + 1)
+begun_more b fs from to f at h so_far t g here le l = ⊎_elim
+    (λ (lo : t < to). so_far t g here le lo)
+    (λ (hi : to ≤ t).
+    let same : to ≡ t = omega arith in
+    let read : slice_get fs to ≡ Some g = ap (λ n. slice_get fs n) same ∙ here in
+    let is : f ≡ g = cc (at, read) in
+    subst (λ (x : Front). starts_with eqb x.bytes b ≡ true) is h)
+    (cases_lt t to)
+
+module _ (b : List ℕ) (fs : List Front) (from to : ℕ) (order : AreInOrder fs) (first : IsPartitionPoint (λ y. is_before b y ≡ true) (λ y. is_before b y ≡ false) fs from)
+    (le : from ≤ to) (begun : AreBegunWithin fs b from to) (ends : (f : Front) → slice_get fs to ≡ Some f → starts_with eqb f.bytes b ≡ false) where
+  -- what begins so stands before the end, since the one there would begin so too
+  before_end : (t : ℕ) (f : Front) → slice_get fs t ≡ Some f → Begins b f.bytes → to ≤ t → ⊥
+  before_end t f at h up =
+      let short : t < length fs = slice_get_within fs t f at in
+      let g : Front = get_or fs to f in
+      let there : slice_get fs to ≡ Some g = slice_get-get_or fs to f (omega arith) in
+      let no : is_before b g ≡ false = fails_from (is_before b) fs from first to g there le in
+      let over : lt f.bytes g.bytes ≡ false = subst (λ (x : Front). lt x.bytes g.bytes ≡ false) (get_or_from_slice_get fs t f f at) (far fs order to t f up short) in
+      ⊎_elim
+      (λ (e : lt g.bytes b ≡ true). true≢false (sym e ∙ no))
+      (λ (e : starts_with eqb g.bytes b ≡ true). true≢false (sym e ∙ ends g there))
+      (or_cases (lt g.bytes b) (starts_with eqb g.bytes b) (down b g.bytes f.bytes over h))
+
+  pub exact : (t : ℕ) (f : Front) → slice_get fs t ≡ Some f → ((from ≤ t) × (t < to)) ↔ Begins b f.bytes
+  exact t f at = (
+    λ r. starts_so b f.bytes (begun t f at r.0 r.1),
+    λ h. (
+      from_where (is_before b) fs from first t f at (subst (λ (x : List ℕ). lt x b ≡ false) (sym h.1) (not_before b h.0)),
+      ⊎_elim (λ (l : t < to). l) (λ (l : to ≤ t). absurd (before_end t f at h l)) (cases_lt t to),
+    ),
+  )

@@ -1,8 +1,9 @@
 -- What the names of a log begin with, and how the logs that a log may meet are found by that.
-use Rattle.std.specs.Prelude.{◌≡◌, ◌⊎◌, ◌<◌, ℕ, true, List, [], ◌∷◌, ◌++◌, Option, Some, None, length, slice_get, All, Contains, if◌then◌else◌}
+use Rattle.std.specs.Prelude.{◌≡◌, ◌⊎◌, ◌<◌, ◌≤◌, ℕ, true, List, [], ◌∷◌, ◌++◌, Option, Some, None, length, slice_get, nat_eq, All, Contains, if◌then◌else◌}
 use Rattle.std.specs.Borrow.{Bor}
 use Rattle.std.specs.Ordering.{nat_cmp}
 use Rattle.std.specs.Cmp.Lexicographic.{slice_cmp}
+use Rattle.std.specs.List.{starts_with}
 use Rattle.std.specs.List.Sorted.{IsSortedByKey}
 use Rattle.lr_rules.specs.Path.{joined}
 use Rattle.lr_rules.specs.Names.{aside_path}
@@ -52,6 +53,10 @@ fronts_at f place = front_at place f.log ∷ front_at place (member_front f.nami
 -- they stand in order of bytes
 abbrev pub AreInOrder : List Front → Type 0
 AreInOrder fronts = IsSortedByKey (λ f. f.bytes) (slice_cmp nat_cmp) fronts
+
+-- each between these two places begins with these bytes
+abbrev pub AreBegunWithin : List Front → List ℕ → ℕ → ℕ → Type 0
+AreBegunWithin fronts begin from to = (t : ℕ) (f : Front) → slice_get fronts t ≡ Some f → from ≤ t → t < to → starts_with nat_eq f.bytes begin ≡ true
 
 -- These are the fronts of the first n logs, those left out that aren't kept.
 pub record HaveFronts (logs : List (Bor Family)) (choices : List Choice) (n : ℕ) (fronts : List Front) : Type 0 where

@@ -1,10 +1,10 @@
 // Which of the fronts begin with given bytes.
-ghost use Rattle.std.specs.Prelude.{◌≡◌, ◌≤◌, ◌<◌, ◌↔◌, ◌||◌, ℕ, Some, length, slice_get, nat_eq};
+ghost use Rattle.std.specs.Prelude.{◌≡◌, ◌≤◌, ◌<◌, ◌↔◌, ℕ, false, Some, length, slice_get, nat_eq};
 ghost use Rattle.std.specs.Ordering.{nat_cmp, is_lt};
 ghost use Rattle.std.specs.Cmp.Lexicographic.{slice_cmp};
 ghost use Rattle.std.specs.List.{starts_with};
 ghost use Rattle.lr_kept.specs.declared.front.Front.{Front};
-ghost use Rattle.lr_kept.specs.Fronts.{AreInOrder, Begins};
+ghost use Rattle.lr_kept.specs.Fronts.{AreBegunWithin, AreInOrder, Begins};
 
 use crate::front::Front;
 use std::cmp::Ordering;
@@ -19,13 +19,26 @@ fn is_before(front: &Front, begin: &[u8]) -> bool
     }
 }
 
-// Whether the front stands before these bytes or begins with them.
-fn is_up_to(front: &Front, begin: &[u8]) -> bool
-    ensures { result ≡ (is_lt (slice_cmp nat_cmp front.now.bytes begin.now) || starts_with nat_eq front.now.bytes begin.now) }
+// Whether the front begins with these bytes.
+fn is_begun(front: &Front, begin: &[u8]) -> bool
+    ensures { result ≡ starts_with nat_eq front.now.bytes begin.now }
 {
-    let before = is_before(front, begin);
-    let begins = front.bytes.as_slice().starts_with(begin);
-    before | begins
+    front.bytes.as_slice().starts_with(begin)
+}
+
+// Up to which place, from this one on, each front begins with these bytes.
+fn begun_up_to(fronts: &[Front], from: usize, begin: &[u8]) -> usize
+    requires { from ≤ length fronts.now }
+    ensures bound { (from ≤ result) × (result ≤ length fronts.now) }
+    ensures begun { AreBegunWithin fronts.now begin.now from result }
+    ensures ends { (f : Front) → slice_get fronts.now result ≡ Some f → starts_with nat_eq f.bytes begin.now ≡ false }
+{
+    for at in from..fronts.len() {
+        if !is_begun(&fronts[at], begin) {
+            return at;
+        }
+    }
+    fronts.len()
 }
 
 /// From which place on, and up to which, the fronts begin with these bytes.
@@ -35,6 +48,7 @@ pub fn beginning_with(fronts: &[Front], begin: &[u8]) -> (usize, usize)
     ensures bound { result.1 ≤ length fronts.now }
 {
     let from = fronts.partition_point(|front| is_before(front, begin));
-    let to = fronts.partition_point(|front| is_up_to(front, begin));
+    // They are few mostly, and each of them is asked for later: so they are walked, and their end isn't searched for.
+    let to = begun_up_to(fronts, from, begin);
     (from, to)
 }
