@@ -1,26 +1,17 @@
 // The calls of the system that the real host makes.
 ghost use Rattle.std.specs.Prelude.{◌≡◌, ◌≤◌, IfOk, length, take};
 
-use crate::opened::{
-    Opened, Owner, is_exposed, open_dir, open_followed, open_lock, open_to_read, owner_of,
-};
+use crate::opened::{Opened, Owner, is_exposed, open_followed, open_lock, open_to_read, owner_of};
 use crate::ways::{Ways, parted};
 use lr_host::{Kind, Seen};
 use lr_rules::{Ended, Path, Text, TextFault};
 use std::alloc::{AllocError, Global};
-use std::fs::{DirBuilder, DirEntry, File, Metadata, Permissions, TryLockError};
+use std::fs::{DirEntry, File, Metadata, TryLockError};
 use std::io::ErrorKind;
-use std::os::unix::fs::{DirBuilderExt, FileExt, MetadataExt, PermissionsExt};
+use std::os::unix::fs::{FileExt, MetadataExt};
 use std::process::{Command, Processes};
 use std::rt::Files;
-use std::time::{Clock, SystemTime, UNIX_EPOCH};
 use std::{fs, io};
-
-// A tick of the clock by which a file system tells moments takes less, in nanoseconds: 10 milliseconds at most.
-const TICK: i64 = 20_000_000;
-
-// How often the clock is looked at, at most: a fifth of a second or so.
-const LOOKS: u32 = 2_000_000;
 
 fn kind_of(seen: &fs::Metadata) -> Kind {
     if seen.is_file() {
@@ -241,112 +232,6 @@ pub(crate) fn unlink_at<R: Files<File = File> + AllocGlobal>(
 ) -> io::Result<()> {
     let at = ways.place(rt, path)?;
     fs::remove_file(rt, at.text(path))
-}
-
-/// Makes a directory; false where the path is named. A mode is given at the making, and by a handle behind it where the
-/// process's mask cut it.
-pub(crate) fn make_dir_at<R: Files<File = File> + AllocGlobal + Clock>(
-    rt: &R,
-    ways: &mut Ways,
-    path: &Path,
-    mode: Option<u32>,
-) -> io::Result<bool> {
-    let at = ways.place(rt, path)?;
-    match mode {
-        Some(mode) => make_dir_with(rt, at.text(path), mode),
-        None => was_made(DirBuilder::new().create(rt, at.text(path))),
-    }
-}
-
-// False where the path is named.
-fn was_made(got: io::Result<()>) -> io::Result<bool> {
-    match got {
-        Ok(()) => Ok(true),
-        Err(e) if e.kind() == ErrorKind::AlreadyExists => Ok(false),
-        Err(e) => Err(e),
-    }
-}
-
-fn make_dir_with<R: Files<File = File> + AllocGlobal + Clock>(
-    rt: &R,
-    path: &str,
-    mode: u32,
-) -> io::Result<bool> {
-    let before = parent_changed(rt, path)?;
-    wait_for_tick(rt, before)?;
-    let made = was_made(DirBuilder::new().mode(mode).create(rt, path))?;
-    if made {
-        set_mode(rt, path, mode, before)?;
-    }
-    Ok(made)
-}
-
-// Waits until the clock by which a file system tells births has moved on since the parent's last change: so what is made
-// behind it is told as younger. That takes some milliseconds where the parent has just changed, and else nothing.
-fn wait_for_tick<R: Clock>(rt: &R, before: (i64, i64)) -> io::Result<()> {
-    for _ in 0..LOOKS {
-        if has_ticked(rt, before)? {
-            return Ok(());
-        }
-    }
-    Ok(())
-}
-
-// Whether that moment is more than a tick ago; also where it is ahead, since then there is nothing to wait for.
-fn has_ticked<R: Clock>(rt: &R, before: (i64, i64)) -> io::Result<bool> {
-    let Ok(since) = SystemTime::now(rt)?.duration_since(UNIX_EPOCH) else {
-        return Ok(true);
-    };
-    let seconds = i64::try_from(since.as_secs()).unwrap_or(i64::MAX);
-    let late = seconds.saturating_sub(before.0);
-    let nanoseconds = late
-        .saturating_mul(1_000_000_000)
-        .saturating_add(i64::from(since.subsec_nanos()))
-        .saturating_sub(before.1);
-    Ok(nanoseconds < 0 || nanoseconds > TICK)
-}
-
-// When a name in the parent of this path changed last, in seconds and nanoseconds since 1970: no user can set that.
-fn parent_changed<R: Files>(rt: &R, path: &str) -> io::Result<(i64, i64)> {
-    match std::path::Path::new(path).parent() {
-        Some(parent) => {
-            let seen = fs::metadata(rt, parent)?;
-            Ok((seen.ctime(), seen.ctime_nsec()))
-        }
-        None => Err(io::Error::from(ErrorKind::InvalidInput)),
-    }
-}
-
-// Whether it was made behind that moment. Where the file system tells no births, it isn't asked.
-fn is_younger(seen: &fs::Metadata, before: (i64, i64)) -> bool {
-    let Ok(born) = seen.created() else {
-        return true;
-    };
-    let Ok(since) = born.duration_since(UNIX_EPOCH) else {
-        return false;
-    };
-    let Ok(seconds) = i64::try_from(since.as_secs()) else {
-        return false;
-    };
-    seconds > before.0 || (seconds == before.0 && i64::from(since.subsec_nanos()) > before.1)
-}
-
-// Gives the directory that was just made its mode, where it lacks it. One that stood in the same directory before, and got
-// this name since, was made before its parent changed last.
-fn set_mode<R: Files<File = File> + AllocGlobal>(
-    rt: &R,
-    path: &str,
-    mode: u32,
-    before: (i64, i64),
-) -> io::Result<()> {
-    let opened = open_dir(rt, path, false)?;
-    if opened.seen.mode() & 0o7777 == mode {
-        return Ok(());
-    }
-    if !is_younger(&opened.seen, before) {
-        return Err(io::Error::other("another directory got the path"));
-    }
-    opened.file.set_permissions(Permissions::from_mode(mode))
 }
 
 /// Syncs a directory. Its text ends with `/.`, by which nothing but a directory can be opened, and nothing is waited for.

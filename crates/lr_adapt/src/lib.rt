@@ -20,7 +20,7 @@
 //! | `truncate` | cuts to nothing (`ftruncate`) what was read last, where it was read by this path and the path names it still; else a file that the path names; it has one name |
 //! | `unlink` | `unlink` |
 //! | `sync_file`, `sync_dir` | `fsync` of the file that was made last, where it was made by this path and the path names it still, else of what the path names, or of the directory; a file that was made, and behind whose making another was read, is given to whom that belongs before |
-//! | `make_dir` | `mkdir`, then `fchmod`, where the process's mask cut the mode, on a directory that is younger than its parent's last change before |
+//! | `make_dir` | `mkdir`, then `fchmod`, where the process's mask cut the mode, on a directory that is younger than its parent's last change before; with a mode it waits, two seconds at most, until the clock of the file systems has moved on since that change: by 20 milliseconds, and as a change of the lock's file tells it, which is given the mode that it has |
 //! | `run` | starts the program, with the environment, working directory and output of this one, and waits for its end; without a file its input is empty (`/dev/null`), and a file that it gets has one name |
 //!
 //! **What others may change.** Each file that is opened, but for what `read` follows, is a regular one that its own path names: its
@@ -39,6 +39,7 @@
 #![tactic(auto)]
 
 mod calls;
+mod dirs;
 mod held;
 mod made;
 mod opened;

@@ -4,9 +4,10 @@ ghost use Rattle.std.specs.Prelude.{◌≡◌, ◌≤◌, is_some, false, Ok, If
 ghost use Rattle.lr_host.specs.Told.{Rose};
 
 use crate::calls::{
-    Moved, input_of, look_at, make_dir_at, names_at, read_followed, rename_at, run_program,
-    sync_dir_at, take_lock, unlink_at,
+    Moved, input_of, look_at, names_at, read_followed, rename_at, run_program, sync_dir_at,
+    take_lock, unlink_at,
 };
+use crate::dirs::make_dir_at;
 use crate::held::{Held, read_held, truncate_held};
 use crate::made::{Made, append_made, make_new_at, sync_made};
 use crate::opened::Owner;
@@ -295,7 +296,7 @@ impl<R: Files<File = File> + Processes + AllocGlobal + Eprint + Clock + Drop> Ho
     }
 
     fn make_dir(&mut self, path: &Path, mode: Option<u32>) -> Result<bool, CallFault> {
-        let got = make_dir_at(&self.rt, &mut self.ways, path, mode);
+        let got = make_dir_at(&self.rt, &mut self.ways, &self.lock, path, mode);
         self.count("make directory", path, got)
     }
 
