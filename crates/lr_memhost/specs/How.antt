@@ -1,5 +1,6 @@
 -- How a listed call fails.
-use Rattle.std.specs.Prelude.{Bool, true, false, Option, Some, None}
+use Rattle.std.specs.Prelude.{Bool, true, false, not, List, filter, Option, Some, None}
+use Rattle.lr_memhost.specs.declared.act.Failing.{Failing}
 use Rattle.lr_memhost.specs.declared.act.How.{How}
 use Rattle.lr_memhost.specs.declared.act.How.TheVariants as how
 
@@ -13,3 +14,7 @@ abbrev pub idles : Option How → Bool
 idles None = false
 idles (Some how.WithEffect) = false
 idles _ = true
+
+-- the calls that are to fail, without those that stop the machine
+abbrev pub without_stops : List Failing → List Failing
+without_stops fs = filter (λ f. not (downs (Some f.how))) fs

@@ -1,6 +1,6 @@
 // What a host in memory is told beforehand: what writers do, and which calls fail.
 ghost use Rattle.std.specs.Prelude.{◌≡◌};
-ghost use Rattle.lr_memhost.specs.How.{downs, idles};
+ghost use Rattle.lr_memhost.specs.How.{downs, idles, without_stops};
 
 use lr_host::Entry;
 
@@ -51,4 +51,11 @@ pub fn is_idle(how: Option<How>) -> bool
 pub struct Failing {
     pub at: u64,
     pub how: How,
+}
+
+/// Takes away those that stop the machine.
+pub fn drop_stops(failing: &mut Vec<Failing>)
+    ensures { failing.new.items ≡ without_stops failing.old.items }
+{
+    failing.retain(|f| !is_stop(Some(f.how)));
 }

@@ -9,11 +9,12 @@ ghost use Rattle.lr_host.specs.Safe.{IsSafe};
 ghost use Rattle.lr_disk.specs.State.{opened_journal, with_entry};
 ghost use Rattle.lr_disk.specs.Bytes.{HasBytes};
 ghost use Rattle.lr_memhost.specs.Acts.{View};
+ghost use Rattle.lr_memhost.specs.How.{without_stops};
 
 mod calls;
 mod parts;
 
-use crate::act::{Act, Failing};
+use crate::act::{Act, Failing, drop_stops};
 use lr_disk::Disk;
 use lr_host::{Journal, Opening, Thing};
 use lr_rules::{Ended, Memory, Path};
@@ -127,11 +128,13 @@ impl MemHost {
         Ok(())
     }
 
-    /// Ends what a `Stop` began, and frees the lock, whoever has it.
+    /// Ends what a `Stop` began, and frees the lock, whoever has it. A `Stop` that hasn't come goes too: the machine that it
+    /// would have stopped isn't there any more.
     pub fn revive(&mut self)
-        ensures { self.new ≡ record self.old { down = false; rest = record self.old.rest { mine = false; another = false } } }
+        ensures { self.new ≡ record self.old { down = false; failing = without_stops self.old.failing; rest = record self.old.rest { mine = false; another = false } } }
     {
         self.down = false;
+        drop_stops(&mut self.failing);
         self.mine = false;
         self.another = false;
     }
