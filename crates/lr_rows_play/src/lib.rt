@@ -15,5 +15,5 @@ mod verdict;
 
 pub use lr_rows_read::{Call, Row, rows_of};
 pub use lr_rows_scene::{Differences, changes_text, entries_text};
-pub use play::Caller;
+pub use play::{Caller, Made};
 pub use verdict::{Judgement, Verdict, judge};

@@ -1,6 +1,8 @@
 // The ways to play a row: once, or once for each of many twists.
 use crate::chance::{generator, next_conf};
-use crate::play::{Caller, Kept, Played, Twist, behind_first, places, plain, play};
+use crate::play::{
+    Caller, Kept, Played, Put, Twist, behind_first, places, plain, play, printed_by_first,
+};
 use lr_host::Entry;
 use lr_memhost::{Failing, How, MemHost};
 use lr_rows_line::{Trouble, put_quoted};
@@ -17,6 +19,9 @@ pub struct Came {
 
 // More name changes are not gone through.
 const MOST_PENDING: usize = 10;
+
+// Nor are more puts.
+const MOST_PUTS: u64 = 1000;
 
 impl Came {
     // Adds one play, unless the machine can't stop so.
@@ -66,6 +71,11 @@ fn put_kept(into: &mut Vec<u8>, alloc: Global, kept: Kept) -> Result<(), AllocEr
     Ok(())
 }
 
+fn put_number(into: &mut Vec<u8>, alloc: Global, number: u64) -> Result<(), AllocError> {
+    let text = format!(in alloc; ", put {number}")?;
+    into.extend_from_slice(text.as_bytes())
+}
+
 // How the play was twisted.
 fn put_twist(into: &mut Vec<u8>, alloc: Global, twist: Twist) -> Result<(), AllocError> {
     if let Some(failing) = twist.failing {
@@ -77,6 +87,9 @@ fn put_twist(into: &mut Vec<u8>, alloc: Global, twist: Twist) -> Result<(), Allo
     if let Some(conf) = twist.conf {
         into.extend_from_slice(b", conf ")?;
         put_quoted(into, conf)?;
+    }
+    if let Some(put) = twist.put {
+        put_number(into, alloc, put.number)?;
     }
     Ok(())
 }
@@ -239,6 +252,39 @@ fn each_stops<C: Caller>(
     stop_each(alloc, caller, row, span, &host, came)
 }
 
+// Each put fails in turn, up to the first that never comes.
+fn each_put<C: Caller>(
+    alloc: Global,
+    caller: &C,
+    row: &Row,
+    clean: &[u8],
+    came: &mut Came,
+) -> Result<(), Trouble> {
+    for number in 0..MOST_PUTS {
+        let twist = Twist {
+            put: Some(Put { number, clean }),
+            ..plain()
+        };
+        match play(alloc, caller, row, twist)? {
+            Played::Past => return Ok(()),
+            played => came.add(alloc, played, twist)?,
+        }
+    }
+    Err(Trouble::Odd("the output is put to too often"))
+}
+
+// None fails, and then each.
+fn each_put_fails<C: Caller>(
+    alloc: Global,
+    caller: &C,
+    row: &Row,
+    came: &mut Came,
+) -> Result<(), Trouble> {
+    play_twisted(alloc, caller, row, plain(), came)?;
+    let clean = printed_by_first(alloc, caller, row)?;
+    each_put(alloc, caller, row, &clean, came)
+}
+
 fn play_conf<C: Caller>(
     alloc: Global,
     caller: &C,
@@ -368,6 +414,7 @@ fn play_into<C: Caller>(
         Mode::Plain => play_twisted(alloc, caller, row, plain(), came),
         Mode::EachFails(span) => each_fails(alloc, caller, row, span, came),
         Mode::EachStops(span) => each_stops(alloc, caller, row, span, came),
+        Mode::EachPut => each_put_fails(alloc, caller, row, came),
         Mode::EachBeginning(least, most) => {
             each_beginning(alloc, caller, row, *least, *most, came)
         }

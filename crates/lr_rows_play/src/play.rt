@@ -10,16 +10,24 @@ use lr_rows_scene::{
 use lr_rules::Path;
 use std::alloc::{AllocError, Global};
 
+/// How a call ended.
+#[derive(Clone, Copy)]
+pub struct Made {
+    pub status: u8,
+    /// Whether the last fault of its report is that of the output.
+    pub tells_out: bool,
+}
+
 /// What a program makes of the calls of rows.
 pub trait Caller {
-    /// Makes the call over the host, and prints into the output; the status that it ends with. Trouble refuses the row.
+    /// Makes the call over the host, and prints into the output; how it ended. Trouble refuses the row.
     fn make(
         &self,
         alloc: Global,
         host: &mut MemHost,
         call: &Call,
         out: &mut MemSink,
-    ) -> Result<u8, Trouble>;
+    ) -> Result<Made, Trouble>;
 }
 
 /// A set of places, below a count: the bits of a mask.
@@ -42,6 +50,13 @@ pub fn places(alloc: Global, kept: Kept) -> Result<Vec<usize>, AllocError> {
     Ok(places)
 }
 
+/// The number of a put of the output, counted from 0, and what the call prints where none fails.
+#[derive(Clone, Copy)]
+pub struct Put<'a> {
+    pub number: u64,
+    pub clean: &'a [u8],
+}
+
 /// What is changed about a row when it is played.
 #[derive(Clone, Copy)]
 pub struct Twist<'a> {
@@ -54,6 +69,8 @@ pub struct Twist<'a> {
     pub conf: Option<&'a [u8]>,
     /// Its call prints this, whatever the row wants.
     pub printed: Option<&'a [u8]>,
+    /// In the first call this put fails.
+    pub put: Option<Put<'a>>,
     /// The entries of a first call that meets nothing, with the ticks of its calls.
     pub first: &'a [Entry],
 }
@@ -65,6 +82,7 @@ pub fn plain<'a>() -> Twist<'a> {
         kept: None,
         conf: None,
         printed: None,
+        put: None,
         first: &[],
     }
 }
@@ -73,7 +91,7 @@ pub fn plain<'a>() -> Twist<'a> {
 #[derive(Drop)]
 pub enum Played {
     Well,
-    /// The machine can't stop so.
+    /// The machine can't stop so, or the put that was to fail never came.
     Past,
     /// A call that a deed names has this number.
     Number(u64),
@@ -153,8 +171,28 @@ fn do_one(alloc: Global, host: &mut MemHost, deed: &Deed, number: u64) -> Result
     }
 }
 
-fn sink_of(alloc: Global, failing_puts: &[u64]) -> Result<MemSink, AllocError> {
-    Ok(MemSink::new(alloc, Vec::from_slice(alloc, failing_puts)?))
+fn sink_of(alloc: Global, failing_puts: &[u64], put: Option<Put>) -> Result<MemSink, AllocError> {
+    let mut failing = Vec::from_slice(alloc, failing_puts)?;
+    if let Some(put) = put {
+        failing.push(put.number)?;
+    }
+    Ok(MemSink::new(alloc, failing))
+}
+
+// Whether the put that was to fail never came: all was printed that is where none fails, and the report tells of no failed output.
+fn is_past(twist: Twist, made: Made, printed: &[u8]) -> bool {
+    match twist.put {
+        Some(put) => !made.tells_out && printed == put.clean,
+        None => false,
+    }
+}
+
+// What is to be printed in the place of what the row wants.
+fn wanted_of<'a>(twist: Twist<'a>) -> Option<&'a [u8]> {
+    match twist.put {
+        Some(put) => Some(put.clean),
+        None => twist.printed,
+    }
 }
 
 // Makes the call, with the ticks of its calls.
@@ -165,7 +203,7 @@ fn make_ticked<C: Caller>(
     call: &Call,
 ) -> Result<(), Trouble> {
     list_ticks(alloc, host)?;
-    let mut out = sink_of(alloc, &call.failing_puts)?;
+    let mut out = sink_of(alloc, &call.failing_puts, None)?;
     let _ = caller.make(alloc, host, call, &mut out)?;
     Ok(())
 }
@@ -214,7 +252,7 @@ fn find<C: Caller>(
     }
 }
 
-// Makes the call, and adds what differs.
+// Makes the call, and adds what differs; false where the put that was to fail never came.
 fn make_into<C: Caller>(
     alloc: Global,
     caller: &C,
@@ -223,16 +261,21 @@ fn make_into<C: Caller>(
     twist: Twist,
     out: &mut MemSink,
     differences: &mut Differences,
-) -> Result<(), Trouble> {
+) -> Result<bool, Trouble> {
     let mark = Mark {
         entries: host.journal().entries.len(),
         calls: host.calls(),
     };
-    let status = caller.make(alloc, host, call, out)?;
+    let made = caller.make(alloc, host, call, out)?;
+    if is_past(twist, made, out.bytes()) {
+        return Ok(false);
+    }
     let answer = Answer {
-        status,
+        status: made.status,
         printed: out.bytes(),
-        wanted: twist.printed,
+        wanted: wanted_of(twist),
+        tells_out: made.tells_out,
+        is_cut: twist.put.is_some(),
     };
     let stopped = stopped(twist);
     put_differences(
@@ -243,29 +286,40 @@ fn make_into<C: Caller>(
         answer,
         mark,
         stopped,
-    )
+    )?;
+    Ok(true)
 }
 
-// Makes the call; what differs, as a text.
+// Makes the call; what differs, as a text, and none where the put that was to fail never came.
 fn make_call<C: Caller>(
     alloc: Global,
     caller: &C,
     host: &mut MemHost,
     call: &Call,
     twist: Twist,
-) -> Result<Vec<u8>, Trouble> {
-    let mut out = sink_of(alloc, &call.failing_puts)?;
+) -> Result<Option<Vec<u8>>, Trouble> {
+    let mut out = sink_of(alloc, &call.failing_puts, twist.put)?;
     let mut differences = Differences::new(alloc);
-    make_into(alloc, caller, host, call, twist, &mut out, &mut differences)?;
-    Ok(differences.into_text())
+    if make_into(alloc, caller, host, call, twist, &mut out, &mut differences)? {
+        Ok(Some(differences.into_text()))
+    } else {
+        Ok(None)
+    }
 }
 
-fn played_of(line: u32, is_seen: bool, text: Vec<u8>) -> Played {
-    if is_seen && !text.is_empty() {
-        Played::Differs(line, text)
-    } else {
-        Played::Well
+fn played_of(line: u32, is_seen: bool, text: Option<Vec<u8>>) -> Played {
+    match text {
+        _ if !is_seen => Played::Well,
+        None => Played::Past,
+        Some(text) if text.is_empty() => Played::Well,
+        Some(text) => Played::Differs(line, text),
     }
+}
+
+// The puts of the first call fail alone.
+fn twist_of<'a>(at: usize, twist: Twist<'a>) -> Twist<'a> {
+    let put = if at == 0 { twist.put } else { None };
+    Twist { put, ..twist }
 }
 
 /// Lets the first call meet what it is to meet.
@@ -288,7 +342,7 @@ fn make_seen<C: Caller>(
 ) -> Result<Played, Trouble> {
     fail_first(host, at, twist.failing)?;
     let is_seen = !found.is_search && (at > 0 || twist.kept.is_none());
-    match make_call(alloc, caller, host, call, twist) {
+    match make_call(alloc, caller, host, call, twist_of(at, twist)) {
         Ok(text) => Ok(played_of(call.line, is_seen, text)),
         Err(trouble) => Err(trouble.at(call.line)),
     }
@@ -431,7 +485,7 @@ fn make_first<C: Caller>(
     if failing.is_none() {
         list_ticks(alloc, host)?;
     }
-    let mut out = sink_of(alloc, &call.failing_puts)?;
+    let mut out = sink_of(alloc, &call.failing_puts, None)?;
     let _ = caller.make(alloc, host, call, &mut out)?;
     Ok(())
 }
@@ -472,4 +526,33 @@ pub fn behind_first<C: Caller>(
     let mut host = host_for(alloc, row, None, true)?;
     make_first_of(alloc, caller, &mut host, row, &numbers, failing)?;
     Ok(host)
+}
+
+// What the call prints over the host, behind what comes before it.
+fn print_first<C: Caller>(
+    alloc: Global,
+    caller: &C,
+    host: &mut MemHost,
+    call: &Call,
+    numbers: &[u64],
+) -> Result<Vec<u8>, Trouble> {
+    let mut taken = 0usize;
+    let _ = do_all(alloc, host, &call.deeds, numbers, &mut taken)?;
+    let mut out = sink_of(alloc, &call.failing_puts, None)?;
+    let _ = caller.make(alloc, host, call, &mut out)?;
+    Ok(Vec::from_slice(alloc, out.bytes())?)
+}
+
+/// What the first call of the row prints.
+pub fn printed_by_first<C: Caller>(
+    alloc: Global,
+    caller: &C,
+    row: &Row,
+) -> Result<Vec<u8>, Trouble> {
+    let numbers = first_numbers(alloc, caller, row)?;
+    let mut host = host_for(alloc, row, None, false)?;
+    match row.calls.first() {
+        Some(call) => print_first(alloc, caller, &mut host, call, &numbers),
+        None => Err(Trouble::Odd("the row has no call")),
+    }
 }

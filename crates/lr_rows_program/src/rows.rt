@@ -4,15 +4,15 @@
 // A call of the program whose first word is `TZ=VALUE` is made in the zone that this value of the variable asks for, as in
 // a shell, and any other in UTC.
 use anyhow::{Result, anyhow};
-use lr_cli::{Zone, logrotate, status};
+use lr_cli::{Outcome, Zone, logrotate, status};
 use lr_due::zone_of;
 use lr_host::Sink;
 use lr_memhost::{MemHost, MemSink};
 use lr_rows_host::asked;
 use lr_rows_line::Trouble;
-use lr_rows_play::{Call, Caller, Row, Verdict, judge, rows_of};
+use lr_rows_play::{Call, Caller, Made, Row, Verdict, judge, rows_of};
 use lr_rows_read::Cursor;
-use lr_rules::{Path, Text};
+use lr_rules::{Fault, Path, Text};
 use std::alloc::Global;
 use std::fs;
 
@@ -37,19 +37,30 @@ fn zone_and_words(alloc: Global, words: &[Text]) -> Result<(Zone, &[Text]), Trou
     Ok((Zone::Utc, words))
 }
 
+// Whether the report's last fault is that of the output.
+fn tells_out(outcome: &Outcome) -> bool {
+    match outcome {
+        Outcome::Done(report) => matches!(report.faults.as_slice().last(), Some(Fault::Out)),
+        _ => false,
+    }
+}
+
 // Calls the program from the directory `/h`.
 fn make_call(
     alloc: Global,
     host: &mut MemHost,
     call: &Call,
     out: &mut MemSink,
-) -> Result<u8, Trouble> {
+) -> Result<Made, Trouble> {
     let here = Path::new(alloc, b"/h")?;
     let (zone, words) = zone_and_words(alloc, &call.words)?;
     // What a disk in memory tells is the history of a disk.
     let _disk = host.journal();
     let outcome = logrotate(alloc, words, &here, &zone, call.now, host, out);
-    Ok(status(&outcome))
+    Ok(Made {
+        status: status(&outcome),
+        tells_out: tells_out(&outcome),
+    })
 }
 
 // `put BYTES..`: puts each of them to the output; 1 where one of the puts fails.
@@ -88,18 +99,22 @@ fn make_ask(
     host: &mut MemHost,
     words: &[Vec<u8>],
     out: &mut MemSink,
-) -> Result<u8, Trouble> {
+) -> Result<Made, Trouble> {
     let mut cursor = Cursor {
         alloc,
         words,
         taken: 0,
     };
     let word = cursor.word()?;
-    if word == b"put".as_slice() {
-        Ok(put_each(&mut cursor, out))
+    let status = if word == b"put".as_slice() {
+        put_each(&mut cursor, out)
     } else {
-        print_asked(host, &mut cursor, word, out)
-    }
+        print_asked(host, &mut cursor, word, out)?
+    };
+    Ok(Made {
+        status,
+        tells_out: false,
+    })
 }
 
 struct Calls;
@@ -111,7 +126,7 @@ impl Caller for Calls {
         host: &mut MemHost,
         call: &Call,
         out: &mut MemSink,
-    ) -> Result<u8, Trouble> {
+    ) -> Result<Made, Trouble> {
         match &call.asked {
             Some(words) => make_ask(alloc, host, words.as_slice(), out),
             None => make_call(alloc, host, call, out),

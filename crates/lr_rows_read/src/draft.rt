@@ -140,6 +140,7 @@ impl Draft {
             CallKey::FailPut => self.add_failing_put(cursor),
             CallKey::EachCallFails => self.set_fails(cursor),
             CallKey::EachStopAndCut => self.set_stops(cursor),
+            CallKey::EachPutFails => self.set_puts(),
             CallKey::EachBeginning => self.set_beginning(cursor),
             CallKey::RandomConf => self.set_random(cursor),
             CallKey::Says => self.add_says(cursor, line),

@@ -42,6 +42,7 @@ pub enum CallKey {
     FailPut,
     EachCallFails,
     EachStopAndCut,
+    EachPutFails,
     EachBeginning,
     RandomConf,
     Says,
@@ -61,6 +62,8 @@ pub enum WantKey {
     ChangesNothing,
     CallsNothing,
     LeftAlone,
+    Lines,
+    TellsOut,
 }
 
 /// What the first word of a line says.
@@ -72,7 +75,7 @@ pub enum Key {
     Want(WantKey),
 }
 
-static KEYS: [(&[u8], Key); 42] = [
+static KEYS: [(&[u8], Key); 45] = [
     (b"file", Key::Start(StartKey::File)),
     (b"conf", Key::Start(StartKey::Conf)),
     (b"dir", Key::Start(StartKey::Dir)),
@@ -101,6 +104,7 @@ static KEYS: [(&[u8], Key); 42] = [
     (b"fail-put", Key::Call(CallKey::FailPut)),
     (b"each-call-fails", Key::Call(CallKey::EachCallFails)),
     (b"each-stop-and-cut", Key::Call(CallKey::EachStopAndCut)),
+    (b"each-put-fails", Key::Call(CallKey::EachPutFails)),
     (b"each-beginning", Key::Call(CallKey::EachBeginning)),
     (b"random-conf", Key::Call(CallKey::RandomConf)),
     (b"says", Key::Call(CallKey::Says)),
@@ -115,6 +119,8 @@ static KEYS: [(&[u8], Key); 42] = [
     (b"changes-nothing", Key::Want(WantKey::ChangesNothing)),
     (b"calls-nothing", Key::Want(WantKey::CallsNothing)),
     (b"left-alone", Key::Want(WantKey::LeftAlone)),
+    (b"lines", Key::Want(WantKey::Lines)),
+    (b"tells-out", Key::Want(WantKey::TellsOut)),
 ];
 
 /// The key that the word is.

@@ -28,6 +28,11 @@ impl Draft {
         Ok(())
     }
 
+    pub fn set_puts(&mut self) -> Result<(), Trouble> {
+        self.row.mode = Mode::EachPut;
+        Ok(())
+    }
+
     pub fn set_beginning(&mut self, cursor: &mut Cursor) -> Result<(), Trouble> {
         let least = cursor.number()?;
         self.row.mode = Mode::EachBeginning(least, cursor.number()?);

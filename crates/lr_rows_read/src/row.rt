@@ -110,6 +110,10 @@ pub struct Wanted {
     pub changes: Option<Vec<u8>>,
     /// All entries of the call. Where there are none, no call was made.
     pub told: Option<Vec<u8>>,
+    /// How many of the printed lines end with these bytes.
+    pub lines: Vec<(u64, Vec<u8>)>,
+    /// Whether the last fault of the report has to be that of the output.
+    pub tells_out: bool,
 }
 
 /// One call of a row.
@@ -152,6 +156,8 @@ pub enum Mode {
     /// The first call is stopped before each of these calls in turn; then the machine is cut in each way that it can, and
     /// is revived; and the second call is made.
     EachStops(Span),
+    /// Once for each put that the first call makes, where that put fails.
+    EachPut,
     /// Once for each beginning of the configuration, from so many bytes to so many.
     EachBeginning(u64, u64),
     /// Once for each of these configurations.

@@ -26,6 +26,8 @@ pub fn standard_wanted(alloc: Global) -> Wanted {
         once: Vec::new(alloc),
         changes: None,
         told: None,
+        lines: Vec::new(alloc),
+        tells_out: false,
     }
 }
 
@@ -68,6 +70,18 @@ impl Wanted {
         Ok(())
     }
 
+    fn add_lines(&mut self, cursor: &mut Cursor) -> Result<(), Trouble> {
+        let count = cursor.number()?;
+        let end = cursor.bytes()?;
+        self.lines.push((count, end))?;
+        Ok(())
+    }
+
+    fn want_out(&mut self) -> Result<(), Trouble> {
+        self.tells_out = true;
+        Ok(())
+    }
+
     fn want_any_text(&mut self) -> Result<(), Trouble> {
         self.printed = None;
         Ok(())
@@ -107,6 +121,8 @@ impl Wanted {
             WantKey::ChangesNothing => self.want_no_changes(cursor.alloc),
             WantKey::CallsNothing => self.want_no_calls(cursor.alloc),
             WantKey::LeftAlone => self.leave_alone(),
+            WantKey::Lines => self.add_lines(cursor),
+            WantKey::TellsOut => self.want_out(),
         }
     }
 

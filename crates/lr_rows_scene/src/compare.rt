@@ -32,6 +32,10 @@ pub struct Answer<'a> {
     pub printed: &'a [u8],
     /// What was to be printed, in the place of what the row wants.
     pub wanted: Option<&'a [u8]>,
+    /// Whether the last fault of its report is that of the output.
+    pub tells_out: bool,
+    /// Whether a put failed that the row doesn't name: then a beginning of that is printed, and the report tells of it.
+    pub is_cut: bool,
 }
 
 fn is_of_etc(path: &Path) -> bool {
@@ -300,6 +304,74 @@ fn compare_entries(
     Ok(())
 }
 
+// How many lines of the text end so.
+fn count_lines(text: &[u8], end: &[u8]) -> u64 {
+    let mut count = 0u64;
+    for line in text.split(|byte| *byte == b'\n') {
+        if line.ends_with(end) {
+            count = count.saturating_add(1);
+        }
+    }
+    count
+}
+
+fn compare_lines(
+    differences: &mut Differences,
+    wanted: &Wanted,
+    printed: &[u8],
+) -> Result<(), AllocError> {
+    for (count, end) in &wanted.lines {
+        let found = count_lines(printed, end.as_slice());
+        differences.count(b"count of lines", found, *count)?;
+    }
+    Ok(())
+}
+
+// The report ends with the fault of the output.
+fn compare_out(differences: &mut Differences, tells_out: bool) -> Result<(), AllocError> {
+    if tells_out {
+        Ok(())
+    } else {
+        differences.add(
+            b"the report",
+            b"ends otherwise",
+            b"told that the output failed",
+        )
+    }
+}
+
+// What was wanted where no put fails, as it is where one does: a run's status is that of a report with a fault.
+fn compare_cut(
+    differences: &mut Differences,
+    wanted: &Wanted,
+    answer: Answer,
+) -> Result<(), AllocError> {
+    let status = match wanted.status {
+        Some(status) if status > 1 => status,
+        _ => 1,
+    };
+    differences.count(b"status", u64::from(answer.status), u64::from(status))?;
+    if let Some(text) = answer.wanted
+        && !text.starts_with(answer.printed)
+    {
+        differences.add(b"printed", answer.printed, text)?;
+    }
+    compare_out(differences, answer.tells_out)
+}
+
+fn compare_told(
+    differences: &mut Differences,
+    wanted: &Wanted,
+    answer: Answer,
+) -> Result<(), AllocError> {
+    compare_lines(differences, wanted, answer.printed)?;
+    if wanted.tells_out {
+        compare_out(differences, answer.tells_out)
+    } else {
+        Ok(())
+    }
+}
+
 fn compare_answer(
     differences: &mut Differences,
     wanted: &Wanted,
@@ -354,7 +426,12 @@ pub fn put_differences(
     mark: Mark,
     stopped: Option<Stopped>,
 ) -> Result<(), Trouble> {
-    compare_answer(differences, wanted, answer)?;
+    if answer.is_cut {
+        compare_cut(differences, wanted, answer)?;
+    } else {
+        compare_answer(differences, wanted, answer)?;
+        compare_told(differences, wanted, answer)?;
+    }
     compare_entries(alloc, differences, host, wanted, mark)?;
     if wanted.is_alone {
         Ok(compare_alone(differences, host, mark)?)
