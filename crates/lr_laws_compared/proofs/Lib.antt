@@ -1,6 +1,0 @@
-mod ByDate
-mod ByLog
-mod ByPlace
-mod Copied
-mod Days
-mod Same
