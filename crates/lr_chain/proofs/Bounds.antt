@@ -1,24 +1,24 @@
 -- The numbers of members, and of what stands behind them, are low enough.
-use Rattle.std.proofs.Common.{◌≡◌, ℕ, suc, ◌+◌, ◌-◌, ◌==◌, ◌<◌, ◌≤◌, Bool, true, false, not, ◌&&◌, ◌||◌, cond, Option, None, List, [], ◌∷◌, length, get_or, map, reverse, refl, sym, ap, ◌∙◌, subst, arith, eqb-true, eq-eqb}
-use Rattle.std.specs.Prelude.{ℤ, All, Any, filter, nat_le, ◌↔◌}
+use Rattle.std.proofs.Common.{◌≡◌, ℕ, suc, ◌+◌, ◌-◌, ◌==◌, ◌<◌, ◌≤◌, Bool, true, false, not, ◌&&◌, ◌||◌, cond, Option, None, List, [], ◌∷◌, length, get_or, map, reverse, refl, sym, subst, arith}
+use Rattle.std.specs.Prelude.{ℤ, All, filter, nat_le}
 use Rattle.std.specs.List.{list_any}
 use Rattle.std.proofs.lemmas.Bool.Decides.{nat_tests}
 use Rattle.std.proofs.lemmas.List.{reverse-append}
 use Rattle.std.proofs.lemmas.List.Elements.{All-nil, All-cons, All-head, All-tail, All-append, All-map, All-weaker}
-use Rattle.std.proofs.lemmas.List.Folds.{list_any_at, Any-from_list_any, list_any-from_Any}
+use Rattle.std.proofs.lemmas.List.Folds.{list_any_at}
+use Rattle.lr_rules.specs.declared.fault.Fault.TheVariants as fault
 use Rattle.lr_rules.specs.declared.path.Path.{Path}
 use Rattle.lr_rules.specs.declared.rule.Count.{Count}
 use Rattle.lr_rules.specs.declared.rule.Count.TheVariants as count
 use Rattle.lr_rules.specs.declared.rule.Naming.{Naming}
 use Rattle.lr_family.specs.declared.place.Place.{Place}
 use Rattle.lr_family.specs.declared.stand.Member.{Member}
-use Rattle.lr_family.specs.declared.stand.Stand.{Stand}
 use Rattle.lr_family.specs.Places.{IsPlaceOf, AreNamed}
 use Rattle.lr_family.specs.Stands.{number_in}
 use Rattle.lr_family.proofs.Placed.{numbered_at}
+use Rattle.lr_chain.specs.Hindrances.{number_hindrances}
 use Rattle.lr_chain.specs.Rotation.{places_of, is_left, is_expired, goes, going}
-use Rattle.lr_chain.specs.Ready.{HaveNames, HaveNext, HaveNewNames, IsCount, NoneTooHigh, HasTooHigh, IsTooHigh, is_highest, highest_path}
-use Rattle.lr_chain.proofs.Highest.{path_is}
+use Rattle.lr_chain.specs.Ready.{HaveNames, HaveNext, HaveNewNames, IsCount, NoneTooHigh, is_highest, highest_path}
 
 -- the highest place that the count allows
 abbrev pub top_of : Naming → Count → ℕ
@@ -80,31 +80,11 @@ have_new_names n c maxage now members numbered start small named low = all_rever
         go false e true r = All-cons (λ m. n.start + (number_in m.place + 1) ≤ 4294967295) m (filter (goes c maxage now) ms) (All-head (λ m. is_left c (number_in m.place) ≡ false → n.start + (number_in m.place + 1) ≤ 4294967295) m ms h e) r
         go false e false r = r
 
--- the told path is that of each member that stands highest
-pub too_high_is : (n : Naming) (stand : Stand) (c : Count) (members : List Member) (path told x : Path) → stand.there ≡ true → members ≡ stand.members → n.dated ≡ None → AreNamed n stand.members → HasTooHigh n c members path → told ≡ path
-    → (told ≡ x) ↔ IsTooHigh n stand c x
-too_high_is n stand c members path told x there same numbered named has is = (λ e. (there, has.0, some e), λ h. same_path h)
+-- where nothing hinders, none has the highest number of members that are all kept
+pub none_too_high : (n : Naming) (c : Count) (members : List Member) → number_hindrances n c members ≡ [] → NoneTooHigh n c members
+none_too_high n (count.Keep k) members free e = absurd (cc)
+none_too_high n count.Always members free e = go (list_any (is_highest n) members) free
   where
-    some : told ≡ x → Any (λ m. (n.start + number_in m.place ≡ 4294967295) × (m.path ≡ x)) stand.members
-    some e = let a = Any-from_list_any (is_highest n) stand.members (sym (ap (list_any (is_highest n)) same) ∙ has.1) in
-        (a.0, a.1, a.2, a.3, (eqb-true (n.start + number_in a.1.place) 4294967295 a.4, path_is n a.1 numbered (subst (λ (m : Member). IsPlaceOf n m.place m.path) a.3 (named a.0 a.1 a.2)) a.4 ∙ (sym has.2 ∙ (sym is ∙ e))))
-
-    same_path : IsTooHigh n stand c x → told ≡ x
-    same_path h = let a = h.2 in
-        is ∙ (has.2 ∙ (sym (path_is n a.1 numbered (subst (λ (m : Member). IsPlaceOf n m.place m.path) a.3 (named a.0 a.1 a.2)) (eq-eqb (n.start + number_in a.1.place) 4294967295 a.4.0)) ∙ a.4.1))
-
--- where no member's path is told so, none stands highest
-pub none_too_high : (n : Naming) (stand : Stand) (c : Count) → stand.there ≡ true → n.dated ≡ None → AreNamed n stand.members → ((path : Path) → IsTooHigh n stand c path → ⊥) → NoneTooHigh n c stand.members
-none_too_high n stand c there numbered named low e = go (list_any (is_highest n) stand.members) refl
-  where
-    go : (b : Bool) → list_any (is_highest n) stand.members ≡ b → list_any (is_highest n) stand.members ≡ false
-    go true h = absurd (low (highest_path n) ((too_high_is n stand c stand.members (highest_path n) (highest_path n) (highest_path n) there refl numbered named (e, h, refl) refl).0 refl))
-    go false h = h
-
--- where none stands highest, no path is told so
-pub not_too_high : (n : Naming) (stand : Stand) (c : Count) (members : List Member) (path : Path) → members ≡ stand.members → NoneTooHigh n c members → IsTooHigh n stand c path → ⊥
-not_too_high n stand c members path same none h =
-    let a = h.2 in
-    let some : list_any (is_highest n) members ≡ true = ap (list_any (is_highest n)) same ∙ list_any-from_Any (is_highest n) stand.members (a.0, a.1, a.2, a.3, eq-eqb (n.start + number_in a.1.place) 4294967295 a.4.0) in
-    let one = none h.1 in
-    cc
+    go : (b : Bool) → cond b (fault.TooHigh (highest_path n) ∷ []) [] ≡ [] → b ≡ false
+    go true e = absurd (cc)
+    go false e = refl

@@ -1,6 +1,13 @@
+pub mod DatedReady
+pub mod DatedRotation
+pub mod DatedTurning
 pub mod Directory
+pub mod Hindrances
+pub mod Prepared
 pub mod Ready
 pub mod Rotation
+pub mod Serials
 pub mod Standing
 pub mod Stops
 pub mod Turning
+pub mod WhereTheyStand

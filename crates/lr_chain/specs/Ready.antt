@@ -1,5 +1,5 @@
--- What makes a rotation ready, what keeps it from being prepared, and the steps of a ready one.
-use Rattle.std.specs.Prelude.{◌≡◌, ◌≤◌, ◌+◌, ◌==◌, ℕ, Bool, true, false, List, [], ◌∷◌, ◌++◌, map, All, Any, Option, Some, None}
+-- The parts of a ready rotation of numbered members, and the steps of a ready one.
+use Rattle.std.specs.Prelude.{◌≡◌, ◌≤◌, ◌+◌, ◌==◌, ℕ, Bool, false, List, [], ◌∷◌, ◌++◌, map, All, Option, Some, None}
 use Rattle.std.specs.List.{flat_map, list_any}
 use Rattle.lr_rules.specs.declared.path.Path.{Path}
 use Rattle.lr_rules.specs.declared.rule.Count.{Count}
@@ -11,7 +11,6 @@ use Rattle.lr_host.specs.declared.entry.Entry.{Entry}
 use Rattle.lr_host.specs.declared.entry.Entry.TheVariants.{Renames, MakesDir}
 use Rattle.lr_host.specs.Told.{Then}
 use Rattle.lr_family.specs.declared.stand.Member.{Member}
-use Rattle.lr_family.specs.declared.stand.Stand.{Stand}
 use Rattle.lr_family.specs.Named.{member_name}
 use Rattle.lr_family.specs.Spots.{path_at}
 use Rattle.lr_family.specs.Stands.{number_in}
@@ -20,7 +19,7 @@ use Rattle.lr_scripts.specs.Removals.{steps_of_removal}
 use Rattle.lr_chain.specs.declared.ready.Move.{Move}
 use Rattle.lr_chain.specs.declared.ready.Ready.{Ready}
 use Rattle.lr_chain.specs.Directory.{DirMade}
-use Rattle.lr_chain.specs.Rotation.{places_of, is_left, leftovers, kept, retired}
+use Rattle.lr_chain.specs.Rotation.{is_left, leftovers, kept, retired}
 
 -- the removal of the member at this place: its unlink alone
 abbrev pub removal_at : Naming → ℕ → Removal
@@ -49,17 +48,6 @@ with_members n c places from ready = record {
   retire = map (removal_at n) (retired c from);
 }
 
--- The rotation is ready: its parts are those of one rotation of the log, where these members stand and those that come from
--- these places go, and the log is made anew so.
-pub record IsReady (log : Path) (n : Naming) (c : Count) (anew : Make) (members : List Member) (from : List ℕ) (ready : Ready) : Type 0 where
-  pub leftovers_are : ready.leftovers ≡ map (removal_at n) (leftovers c (places_of members))
-  pub no_dir : ready.dir ≡ None
-  pub moves_are : ready.moves ≡ map (move_from n) (kept c (places_of members))
-  pub log_is : ready.log ≡ log
-  pub target_is : ready.target ≡ path_at n 0
-  pub make_is : ready.make ≡ anew
-  pub retire_is : ready.retire ≡ map (removal_at n) (retired c from)
-
 -- a count that a rule can have
 abbrev pub IsCount : Count → Type 0
 IsCount (count.Keep n) = n ≤ 999999
@@ -84,20 +72,9 @@ is_highest n m = n.start + number_in m.place == 4294967295
 abbrev pub highest_path : Naming → Path
 highest_path n = joined n.dir (member_name n 4294967295)
 
--- with all members kept, none of them has it; or this is the path of one that has
+-- with all members kept, none of them has it
 abbrev pub NoneTooHigh : Naming → Count → List Member → Type 0
 NoneTooHigh n c members = c ≡ count.Always → list_any (is_highest n) members ≡ false
-
-abbrev pub HasTooHigh : Naming → Count → List Member → Path → Type 0
-HasTooHigh n c members path = (c ≡ count.Always) × (list_any (is_highest n) members ≡ true) × (path ≡ highest_path n)
-
--- The path is that of the family's directory, and that wasn't there.
-abbrev pub IsMissing : Naming → Stand → Path → Type 0
-IsMissing n stand path = (stand.there ≡ false) × (path ≡ n.dir)
-
--- The path is that of a member with the highest number that there is; all members are kept, so it would have to move.
-abbrev pub IsTooHigh : Naming → Stand → Count → Path → Type 0
-IsTooHigh n stand c path = (stand.there ≡ true) × (c ≡ count.Always) × Any (λ m. (n.start + number_in m.place ≡ 4294967295) × (m.path ≡ path)) stand.members
 
 -- ---- the steps of a ready rotation
 
@@ -112,6 +89,10 @@ turn_of ready = shift_of ready ++ Renames ready.log ready.target ∷ []
 
 abbrev pub removals_of : List Removal → List Entry
 removals_of list = flat_map steps_of_removal list
+
+-- all of its steps, its directory aside: the leftovers go, the members move, the log goes to its target, and those behind it go
+abbrev pub steps_of : Ready → List Entry
+steps_of ready = removals_of ready.leftovers ++ (turn_of ready ++ removals_of ready.retire)
 
 -- ---- the directory of a ready rotation, where one is to be made
 

@@ -6,10 +6,9 @@ use Rattle.lr_rules.specs.declared.rule.Count.{Count}
 use Rattle.lr_rules.specs.declared.rule.Naming.{Naming}
 use Rattle.lr_host.specs.declared.thing.Thing.TheVariants as thing
 use Rattle.lr_host.specs.World.{Names}
-use Rattle.lr_host.specs.Fits.{IsFileAt, IsDirectoryAt}
-use Rattle.lr_host.specs.Steps.{FitAll}
+use Rattle.lr_host.specs.Fits.{IsFileAt}
 use Rattle.lr_family.specs.Spots.{path_at}
-use Rattle.lr_chain.specs.Rotation.{is_left, rotation}
+use Rattle.lr_chain.specs.Rotation.{is_left}
 
 -- The log is a regular file; the members at just these places, each below the one before it, are regular files, and nothing
 -- has the path of another member.
@@ -26,7 +25,3 @@ pub record AreGoing (c : Count) (places from : List ℕ) : Type 0 where
   pub there : (place : ℕ) → Contains from place → Contains places place
   pub moved : (place : ℕ) → Contains from place → is_left c place ≡ false
   pub full : (place : ℕ) → Contains places place → is_left c place ≡ false → is_left c (suc place) ≡ true → Contains from place
-
--- wherever they stand so, in a directory that is there, the steps of the rotation fit one after another
-abbrev pub FitsWhereTheyStand : Path → Naming → Count → List ℕ → List ℕ → Type 0
-FitsWhereTheyStand log n c places from = (names : Names) → IsDirectoryAt names n.dir → StandSo log n places names → FitAll names (reverse (rotation n c log places from))

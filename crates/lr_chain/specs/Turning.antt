@@ -1,16 +1,14 @@
 -- What a rotation makes of the names of a disk.
-use Rattle.std.specs.Prelude.{◌≡◌, ◌≢◌, ◌+◌, ◌≤◌, ◌==◌, ◌||◌, ℕ, zero, suc, List, reverse, cond}
+use Rattle.std.specs.Prelude.{◌≡◌, ◌≢◌, ◌+◌, ◌≤◌, ◌==◌, ◌||◌, ℕ, zero, suc, List, cond}
 use Rattle.std.specs.List.{list_any}
 use Rattle.lr_rules.specs.declared.path.Path.{Path}
 use Rattle.lr_rules.specs.declared.rule.Count.{Count}
 use Rattle.lr_rules.specs.declared.rule.Naming.{Naming}
 use Rattle.lr_host.specs.declared.thing.Thing.{Thing}
 use Rattle.lr_host.specs.declared.thing.Thing.TheVariants as thing
-use Rattle.lr_host.specs.World.{Names, names_after}
-use Rattle.lr_host.specs.Steps.{changes_of}
+use Rattle.lr_host.specs.World.{Names}
 use Rattle.lr_family.specs.Spots.{path_at}
-use Rattle.lr_chain.specs.Rotation.{is_left, rotation}
-use Rattle.lr_chain.specs.Standing.{StandSo}
+use Rattle.lr_chain.specs.Rotation.{is_left}
 
 -- What the member at a place names behind a rotation: what the log named at place 0, at each other place what the member
 -- before it named, and nothing where the count leaves no room, or where that member comes from a place of which it goes.
@@ -23,7 +21,3 @@ pub record IsTurned (log : Path) (n : Naming) (c : Count) (from : List ℕ) (bef
   pub members : (place : ℕ) → n.start + place ≤ 4294967295 → after (path_at n place) ≡ turned c from (before log) (λ p. before (path_at n p)) place
   pub log_gone : after log ≡ thing.Nothing
   pub others : (x : Path) → x ≢ log → ((place : ℕ) → n.start + place ≤ 4294967295 → x ≢ path_at n place) → after x ≡ before x
-
--- wherever the members stand so, the changes of the rotation turn the family
-abbrev pub TurnsWhereTheyStand : Path → Naming → Count → List ℕ → List ℕ → Type 0
-TurnsWhereTheyStand log n c places from = (names : Names) → StandSo log n places names → IsTurned log n c from names (names_after names (changes_of (reverse (rotation n c log places from))))

@@ -1,52 +1,47 @@
 // What a ready rotation is, whole.
-ghost use Rattle.std.specs.Prelude.{◌≡◌, ◌≤◌, ◌++◌, true, None};
+ghost use Rattle.std.specs.Prelude.{◌≡◌, ◌≤◌, ℕ, true, List, [], Option, None, IsSome};
+ghost use Rattle.lr_rules.specs.declared.clock.Clock.{Clock};
 ghost use Rattle.lr_rules.specs.declared.path.Path.{Path};
+ghost use Rattle.lr_rules.specs.declared.rule.Count.{Count};
+ghost use Rattle.lr_rules.specs.declared.rule.Make.{Make};
+ghost use Rattle.lr_rules.specs.declared.rule.Naming.{Naming};
+ghost use Rattle.lr_rules.specs.Limits.{is_format, or_none};
+ghost use Rattle.lr_rules.specs.Path.{path_fault};
+ghost use Rattle.lr_family.specs.declared.stand.Member.{Member};
+ghost use Rattle.lr_family.specs.declared.stand.Stand.{Stand};
+ghost use Rattle.lr_family.specs.Kin.{IsKin};
 ghost use Rattle.lr_family.specs.Places.{AreNamed};
+ghost use Rattle.lr_chain.specs.DatedReady.{dated_target, all_by};
+ghost use Rattle.lr_chain.specs.DatedRotation.{dated_rotation};
+ghost use Rattle.lr_chain.specs.Hindrances.{what_hinders};
+ghost use Rattle.lr_chain.specs.Prepared.{ready_of};
+ghost use Rattle.lr_chain.specs.Ready.{IsCount, steps_of};
 ghost use Rattle.lr_chain.specs.Rotation.{places_of, going, rotation};
-ghost use Rattle.lr_chain.specs.Ready.{IsReady, IsCount, IsTooHigh, turn_of, removals_of};
-ghost use Rattle.lr_chain.specs.Standing.{FitsWhereTheyStand};
-ghost use Rattle.lr_chain.specs.Turning.{TurnsWhereTheyStand};
+ghost use Rattle.lr_chain.specs.WhereTheyStand.{FitsWhereTheyStand, TurnsWhereTheyStand};
 
-use crate::ready::Ready;
-use lr_family::{Family, Stand};
-use lr_rules::Count;
-
-/// The removals of the leftovers, the turn and the retirement are the entries of one rotation, in order.
-pub fn steps_of_ready(
-    family: &Family,
-    stand: &Stand,
-    count: Count,
-    maxage: Option<u32>,
-    now: i64,
-    ready: &Ready,
-)
-    requires { IsReady family.now.log family.now.naming count ready.now.make stand.now.members (going count maxage now stand.now.members) ready.now }
-    ensures { removals_of ready.now.leftovers ++ (turn_of ready.now ++ removals_of ready.now.retire) ≡ rotation family.now.naming count family.now.log (places_of stand.now.members) (going count maxage now stand.now.members) }
+/// The steps of what `prepare` makes ready are the entries of one rotation, in order.
+pub fn steps_of_ready()
+    ensures numbers { (log : Path) (n : Naming) (c : Count) (maxage : Option ℕ) (clock : Clock) (anew : Make) (members : List Member)
+        → n.dated ≡ None
+        → steps_of (ready_of log n c maxage clock anew members) ≡ rotation n c log (places_of members) (going c maxage clock.now.seconds members) }
+    ensures dates { (log : Path) (n : Naming) (c : Count) (maxage : Option ℕ) (clock : Clock) (anew : Make) (members : List Member)
+        → IsSome n.dated
+        → steps_of (ready_of log n c maxage clock anew members) ≡ dated_rotation c log (dated_target n clock members) (all_by n maxage clock members) }
 {}
 
-/// The steps of a rotation fit one after another: each rename finds its file, and no rename goes over a thing of another
-/// kind. That holds of a numbered family where no member's number would become too high.
-pub fn rotation_fits(family: &Family, stand: &Stand, count: Count, maxage: Option<u32>, now: i64)
-    requires numbered { family.now.naming.dated ≡ None }
-    requires start { family.now.naming.start ≤ 999999 }
-    requires count { IsCount count }
-    requires named { AreNamed family.now.naming stand.now.members }
-    requires there { stand.now.there ≡ true }
-    requires low { (path : Path) → IsTooHigh family.now.naming stand.now count path → ⊥ }
-    ensures { FitsWhereTheyStand family.now.log family.now.naming count (places_of stand.now.members) (going count maxage now stand.now.members) }
-{
-    // The directory of the family is a path.
-    let _dir = family.naming().dir.bytes();
-}
+/// They fit one after another wherever the log and the members stand so, if nothing hinders: each rename finds its file, and
+/// none goes over a thing of another kind.
+pub fn ready_fits()
+    ensures { (log : Path) (n : Naming) (c : Count) (maxage : Option ℕ) (clock : Clock) (anew : Make) (stand : Stand) → IsKin log n
+        → path_fault n.dir ≡ None → n.start ≤ 999999 → IsCount c → or_none is_format n.dated ≡ true → AreNamed n stand.members
+        → what_hinders n c clock stand ≡ [] → FitsWhereTheyStand log n c maxage clock anew stand.members }
+{}
 
-/// The changes of a rotation turn the family: the log's file stands at place 0, each other that isn't too old at the next
-/// place, and none from the count on; each other path names what it named.
-pub fn rotation_turns(family: &Family, stand: &Stand, count: Count, maxage: Option<u32>, now: i64)
-    requires numbered { family.now.naming.dated ≡ None }
-    requires start { family.now.naming.start ≤ 999999 }
-    requires count { IsCount count }
-    requires named { AreNamed family.now.naming stand.now.members }
-    requires there { stand.now.there ≡ true }
-    requires low { (path : Path) → IsTooHigh family.now.naming stand.now count path → ⊥ }
-    ensures { TurnsWhereTheyStand family.now.log family.now.naming count (places_of stand.now.members) (going count maxage now stand.now.members) }
+/// Their changes turn the family. Of numbers the log's file stands at place 0 then, each other that isn't too old at the next
+/// place, and none from the count on. Of dates the latest stay, as many as the count says, the log's file under its new name
+/// among them, less those that were too old. Each other path names what it named.
+pub fn ready_turns()
+    ensures { (log : Path) (n : Naming) (c : Count) (maxage : Option ℕ) (clock : Clock) (anew : Make) (stand : Stand) → IsKin log n
+        → n.start ≤ 999999 → IsCount c → or_none is_format n.dated ≡ true → AreNamed n stand.members
+        → what_hinders n c clock stand ≡ [] → TurnsWhereTheyStand log n c maxage clock anew stand.members }
 {}

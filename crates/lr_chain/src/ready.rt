@@ -17,15 +17,16 @@ pub struct Ready {
     /// The directory that is to be made before the moves, with its mode (permission bits), if any. [`crate::prepare`] gives
     /// none.
     pub dir: Option<(Path, Option<u32>)>,
-    /// The moves of the members, the highest place first.
+    /// The moves of the members, the highest place first; of dates none.
     pub moves: Listed<Move>,
     pub log: Path,
     /// Where the log goes.
     pub target: Path,
     /// Whether the log is made anew, and with which mode (permission bits).
     pub make: Make,
-    /// What is removed at the end, the highest place first: the member that is then one too many, and those that are too
-    /// old, under the names that the moves gave them; the log, at its target, where none is kept.
+    /// What is removed at the end, of numbers the highest place first, of dates the oldest first: the members that are then
+    /// too many, and those that are too old, under the names that the moves gave them; the log, at its target, where none
+    /// is kept.
     pub retire: Listed<Removal>,
 }
 
@@ -34,7 +35,7 @@ pub struct Ready {
 pub enum PrepareStop {
     /// The name that the log would get is a member's; of dated families alone.
     Taken(Path),
-    /// This member's number can't become higher.
+    /// This member's number, or of dates its serial number, can't become higher.
     TooHigh(Path),
     /// The family's directory isn't there.
     NoDir(Path),

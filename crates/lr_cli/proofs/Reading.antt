@@ -22,13 +22,12 @@ use Rattle.lr_include.specs.Readers.{meaning_of, IsConfOrCall}
 use Rattle.lr_include.specs.Stages.{Reads}
 use Rattle.lr_include.specs.Lacking.{LacksReading}
 use Rattle.lr_include.proofs.AllQuiet.{reads_quiet as confs_quiet, lacking_quiet}
-use Rattle.lr_mixed.specs.AllTurns.{IsWholeRunBy}
-use Rattle.lr_mixed.proofs.Shapes.{quiet_run_by}
+use Rattle.lr_laws_targets.specs.Runs.{IsWholeRunBy}
+use Rattle.lr_laws_targets.proofs.Shapes.{quiet_run_by}
 use Rattle.lr_plan.specs.Asked.{asking}
 use Rattle.lr_plan.specs.declared.plan.Plan.{Plan}
 use Rattle.lr_plan.specs.declared.settings.Settings.{Settings}
-use Rattle.lr_run.specs.Answers.{Leaves, Holds, Lacks}
-use Rattle.lr_run.specs.Answers.{Answers as RunAnswers}
+use Rattle.lr_run.specs.Answers.{Leaves, Holds, Lacks, Answers as RunAnswers}
 use Rattle.lr_run.specs.declared.answer.RunStop.{RunStop}
 use Rattle.lr_run.specs.declared.answer.RunStop.TheVariants as stop
 use Rattle.lr_command.specs.declared.request.Request.{Request}

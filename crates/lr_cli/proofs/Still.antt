@@ -30,8 +30,7 @@ use Rattle.lr_plan.specs.Asked.{asking}
 use Rattle.lr_plan.specs.declared.plan.Plan.{Plan}
 use Rattle.lr_run.specs.Answers.{Leaves, Holds, Lacks}
 use Rattle.lr_run.specs.Dry.{IsSight, AreSights}
-use Rattle.lr_run.specs.Runs.{Inside, SomeSeen, in_looks, in_acts}
-use Rattle.lr_run.specs.Runs.{LacksMemory as RunLacks, at_first as run_at_first}
+use Rattle.lr_run.specs.Runs.{Inside, SomeSeen, in_looks, in_acts, LacksMemory as RunLacks, at_first as run_at_first}
 use Rattle.lr_run.specs.Scripts.{RunNothing}
 use Rattle.lr_run.proofs.Drying.{tries_so, lacks_so}
 use Rattle.lr_run.proofs.Scriptless.{never_broke_off}

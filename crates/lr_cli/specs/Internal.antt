@@ -5,7 +5,7 @@ use Rattle.lr_due.specs.declared.tz.Zone.{Zone}
 use Rattle.lr_host.specs.declared.journal.Journal.{Journal}
 use Rattle.lr_host.specs.Quiet.{AreQuiet}
 use Rattle.lr_host.specs.Told.{Left}
-use Rattle.lr_mixed.specs.AllTurns.{IsWholeRunBy}
+use Rattle.lr_laws_targets.specs.Runs.{IsWholeRunBy}
 use Rattle.lr_cli.specs.Safe.{HadClock}
 
 -- Where there was no clock, the call only looked and listed and read; by a clock it made a run, as far as it came.

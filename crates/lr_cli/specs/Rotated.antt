@@ -6,7 +6,7 @@ use Rattle.lr_host.specs.Lists.{IsIn}
 use Rattle.lr_host.specs.World.{past}
 use Rattle.lr_host.specs.Told.{Made}
 use Rattle.lr_due.specs.declared.tz.Zone.{Zone}
-use Rattle.lr_targets.specs.Target.{Target}
+use Rattle.lr_laws_targets.specs.Target.{Target}
 use Rattle.lr_run.specs.Rotated.{rotated_in, IsTurnedAmong}
 use Rattle.lr_plan.specs.Asked.{asking}
 use Rattle.lr_cli.specs.declared.outcome.Report.{Report}

@@ -5,8 +5,8 @@ use Rattle.lr_due.specs.declared.tz.Zone.{Zone}
 use Rattle.lr_host.specs.declared.journal.Journal.{Journal}
 use Rattle.lr_host.specs.Safe.{KeepsSafe}
 use Rattle.lr_host.specs.Told.{Left, Then}
-use Rattle.lr_dated.specs.Forward.{IsForwardFor}
-use Rattle.lr_dated.specs.Stays.{KeepsSafeWhere}
+use Rattle.lr_laws.specs.Forward.{IsForwardFor}
+use Rattle.lr_laws.specs.Stays.{KeepsSafeWhere}
 use Rattle.lr_cli.specs.Clock.{ShowsClock}
 use Rattle.lr_cli.specs.Copied.{Whatever}
 

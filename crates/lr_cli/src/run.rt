@@ -3,7 +3,7 @@ ghost use Rattle.std.specs.Prelude.{◌≡◌, ◌≤◌, ◌+◌, [], None, tru
 ghost use Rattle.lr_host.specs.Opening.{IsJournal};
 ghost use Rattle.lr_host.specs.Told.{Left, Onward, Rose, WhereTold};
 ghost use Rattle.lr_host.specs.Counted.{AreCounted};
-ghost use Rattle.lr_mixed.specs.AllTurns.{IsWholeRunBy};
+ghost use Rattle.lr_laws_targets.specs.Runs.{IsWholeRunBy};
 ghost use Rattle.lr_run.specs.Anew.{NamesAnew};
 ghost use Rattle.lr_cli.specs.Internal.{TurnsByClock};
 ghost use Rattle.lr_rules.specs.StatePath.{can_be_state};

@@ -3,9 +3,8 @@ use Rattle.std.proofs.Common.{◌≡◌, ℕ, ◌+◌, ◌<◌, ◌≤◌, true,
 use Rattle.std.specs.Prelude.{Result, Ok, Err, MatchResult, OnOk}
 use Rattle.lr_host.specs.declared.entry.Entry.{Entry}
 use Rattle.lr_host.specs.declared.journal.Journal.{Journal}
-use Rattle.lr_host.specs.World.{Past, Opens, ◌▸◌, past, then}
+use Rattle.lr_host.specs.World.{Past, Opens, ◌▸◌, past, then, World, world, effect}
 use Rattle.lr_host.specs.declared.entry.Entry.TheVariants as entry
-use Rattle.lr_host.specs.World.{World, world, effect}
 use Rattle.lr_host.specs.Fits.{Fits}
 use Rattle.lr_host.specs.Opening.{IsJournal}
 use Rattle.lr_disk.specs.declared.state.State.{State}

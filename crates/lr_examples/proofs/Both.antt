@@ -12,13 +12,13 @@ use Rattle.lr_host.specs.Quiet.{AreQuiet}
 use Rattle.lr_host.specs.Steps.{is_change}
 use Rattle.lr_host.specs.Told.{Each}
 use Rattle.lr_host.proofs.Each.{each_append, each_first, each_as, all_pass}
-use Rattle.lr_targets.specs.AllTurns.{IsOfState, IsOfSome, StandsBetween}
-use Rattle.lr_targets.specs.Target.{Target, rotation_of}
+use Rattle.lr_laws_targets.specs.AllTurns.{IsOfState, IsOfSome, StandsBetween}
+use Rattle.lr_laws_targets.specs.Target.{Target, rotation_of}
 use Rattle.lr_laws_family.specs.Weave.{Weave, IsFirstOf, FirstWoven}
-use Rattle.lr_targets.proofs.Rotating.{each_turn}
+use Rattle.lr_laws_targets.proofs.Rotating.{each_turn}
 use Rattle.lr_laws_family.proofs.Weaving.{weave_on, weave_own, weave_others}
-use Rattle.lr_mixed.specs.AllTurns.{AllTurnsBy, AllTurnedBy}
-use Rattle.lr_mixed.specs.Seen.{AreLogsSeen}
+use Rattle.lr_laws_targets.specs.Runs.{AllTurnsBy, AllTurnedBy}
+use Rattle.lr_laws_targets.specs.Seen.{AreLogsSeen}
 
 -- ---- first parts
 

@@ -1,24 +1,25 @@
 -- The names of the members of both logs, and that both are families.
-use Rattle.std.proofs.Common.{◌≡◌, ℕ, zero, suc, ◌+◌, refl, sym, ◌∙◌, ap, arith, None, List, [], ◌∷◌, ◌++◌, map, codes, true}
+use Rattle.std.proofs.Common.{◌≡◌, ℕ, zero, suc, ◌+◌, refl, sym, ◌∙◌, ap, arith, None, List, [], ◌∷◌, ◌++◌, codes, true}
 use Rattle.std.specs.Prelude.{decimal, IsAscii}
 use Rattle.std.specs.Str.{is_utf8}
 use Rattle.std.proofs.lemmas.Str.{is_utf8-from_IsUtf8, IsUtf8-from_ascii}
 use Rattle.std.proofs.lemmas.Fmt.{decimal_digit}
+use Rattle.lr_rules.specs.declared.clock.Clock.{Clock}
 use Rattle.lr_rules.specs.declared.path.Path.{Path}
+use Rattle.lr_rules.specs.declared.rule.Make.TheVariants.{No}
 use Rattle.lr_rules.specs.Path.{path_fault, joined}
 use Rattle.lr_host.specs.declared.entry.Entry.{Entry}
 use Rattle.lr_host.specs.declared.entry.Entry.TheVariants.{Renames, Unlinks}
 use Rattle.lr_family.specs.Named.{framed, member_name}
 use Rattle.lr_family.specs.Spots.{path_at}
 use Rattle.lr_family.proofs.Unique.{joined_same}
-use Rattle.lr_rotations.specs.Members.{IsFamily}
-use Rattle.lr_chain.specs.declared.ready.Move.{Move}
-use Rattle.lr_chain.specs.Ready.{move_from}
+use Rattle.lr_laws_rotations.proofs.Places.{IsFamily}
+use Rattle.lr_chain.specs.declared.ready.Ready.{Ready}
 use Rattle.lr_chain.specs.Rotation.{places_of, rotation}
-use Rattle.lr_targets.specs.Target.{HasReady}
-use Rattle.lr_examples.specs.Logs.{a_log, a_first, a_second, a_third, a_count, a_naming, a_stand, a_from, a_ready, a_target, b_log, b_first, b_naming, b_target}
+use Rattle.lr_laws_targets.specs.Target.{IsReadyBy}
+use Rattle.lr_examples.specs.Logs.{a_log, a_first, a_second, a_third, a_count, a_naming, a_stand, a_from, a_target, b_log, b_first, b_naming, b_target}
 use Rattle.lr_examples.specs.TwoLogs.{a_steps}
-use Rattle.lr_mixed.proofs.Example.{path_w}
+use Rattle.lr_laws_targets.proofs.Example.{path_w}
 
 -- ---- names and paths of members
 
@@ -89,25 +90,21 @@ unfolding by_paths
 a_rotation =
     ap (λ (x : Path). by_paths x (path_at a_naming 1) (path_at a_naming 2)) first_path ∙ (ap (λ (x : Path). by_paths a_first x (path_at a_naming 2)) second_path ∙ ap (λ (x : Path). by_paths a_first a_second x) third_path)
 
--- what is ready is that
-by_moves : Path → Path → Path → List Move
-by_moves first second third = record { from = second; to = third } ∷ record { from = first; to = second } ∷ []
-
-a_moves : a_ready.moves ≡ map (move_from a_naming) (1 ∷ 0 ∷ [])
-unfolding by_moves
-a_moves =
-    ap (λ (x : Path). by_moves x a_second a_third) (sym first_path) ∙ (ap (λ (x : Path). by_moves (path_at a_naming 0) x a_third) (sym second_path) ∙ ap (λ (x : Path). by_moves (path_at a_naming 0) (path_at a_naming 1) x) (sym third_path))
-
-pub a_is_ready : HasReady a_target
-a_is_ready = record {
-  leftovers_are = refl;
-  no_dir = refl;
-  moves_are = a_moves;
-  log_is = refl;
-  target_is = sym first_path;
-  make_is = refl;
-  retire_is = ap (λ (x : Path). record { path = x; preremove = None; mail = None } ∷ []) (sym third_path);
+-- what is ready is that, by any clock
+abbrev by_places : Path → Path → Path → Ready
+by_places first second third = record {
+  leftovers = [];
+  dir = None;
+  moves = record { from = second; to = third } ∷ record { from = first; to = second } ∷ [];
+  log = a_log;
+  target = first;
+  make = No;
+  retire = record { path = third; preremove = None; mail = None } ∷ [];
 }
 
-pub b_is_ready : HasReady b_target
-b_is_ready = record { leftovers_are = refl; no_dir = refl; moves_are = refl; log_is = refl; target_is = sym b_first_path; make_is = refl; retire_is = refl }
+pub a_is_ready : (clock : Clock) → IsReadyBy clock a_target
+a_is_ready clock =
+    ap (λ (x : Path). by_places x a_second a_third) (sym first_path) ∙ (ap (λ (x : Path). by_places (path_at a_naming 0) x a_third) (sym second_path) ∙ ap (λ (x : Path). by_places (path_at a_naming 0) (path_at a_naming 1) x) (sym third_path))
+
+pub b_is_ready : (clock : Clock) → IsReadyBy clock b_target
+b_is_ready clock = ap (λ (x : Path). record { leftovers = []; dir = None; moves = []; log = b_log; target = x; make = No; retire = [] }) (sym b_first_path)

@@ -30,8 +30,8 @@ use Rattle.lr_laws_family.specs.Turned.{IsRotation, IsTurned}
 use Rattle.lr_laws_family.proofs.Numbers.{numbered_is_one, steps_are}
 use Rattle.lr_laws_family.proofs.Whole.{turned as family_turned}
 use Rattle.lr_laws_family.proofs.Woven.{among}
-use Rattle.lr_rotations.specs.Members as places
-use Rattle.lr_mixed.proofs.Whole.{shown_more}
+use Rattle.lr_laws_rotations.proofs.Places as places
+use Rattle.lr_laws_targets.proofs.Whole.{shown_more}
 use Rattle.lr_laws_family.specs.Beside.{IsBeside}
 use Rattle.lr_laws_family.specs.Weave.{Weave, none, own, other}
 use Rattle.lr_examples.specs.Logs.{state, part, rules, a_log, a_first, a_second, a_third, a_count, a_naming, a_stand, a_from, a_listed, b_log, b_first, b_listed, file, directory, looks}

@@ -4,7 +4,7 @@ use Rattle.lr_rules.specs.declared.clock.Clock.{Clock}
 use Rattle.lr_host.specs.declared.entry.Entry.{Entry}
 use Rattle.lr_host.specs.declared.entry.Entry.TheVariants.{Starts, Ends, Look, Renames, Unlinks}
 use Rattle.lr_laws_family.specs.Weave.{IsFirstOf}
-use Rattle.lr_mixed.specs.AllTurns.{AllTurnsBy, AllTurnedBy, started, IsWholeRunBy}
+use Rattle.lr_laws_targets.specs.Runs.{AllTurnsBy, AllTurnedBy, started, IsWholeRunBy}
 use Rattle.lr_examples.specs.Logs.{state, rules, directory, looks, a_log, a_first, a_second, a_third, a_target, b_target}
 use Rattle.lr_examples.specs.TwoLogs.{a_steps, b_steps, steps, saves, two_logs_run}
 use Rattle.lr_examples.proofs.Both.{FirstOfBoth, first_of_both, all_first, both_turn, both_turned}

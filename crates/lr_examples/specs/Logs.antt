@@ -19,7 +19,7 @@ use Rattle.lr_family.specs.declared.place.Place.TheVariants as at
 use Rattle.lr_family.specs.declared.stand.Member.{Member}
 use Rattle.lr_family.specs.declared.stand.Stand.{Stand}
 use Rattle.lr_chain.specs.declared.ready.Ready.{Ready}
-use Rattle.lr_targets.specs.Target.{Target}
+use Rattle.lr_laws_targets.specs.Target.{Target}
 
 -- ---- paths
 
@@ -141,10 +141,10 @@ abbrev pub b_ready : Ready
 b_ready = record { leftovers = []; dir = None; moves = []; log = b_log; target = b_first; make = No; retire = [] }
 
 abbrev pub a_target : Target
-a_target = record { log = a_log; naming = a_naming; count = a_count; maxage = None; stand = a_stand; from = a_from; ready = a_ready; job = None }
+a_target = record { log = a_log; naming = a_naming; count = a_count; maxage = None; stand = a_stand; ready = a_ready; job = None }
 
 abbrev pub b_target : Target
-b_target = record { log = b_log; naming = b_naming; count = b_count; maxage = None; stand = b_stand; from = []; ready = b_ready; job = None }
+b_target = record { log = b_log; naming = b_naming; count = b_count; maxage = None; stand = b_stand; ready = b_ready; job = None }
 
 -- ---- the looks
 

@@ -3,7 +3,7 @@ ghost use Rattle.std.specs.Prelude.{◌≡◌, List, [], ◌∷◌, ◌++◌};
 ghost use Rattle.lr_rules.specs.declared.clock.Clock.{Clock};
 ghost use Rattle.lr_host.specs.declared.entry.Entry.{Entry};
 ghost use Rattle.lr_host.specs.declared.entry.Entry.TheVariants.{Ends, Renames};
-ghost use Rattle.lr_mixed.specs.AllTurns.{AllTurnedBy, IsWholeRunBy};
+ghost use Rattle.lr_laws_targets.specs.Runs.{AllTurnedBy, IsWholeRunBy};
 ghost use Rattle.lr_examples.specs.Logs.{state, rules, a_second, a_third, a_target, b_target, looks};
 ghost use Rattle.lr_examples.specs.TwoLogs.{a_steps, b_steps, steps, saves, two_logs_run};
 

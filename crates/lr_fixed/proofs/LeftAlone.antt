@@ -26,10 +26,10 @@ use Rattle.lr_laws.proofs.Stated.{quiet_safe}
 use Rattle.lr_plan.specs.Asked.{Asked}
 use Rattle.lr_plan.specs.Planned.{decision}
 use Rattle.lr_reading.proofs.Quiet.{state_quiet}
-use Rattle.lr_targets.specs.Target.{Target}
-use Rattle.lr_rotations.proofs.Still.{quiet_safe_on}
-use Rattle.lr_mixed.specs.AllTurns.{AllTurnsBy}
-use Rattle.lr_mixed.proofs.Safety.{others_are_left}
+use Rattle.lr_laws_targets.specs.Target.{Target}
+use Rattle.lr_laws_rotations.proofs.Still.{quiet_safe_on}
+use Rattle.lr_laws_targets.specs.Runs.{AllTurnsBy}
+use Rattle.lr_laws_targets.proofs.RunSafety.{others_are_left}
 use Rattle.lr_weave.proofs.Parting.{done_turns}
 use Rattle.lr_weave.proofs.Planning.{ready_planned}
 use Rattle.lr_seen.specs.Targets.{groups_of}

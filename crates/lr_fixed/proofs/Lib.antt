@@ -16,7 +16,6 @@ mod StateRead
 mod LookedOne
 mod Writing
 mod Keys
-mod Own
 mod PlanKeys
 mod Ends
 mod CountedListings

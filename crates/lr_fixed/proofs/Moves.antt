@@ -33,8 +33,8 @@ use Rattle.lr_run.proofs.Folded.{Folds, acts_fold}
 use Rattle.lr_run.proofs.Simple.{IsSimple, AreSimple, plan_simple}
 use Rattle.lr_run.proofs.Stating.{none_leaves, one_leaves, maybe_leaves, take_fails}
 use Rattle.lr_fixed.proofs.CountedListings.{IsNoListing, AreNoListings}
-use Rattle.lr_targets.specs.Target.{Target}
-use Rattle.lr_dated_run.specs.Own.{HaveAnyNames}
+use Rattle.lr_laws_targets.specs.Target.{Target}
+use Rattle.lr_laws_targets.specs.Apart.{HaveNames}
 use Rattle.lr_weave.specs.Parts.{MakesOnly, MakesOne}
 use Rattle.lr_weave.proofs.Parting.{sets_parts}
 use Rattle.lr_weave.proofs.Planning.{ready_planned}
@@ -45,7 +45,7 @@ use Rattle.lr_seen.proofs.Apart.{targets_apart}
 use Rattle.lr_seen.proofs.Free.{targets_free}
 use Rattle.lr_seen.proofs.Ready.{plans_have_logs}
 use Rattle.lr_seen.proofs.Seen.{targets_have_names}
-use Rattle.lr_fixed.proofs.Own.{part_own}
+use Rattle.lr_laws_targets.proofs.Own.{part_file_own}
 use Rattle.lr_fixed.proofs.Writing.{is_make, makes_in}
 
 -- an unlink, a rename, the making of a directory, a look, the making, filling or emptying of a file, a read of one, a sync, or a program
@@ -134,13 +134,13 @@ pub moves_list_none : (ts : List Entry) → Each IsMove ts → AreNoListings ts
 moves_list_none ts m = each_as IsMove IsNoListing ts no_listing m
 
 -- what they make is no file that the run reserves for itself
-not_reserved : (reserved : List Path) (ts : List Target) (x part : Path) (mode : Option ℕ) → HaveAnyNames ts → AreFreeOf reserved ts → IsIn part reserved → MakesOne ts (entry.Makes x mode) → x ≡ part → ⊥
+not_reserved : (reserved : List Path) (ts : List Target) (x part : Path) (mode : Option ℕ) → HaveNames ts → AreFreeOf reserved ts → IsIn part reserved → MakesOne ts (entry.Makes x mode) → x ≡ part → ⊥
 not_reserved reserved [] x part mode names free i h e = h
 not_reserved reserved (t ∷ ts) x part mode names free i (inl (inl is)) e = free.0 part i (inl (the_log (sym e ∙ is)))
-not_reserved reserved (t ∷ ts) x part mode names free i (inl (inr p)) e = free.0 part i (inl (subst (IsOwnName t.log t.naming) (sym p.2 ∙ e) (part_own t names.0 p.0 p.1)))
+not_reserved reserved (t ∷ ts) x part mode names free i (inl (inr p)) e = free.0 part i (inl (subst (IsOwnName t.log t.naming) (sym p.2 ∙ e) (part_file_own t names.0 p.0 p.1)))
 not_reserved reserved (t ∷ ts) x part mode names free i (inr h) e = not_reserved reserved ts x part mode names.1 free.1 i h e
 
-no_make : (reserved : List Path) (ts : List Target) (part : Path) (e : Entry) → HaveAnyNames ts → AreFreeOf reserved ts → IsIn part reserved → MakesOnly (MakesOne ts) e → is_make part e ≡ false
+no_make : (reserved : List Path) (ts : List Target) (part : Path) (e : Entry) → HaveNames ts → AreFreeOf reserved ts → IsIn part reserved → MakesOnly (MakesOne ts) e → is_make part e ≡ false
 no_make reserved ts part (entry.Makes x mode) names free i h = go (bytes_eq x part) refl
   where
     go : (b : Bool) → bytes_eq x part ≡ b → b ≡ false

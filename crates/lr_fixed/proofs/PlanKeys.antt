@@ -31,11 +31,10 @@ use Rattle.lr_plan.specs.Planned.{all_plans}
 use Rattle.lr_plan.specs.Steps.{program, removal, removals, directory, move, step_if, transfer, anew, made_anew, rotation, rotation_of, retirement_of, steps_of_log, shared_steps, by_logs, steps_of_set}
 use Rattle.lr_acts.specs.Making.{all_of_each, all_of_set, all_of_sets}
 use Rattle.lr_looks.specs.Shown.{ShowsLooks}
-use Rattle.lr_targets.specs.Target.{Target}
-use Rattle.lr_dated_run.specs.Own.{HasAnyNames, HaveAnyNames}
+use Rattle.lr_laws_targets.specs.Target.{Target}
+use Rattle.lr_laws_targets.specs.Apart.{HasNames, HaveNames}
 use Rattle.lr_weave.specs.Fitting.{NoneMeets, DontMeet}
 use Rattle.lr_weave.specs.Planned.{bare, AreReadyFor, HaveLogs, NoneHas, AreApart}
-use Rattle.lr_weave.proofs.Fits.{job_of}
 use Rattle.lr_seen.specs.Free.{AreFreeOf}
 use Rattle.lr_seen.specs.Targets.{groups_of, all_targets}
 use Rattle.lr_seen.proofs.Apart.{targets_apart, targets_dont_meet}
@@ -43,7 +42,8 @@ use Rattle.lr_seen.proofs.Free.{targets_free}
 use Rattle.lr_seen.proofs.Ready.{plans_have_logs}
 use Rattle.lr_seen.proofs.Seen.{targets_have_names}
 use Rattle.lr_fixed.proofs.Keys.{Key, Made, WasRead, keys, keys_of, HaveNoneOf, once_both}
-use Rattle.lr_fixed.proofs.Own.{log_is, part_own}
+use Rattle.lr_laws_targets.proofs.Own.{part_file_own}
+use Rattle.lr_laws_targets.proofs.Plan.{any_log}
 
 -- ---- what the steps of one log may do
 
@@ -206,13 +206,13 @@ anew_of t make.No log k e i = absurd i
 anew_of t (make.Yes mode) log k e (inl is) = subst (IsKeyOf t) is (the_log e)
 anew_of t (make.Yes mode) log k e (inr none) = absurd none
 
-key_of : (t : Target) (k : Key) → HasAnyNames t → IsIn k (target_keys t) → IsKeyOf t k
+key_of : (t : Target) (k : Key) → HasNames t → IsIn k (target_keys t) → IsKeyOf t k
 key_of t k h i = go t.job refl i
   where
     go : (o : Option Job) → t.job ≡ o → IsIn k (log_keys t.ready o) → IsKeyOf t k
-    go None is x = anew_of t t.ready.make t.ready.log k (log_is t h) x
-    go (Some job) is (inl e) = subst (IsKeyOf t) e (part_own t h job is)
-    go (Some job) is (inr (inl e)) = subst (IsKeyOf t) e (job_of t h job is).from_is
+    go None is x = anew_of t t.ready.make t.ready.log k (any_log t h) x
+    go (Some job) is (inl e) = subst (IsKeyOf t) e (part_file_own t h job is)
+    go (Some job) is (inr (inl e)) = subst (IsKeyOf t) e (h.job job is).from_is
     go (Some job) is (inr (inr none)) = absurd none
 
 -- what the rotation of another log may do is something else
@@ -220,7 +220,7 @@ key_off : (t u : Target) (k : Key) → t.log ≢ u.log → (Meet u.log u.naming 
 key_off t u (Made x) other apart i j = apart (x, inl (j, inl i))
 key_off t u (WasRead x) other apart i j = other (sym i ∙ j)
 
-keys_off : (t : Target) (us : List Target) → HasAnyNames t → NoneHas t.log us → NoneMeets t us → HaveAnyNames us → HaveNoneOf (target_keys t) (flat_map target_keys us)
+keys_off : (t : Target) (us : List Target) → HasNames t → NoneHas t.log us → NoneMeets t us → HaveNames us → HaveNoneOf (target_keys t) (flat_map target_keys us)
 keys_off t [] h n m g k i j = j
 keys_off t (u ∷ us) h n m g k i j = ⊎_elim (λ a. key_off t u k (λ e. n.0 (sym e)) m.0 (key_of t k h i) (key_of u k g.0 a)) (λ b. keys_off t us h n.1 m.1 g.1 k i b) (in_append k (target_keys u) (flat_map target_keys us) j)
 
@@ -233,14 +233,14 @@ own_once : (ready : Ready) (job : Option Job) → AreDistinct (log_keys ready jo
 own_once ready None = anew_once ready.make ready.log
 own_once ready (Some job) = (((λ e. cc), tt), (tt, tt))
 
-targets_once : (ts : List Target) → AreApart ts → DontMeet ts → HaveAnyNames ts → AreDistinct (flat_map target_keys ts)
+targets_once : (ts : List Target) → AreApart ts → DontMeet ts → HaveNames ts → AreDistinct (flat_map target_keys ts)
 targets_once [] a d h = tt
 targets_once (t ∷ ts) a d h = once_both (target_keys t) (flat_map target_keys ts) (own_once t.ready t.job) (targets_once ts a.1 d.1 h.1) (keys_off t ts h.0 a.0 d.0 h.1)
 
 -- ---- the plan
 
 -- what is made isn't reserved, where no name of these logs is
-none_made : (reserved : List Path) (ts : List Target) (x : Path) → HaveAnyNames ts → AreFreeOf reserved ts → IsIn x reserved → IsIn (Made x) (flat_map target_keys ts) → ⊥
+none_made : (reserved : List Path) (ts : List Target) (x : Path) → HaveNames ts → AreFreeOf reserved ts → IsIn x reserved → IsIn (Made x) (flat_map target_keys ts) → ⊥
 none_made reserved [] x h free r i = i
 none_made reserved (t ∷ ts) x h free r i = ⊎_elim (λ a. free.0 x r (inl (key_of t (Made x) h.0 a))) (λ b. none_made reserved ts x h.1 free.1 r b) (in_append (Made x) (target_keys t) (flat_map target_keys ts) i)
 
@@ -248,7 +248,7 @@ module _ {reserved : List Path} (rules : Rules) (sets : List SetLooks) (faults :
   keys_are : keys_of (all_of_sets (map steps_of_set (all_plans clock mailer decide rules.sets sets))) ≡ flat_map target_keys (all_targets clock decide rules.sets sets)
   keys_are = sets_are (all_plans clock mailer decide rules.sets sets) ∙ groups_are (groups_of clock decide rules.sets sets) (all_plans clock mailer decide rules.sets sets) (plans_have_logs rules.sets sets faults ts clock mailer decide shown)
 
-  names : HaveAnyNames (all_targets clock decide rules.sets sets)
+  names : HaveNames (all_targets clock decide rules.sets sets)
   names = targets_have_names rules sets faults ts clock decide shown
 
   pub plan_once : AreDistinct (keys_of (all_of_sets (map steps_of_set (all_plans clock mailer decide rules.sets sets))))

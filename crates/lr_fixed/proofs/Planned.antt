@@ -1,24 +1,26 @@
 -- The faults of a plan and what is done by it are those of looks that are alike.
-use Rattle.std.proofs.Common.{◌≡◌, ◌+◌, ℕ, Bool, List, [], ◌∷◌, ◌++◌, map, Option, None, Some, refl, ap, ◌∙◌}
+use Rattle.std.proofs.Common.{◌≡◌, ◌+◌, ℕ, Bool, List, [], ◌∷◌, ◌++◌, map, Option, refl, ap, ◌∙◌}
 use Rattle.std.specs.List.{flat_map}
 use Rattle.lr_rules.specs.declared.civil.Moment.{Moment}
 use Rattle.lr_rules.specs.declared.clock.Clock.{Clock}
 use Rattle.lr_rules.specs.declared.path.Path.{Path}
-use Rattle.lr_rules.specs.declared.rule.Format.{Format}
 use Rattle.lr_rules.specs.declared.rule.Naming.{Naming}
 use Rattle.lr_rules.specs.declared.rule.Rule.{Rule}
 use Rattle.lr_rules.specs.declared.rule.Way.{Way}
 use Rattle.lr_rules.specs.declared.rule.Way.TheVariants as way
 use Rattle.lr_due.specs.declared.answer.Due.{Due}
+use Rattle.lr_host.specs.declared.thing.Seen.{Seen}
 use Rattle.lr_state.specs.Table.{Entry as Row}
 use Rattle.lr_family.specs.declared.stand.Stand.{Stand}
 use Rattle.lr_chain.specs.declared.ready.Ready.{Ready}
+use Rattle.lr_chain.specs.Hindrances.{what_hinders}
+use Rattle.lr_chain.specs.Prepared.{ready_of}
 use Rattle.lr_chain.specs.Ready.{with_dir}
 use Rattle.lr_plan.specs.Asked.{Asked}
 use Rattle.lr_plan.specs.declared.looks.LogLook.{LogLook}
 use Rattle.lr_plan.specs.declared.looks.SetLooks.{SetLooks}
 use Rattle.lr_plan.specs.declared.plan.LogPlan.{LogPlan}
-use Rattle.lr_plan.specs.Planned.{decision, dir_of, stand_for, standing, hindrances_by, hindrances, ready_by, ready_for, job_by, plan_with, log_plan, none_hinders, plans_of, where_due, log_plans, log_faults, set_plan, all_plans, all_faults}
+use Rattle.lr_plan.specs.Planned.{decision, dir_of, stand_for, standing, hindrances, make_of, ready_for, job_by, plan_with, log_plan, none_hinders, plans_of, where_due, log_plans, log_faults, set_plan, all_plans, all_faults}
 use Rattle.lr_looks.specs.Families.{LookedLog}
 use Rattle.lr_looks.specs.Sets.{looked_in}
 use Rattle.lr_fixed.specs.Alike.{AreAlikeFrom, AreAlike}
@@ -28,6 +30,10 @@ use Rattle.lr_fixed.specs.Alike.{AreAlikeFrom, AreAlike}
 -- the log, as if this had been seen of its family
 abbrev looked_with : Stand → LookedLog → LookedLog
 looked_with stand l = record { set = l.set; path = l.path; naming = l.naming; seen = l.seen; stand = stand }
+
+-- the rotation of a log by its parts, and by this of its rule
+abbrev rotation_with : Clock → Rule → Option (Path × Option ℕ) → Path → Naming → Seen → Stand → Ready
+rotation_with clock rule dir log n seen stand = with_dir dir (ready_of log n rule.count rule.maxage clock (make_of rule.create seen) stand.members)
 
 -- two looks that saw the same of a log
 module _ (set : ℕ) (x y : LogLook) (e : looked_in set x ≡ looked_in set y) where
@@ -47,17 +53,7 @@ module _ (set : ℕ) (x y : LogLook) (e : looked_in set x ≡ looked_in set y) w
   due_same : (table : List Row) (now : Moment) (force : Bool) (rule : Rule) → decision table now force rule x ≡ decision table now force rule y
   due_same table now force rule = rw (path_is, seen_is) refl
 
-  -- the same hinders it, as it stands
-  hindered_by : (o : Option Format) (clock : Clock) (rule : Rule) → hindrances_by o clock rule x ≡ hindrances_by o clock rule y
-  hindered_by None clock rule = rw (naming_is, stand_is) refl
-  hindered_by (Some format) clock rule = rw (naming_is, stand_is) refl
-
-  -- its rotation is the same, without a directory that it makes
-  rotated_by : (o : Option Format) (clock : Clock) (rule : Rule) → ready_by o clock rule x ≡ ready_by o clock rule y
-  rotated_by None clock rule = rw (path_is, naming_is, seen_is, stand_is) refl
-  rotated_by (Some format) clock rule = rw (path_is, naming_is, seen_is, stand_is) refl
-
-  -- and its copy
+  -- its copy is the same
   job_same : (w : Way) (target : Path) → job_by w x target ≡ job_by w y target
   job_same way.Rename target = refl
   job_same way.Copy target = rw (path_is, naming_is, seen_is, stand_is) refl
@@ -81,13 +77,17 @@ module _ (set : ℕ) (x y : LogLook) (e : looked_in set x ≡ looked_in set y) w
   looks_same rule = ap (looked_with (stand_for rule x)) e ∙ ap (λ (s : Stand). looked_with s (looked_in set y)) (standing_same set x y e rule)
 
   hindered_same : (clock : Clock) (rule : Rule) → hindrances clock rule x ≡ hindrances clock rule y
-  hindered_same clock rule = ap (λ (n : Naming). hindrances_by n.dated clock rule (standing rule x)) (naming_is set x y e) ∙ hindered_by set (standing rule x) (standing rule y) (looks_same rule) y.family.naming.dated clock rule
+  hindered_same clock rule =
+      ap (λ (n : Naming). what_hinders n rule.count clock (stand_for rule x)) (naming_is set x y e)
+      ∙ ap (what_hinders y.family.naming rule.count clock) (standing_same set x y e rule)
 
   rotated_same : (clock : Clock) (rule : Rule) → ready_for clock rule x ≡ ready_for clock rule y
   rotated_same clock rule =
-      ap (λ (n : Naming). with_dir (dir_of rule x) (ready_by n.dated clock rule (standing rule x))) (naming_is set x y e)
-      ∙ (ap (with_dir (dir_of rule x)) (rotated_by set (standing rule x) (standing rule y) (looks_same rule) y.family.naming.dated clock rule)
-      ∙ ap (λ (d : Option (Path × Option ℕ)). with_dir d (ready_by y.family.naming.dated clock rule (standing rule y))) (dir_same set x y e rule))
+      ap (λ d. rotation_with clock rule d x.path x.family.naming x.seen (stand_for rule x)) (dir_same set x y e rule)
+      ∙ (ap (λ p. rotation_with clock rule (dir_of rule y) p x.family.naming x.seen (stand_for rule x)) (path_is set x y e)
+      ∙ (ap (λ n. rotation_with clock rule (dir_of rule y) y.path n x.seen (stand_for rule x)) (naming_is set x y e)
+      ∙ (ap (λ s. rotation_with clock rule (dir_of rule y) y.path y.family.naming s (stand_for rule x)) (seen_is set x y e)
+      ∙ ap (rotation_with clock rule (dir_of rule y) y.path y.family.naming y.seen) (standing_same set x y e rule))))
 
   planned_same : (clock : Clock) (mailer : Path) (rule : Rule) → log_plan clock mailer rule x ≡ log_plan clock mailer rule y
   planned_same clock mailer rule = ap (plan_with mailer rule (standing rule x)) (rotated_same clock rule) ∙ done_same set (standing rule x) (standing rule y) (looks_same rule) mailer rule (ready_for clock rule y)

@@ -20,7 +20,7 @@ ghost use Rattle.lr_plan.specs.declared.looks.SetLooks.{SetLooks};
 ghost use Rattle.lr_plan.specs.declared.plan.Plan.{Plan};
 ghost use Rattle.lr_host.specs.Counted.{calls_in};
 ghost use Rattle.lr_looks.specs.Shown.{ShowsLooks};
-ghost use Rattle.lr_targets.specs.Target.{Target};
+ghost use Rattle.lr_laws_targets.specs.Target.{Target};
 ghost use Rattle.lr_run.specs.Rotated.{rotated_in};
 ghost use Rattle.lr_run.specs.Runs.{Inside, Worked, Runs};
 ghost use Rattle.lr_cli.specs.declared.outcome.Outcome.TheVariants.{Done};

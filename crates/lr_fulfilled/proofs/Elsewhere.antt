@@ -27,11 +27,11 @@ use Rattle.lr_looks.specs.Shown.{ShowsLooks}
 use Rattle.lr_plan.specs.declared.looks.LogLook.{LogLook}
 use Rattle.lr_plan.specs.declared.looks.SetLooks.{SetLooks}
 use Rattle.lr_plan.specs.Planned.{makes_dir, mode_of}
-use Rattle.lr_targets.specs.AllTurns.{IsStatePath, IsItsDir, IsOfState, IsOfSome}
-use Rattle.lr_targets.specs.Target.{Target}
-use Rattle.lr_dated_run.specs.Own.{HaveAnyNames}
-use Rattle.lr_mixed.specs.AllTurns.{AllTurnsBy}
-use Rattle.lr_mixed.proofs.Seen.{have_names}
+use Rattle.lr_laws_targets.specs.AllTurns.{IsStatePath, IsItsDir, IsOfState, IsOfSome}
+use Rattle.lr_laws_targets.specs.Target.{Target}
+use Rattle.lr_laws_targets.specs.Apart.{HaveNames}
+use Rattle.lr_laws_targets.specs.Runs.{AllTurnsBy}
+use Rattle.lr_laws_targets.proofs.LogSeen.{have_names}
 use Rattle.lr_seen.specs.Free.{reserved_by}
 use Rattle.lr_seen.specs.Targets.{all_targets}
 use Rattle.lr_seen.proofs.Kept.{kept_has_none, kept_meets_none}
@@ -43,7 +43,7 @@ use Rattle.lr_fulfilled.proofs.Left.{left_alone}
 
 -- ---- one change
 
-some_aside : (x : Path) (ts : List Target) (e : Entry) → HaveAnyNames ts → ((t : Target) → IsIn t ts → IsOwnName t.log t.naming x → ⊥) → ((t : Target) → IsIn t ts → IsItsDir t x → ⊥) → IsOfSome ts e → IsAsideOf x e
+some_aside : (x : Path) (ts : List Target) (e : Entry) → HaveNames ts → ((t : Target) → IsIn t ts → IsOwnName t.log t.naming x → ⊥) → ((t : Target) → IsIn t ts → IsItsDir t x → ⊥) → IsOfSome ts e → IsAsideOf x e
 some_aside x [] e h none no_dir i = absurd i
 some_aside x (t ∷ ts) e h none no_dir (inl i) = λ at. ⊎_elim (none t (inl refl)) (no_dir t (inl refl)) (own_or_dir t h.0 e i x at)
 some_aside x (t ∷ ts) e h none no_dir (inr i) = some_aside x ts e h.1 (λ u j. none u (inr j)) (λ u j. no_dir u (inr j)) i
@@ -63,7 +63,7 @@ state_aside state x _ a b h = absurd h
 abbrev pub IsOfRun : Path → List Target → Entry → Type 0
 IsOfRun state targets e = IsOfSome targets e ⊎ IsOfState state e
 
-one_aside : (state x : Path) (targets : List Target) (e : Entry) → HaveAnyNames targets → IsElsewhere state targets x → IsOfRun state targets e → IsAsideOf x e
+one_aside : (state x : Path) (targets : List Target) (e : Entry) → HaveNames targets → IsElsewhere state targets x → IsOfRun state targets e → IsAsideOf x e
 one_aside state x targets e h away (inl i) = some_aside x targets e h away.no_name away.no_dir i
 one_aside state x targets e h away (inr i) = state_aside state x e away.no_state away.no_part i
 
@@ -78,7 +78,7 @@ each_passed P f (e ∷ es) a = go (f e) (each_passed P f es a.1)
     go false rest = rest
 
 -- entries whose changes are of the state and of these logs leave all else alone
-pub elsewhere_left : (state : Path) (targets : List Target) (p q : Past) (es ts : List Entry) (x : Path) → Made p es q → IsJournal p → HaveAnyNames targets → IsElsewhere state targets x → filter is_disk_change (reverse es) ≡ filter is_disk_change ts → Each (IsOfRun state targets) (filter is_change ts) → IsLeftAlone p q x
+pub elsewhere_left : (state : Path) (targets : List Target) (p q : Past) (es ts : List Entry) (x : Path) → Made p es q → IsJournal p → HaveNames targets → IsElsewhere state targets x → filter is_disk_change (reverse es) ≡ filter is_disk_change ts → Each (IsOfRun state targets) (filter is_change ts) → IsLeftAlone p q x
 elsewhere_left state targets p q es ts x m j h away same a = left_alone p q es x m j
     (subst (Each (IsAsideOf x)) (sym (filter_reverse is_disk_change (reverse es)) ∙ ap (filter is_disk_change) (reverse-reverse es)) (each_reverse (IsAsideOf x) (filter is_disk_change (reverse es)) in_order))
   where

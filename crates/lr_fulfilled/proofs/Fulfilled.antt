@@ -30,9 +30,9 @@ use Rattle.lr_plan.specs.Course.{Course}
 use Rattle.lr_plan.specs.Done.{ActsDone, rotated_logs}
 use Rattle.lr_plan.specs.Planned.{decision}
 use Rattle.lr_plan.specs.Steps.{state_steps, steps_of_set}
-use Rattle.lr_targets.specs.AllTurns.{IsOfSome, IsOfState}
-use Rattle.lr_targets.specs.Target.{Target}
-use Rattle.lr_dated_run.specs.Own.{HaveAnyNames}
+use Rattle.lr_laws_targets.specs.AllTurns.{IsOfSome, IsOfState}
+use Rattle.lr_laws_targets.specs.Target.{Target}
+use Rattle.lr_laws_targets.specs.Apart.{HaveNames}
 use Rattle.lr_laws_family.proofs.Weaving.{each_in}
 use Rattle.lr_weave.specs.Parts.{ArePlanned}
 use Rattle.lr_weave.proofs.Parting.{done_some}
@@ -136,7 +136,7 @@ module _ (state : Path) (asked : Asked) (clock : Clock) (rules : Rules) (own : L
   abbrev work : List Entry
   work = ((l.reads ++ l.looks) ++ w.acted.entries.entries.front) ++ w.acted.entries.entries.back
 
-  named : HaveAnyNames targets
+  named : HaveNames targets
   named = targets_have_names rules l.sets l.of_looks l.looks clock decide l.shown
 
   planned : ArePlanned targets (map steps_of_set (plan_in state rules.sets i.between l clock asked).sets)

@@ -19,8 +19,8 @@ use Rattle.lr_looks.specs.Found.{FoundLog}
 use Rattle.lr_plan.specs.Asked.{Asked}
 use Rattle.lr_plan.specs.declared.step.Step.{Step}
 use Rattle.lr_plan.specs.Steps.{steps_of_plan, state_steps}
-use Rattle.lr_targets.specs.AllTurns.{IsItsDir}
-use Rattle.lr_targets.specs.Target.{Target}
+use Rattle.lr_laws_targets.specs.AllTurns.{IsItsDir}
+use Rattle.lr_laws_targets.specs.Target.{Target}
 use Rattle.lr_run.specs.Met.{MetNothing}
 use Rattle.lr_run.specs.Rotated.{rotated_in, IsTurnedAmong}
 use Rattle.lr_run.specs.Runs.{Looked, logs_in, dirs_in, plan_in, state_text}

@@ -24,7 +24,7 @@ ghost use Rattle.lr_plan.specs.declared.mark.Mark.{Mark};
 ghost use Rattle.lr_plan.specs.declared.plan.Plan.{Plan};
 ghost use Rattle.lr_plan.specs.Done.{ActsDone, rotated_logs};
 ghost use Rattle.lr_plan.specs.Steps.{steps_of_plan, state_steps};
-ghost use Rattle.lr_mixed.specs.AllTurns.{AllTurnsBy};
+ghost use Rattle.lr_laws_targets.specs.Runs.{AllTurnsBy};
 ghost use Rattle.lr_run.specs.Anew.{AnewAt};
 ghost use Rattle.lr_run.specs.Dry.{AreSights};
 ghost use Rattle.lr_run.specs.Met.{MetNothing};

@@ -1,6 +1,5 @@
 -- What the visits of a round leave, one after another.
-use Rattle.std.proofs.Common.{◌≡◌, inl, inr, ℕ, List, [], ◌∷◌, ◌++◌, map, refl, sym, ap, ◌∙◌, subst, append_assoc, Option}
-use Rattle.std.proofs.Common.{Bool, true, false, Result, Ok, Err}
+use Rattle.std.proofs.Common.{◌≡◌, inl, inr, ℕ, List, [], ◌∷◌, ◌++◌, map, refl, sym, ap, ◌∙◌, subst, append_assoc, Option, Bool, true, false, Result, Ok, Err}
 use Rattle.std.specs.Prelude.{flat_map, IfOk, IfErr}
 use Rattle.lr_rules.specs.Match.{is_wildcard, literal_path}
 use Rattle.std.proofs.lemmas.List.{append-nil, map-append}

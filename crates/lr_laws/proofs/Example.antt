@@ -1,6 +1,6 @@
 -- The log with two members.
 use Rattle.std.proofs.Common.{◌≡◌, ◌⊎◌, inl, inr, ℕ, zero, suc, ◌+◌, ◌≤◌, ◌<◌, Bool, true, false, not, ◌&&◌, ◌++◌, bytes_eq, refl, sym, ◌∙◌, ap, subst, arith, Some, List, [], ◌∷◌, length, pos}
-use Rattle.std.specs.Prelude.{slice_index_or, All, Contains, count_by, ◌==◌, codes}
+use Rattle.std.specs.Prelude.{slice_index_or, All, Contains, count_by, ◌==◌, codes, get_or}
 use Rattle.std.proofs.lemmas.List.Elements.{All-cons}
 use Rattle.std.proofs.lemmas.Slice.Eq.{bytes_eq-Decides}
 use Rattle.std.proofs.lemmas.Fmt.{decimal_digit}
@@ -12,7 +12,6 @@ use Rattle.lr_rules.specs.Path.{parent_of, joined}
 use Rattle.lr_rules.specs.Match.{WordGives, literal, wildcard, literal_path, is_wildcard, RuleGives}
 use Rattle.lr_rules.specs.declared.rule.Rule.{Rule}
 use Rattle.lr_rules.specs.declared.rule.Way.TheVariants.{Rename}
-use Rattle.std.specs.Prelude.{get_or}
 use Rattle.lr_rules.specs.Names.{naming_of, IsMemberAt, the_log, set_aside, a_member, a_part, IsName, Meet}
 use Rattle.lr_host.specs.Steady.{IsSteady, IsSteadyAt, IsPassedOver, AttachesNoMember}
 use Rattle.lr_host.specs.declared.thing.Thing.{Thing}

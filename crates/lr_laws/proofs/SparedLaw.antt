@@ -2,9 +2,8 @@
 use Rattle.std.proofs.Common.{◌≡◌, ◌⊎◌, inl, inr, ℕ, Bool, true, false, cond, refl, sym, ◌∙◌, ap, subst, List, [], ◌∷◌, length}
 use Rattle.lr_rules.specs.declared.path.Path.{Path}
 use Rattle.lr_host.specs.declared.thing.Thing.TheVariants as thing
-use Rattle.lr_host.specs.World.{Names, put, names_after, Change, Puts, Moves, Drops, changed, IsClosed, is_listed, kept_at, undone_at, names_kept, Past, world}
+use Rattle.lr_host.specs.World.{Names, put, names_after, Change, Puts, Moves, Drops, changed, IsClosed, is_listed, kept_at, undone_at, names_kept, Past, world, but}
 use Rattle.lr_host.specs.Opening.{IsJournal}
-use Rattle.lr_host.specs.World.{but}
 use Rattle.lr_host.proofs.Names.{put_here}
 use Rattle.lr_host.proofs.Closed.{Touches, touches_or_not, untouched, kept_names, apart_none, IsApart}
 use Rattle.lr_host.proofs.Places.{splits}

@@ -50,25 +50,31 @@ use Rattle.lr_laws_family.proofs.Picking.{named_all}
 
 -- ---- places with names
 
-first_named : (n : Naming) (c : Count) (places : List ℕ) → HaveNext n c places → HasName n 0
+pub first_named : (n : Naming) (c : Count) (places : List ℕ) → HaveNext n c places → HasName n 0
 first_named n (count.Keep c) places h = omega arith
 first_named n count.Always places h = h.0
 
-top_named : (n : Naming) (c : Count) (places : List ℕ) → HaveNext n c places → HasName n (top_of n c)
+-- the place up to which members may come has a name
+pub top_named : (n : Naming) (c : Count) (places : List ℕ) → HaveNext n c places → HasName n (top_of n c)
 top_named n (count.Keep k) places h = h
 top_named n count.Always places h = let first : HasName n 0 = h.0 in omega (arith, first)
 
 kept_below : (c k : ℕ) → is_left (count.Keep c) k ≡ false → k < c
 kept_below c k h = grind (arith, nat_tests)
 
-next_at : (n : Naming) (c : Count) (places : List ℕ) → HaveNext n c places → (k : ℕ) → Contains places k → is_left c k ≡ false → HasName n (k + 1)
+-- so has the next place of each member that is moved
+pub next_at : (n : Naming) (c : Count) (places : List ℕ) → HaveNext n c places → (k : ℕ) → Contains places k → is_left c k ≡ false → HasName n (k + 1)
 next_at n (count.Keep m) places h k i stays = let lt : k < m = kept_below m k stays in omega (arith, lt, h)
 next_at n count.Always places h k i stays = subst (λ (j : ℕ). HasName n (j + 1)) i.2 (h.1 i.0 k i.1)
 
-next_named : (n : Naming) (c : Count) (places : List ℕ) → HaveNext n c places → Every (λ k. is_left c k ≡ false → HasName n (k + 1)) places
+pub next_named : (n : Naming) (c : Count) (places : List ℕ) → HaveNext n c places → Every (λ k. is_left c k ≡ false → HasName n (k + 1)) places
 next_named n c places h = every_from (λ k. is_left c k ≡ false → HasName n (k + 1)) places (next_at n c places h)
 
-retire_named : (n : Naming) (c : Count) (places from : List ℕ) → HaveNext n c places → AreGoing c places from → Every (HasName n) (retired c from)
+pub kept_next : (n : Naming) (c : Count) (places : List ℕ) → HaveNext n c places → Every (λ k. HasName n (k + 1)) (kept c places)
+kept_next n c places h = kept_as (λ k. HasName n (k + 1)) c places (next_named n c places h)
+
+-- so has each place at which something goes behind the moves
+pub retire_named : (n : Naming) (c : Count) (places from : List ℕ) → HaveNext n c places → AreGoing c places from → Every (HasName n) (retired c from)
 retire_named n c places from h going = every_retired (HasName n) c from (every_from (λ k. HasName n (suc k)) from (λ k i. let next = next_at n c places h k (going.there k i) (going.moved k i) in omega (arith, next))) (λ e. first_named n c places h)
 
 -- ---- steps
@@ -123,7 +129,7 @@ module _ (n : Naming) (none : n.dated ≡ None) where
   file_of m (z ∷ zs) y h (inl same) = subst (λ (v : Member). IsFileAt m v.path) same (All-head (λ (member : Member). IsFileAt m member.path) z zs h)
   file_of m (z ∷ zs) y h (inr i) = file_of m zs y (All-tail (λ (member : Member). IsFileAt m member.path) z zs h) i
 
-  stand_so : (source : Path) (m : Names) (ms : List Member) → IsFileAt m source → AreThere n m ms → StandSo source n (places_of ms) m
+  pub stand_so : (source : Path) (m : Names) (ms : List Member) → IsFileAt m source → AreThere n m ms → StandSo source n (places_of ms) m
   stand_so source m ms file there = record {
     falling = rising ms there.named there.newest_first;
     log_file = file;
@@ -187,7 +193,7 @@ module _ (n : Naming) (c : Count) (from : List ℕ) (members : List Member) (log
   of_members : IsOfMembers n (numbered n c from members log source by)
   of_members = record {
     early = paths_own n none (leftovers c places) (every_filter (HasName n) (is_left c) places places_named);
-    moves = moves_own n none (kept c places) (every_filter (HasName n) (λ k. not (is_left c k)) places places_named) (kept_as (λ k. HasName n (k + 1)) c places (next_named n c places next));
+    moves = moves_own n none (kept c places) (every_filter (HasName n) (λ k. not (is_left c k)) places places_named) (kept_next n c places next);
     target = own_at n none 0 first;
     gone = paths_own n none (retired c from) gone_named;
   }

@@ -18,6 +18,10 @@ use Rattle.lr_laws_family.specs.Members.{HasNone}
 abbrev pub SawFile : Path → List Entry → Type 0
 SawFile x ts = (seen : Seen) × (seen.kind ≡ kind.File) × IsIn (entry.Look x (Some seen)) ts
 
+-- a look at the path saw a directory
+abbrev pub SawDir : Path → List Entry → Type 0
+SawDir x ts = (seen : Seen) × (seen.kind ≡ kind.Dir) × IsIn (entry.Look x (Some seen)) ts
+
 -- a look saw the member as it says, a regular file
 abbrev pub WasSeen : List Entry → Member → Type 0
 WasSeen ts m = (m.seen.kind ≡ kind.File) × IsIn (entry.Look m.path (Some m.seen)) ts

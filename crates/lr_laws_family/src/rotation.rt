@@ -10,7 +10,7 @@ ghost use Rattle.lr_family.specs.declared.stand.Member.{Member};
 ghost use Rattle.lr_family.specs.Places.{AreNamed};
 ghost use Rattle.lr_chain.specs.Rotation.{places_of};
 ghost use Rattle.lr_chain.specs.Standing.{AreGoing};
-ghost use Rattle.lr_dated.specs.Steps.{Ranked, AreDatedAt};
+ghost use Rattle.lr_chain.specs.DatedRotation.{Ranked, AreDatedAt};
 ghost use Rattle.lr_laws_family.specs.Dated.{dated};
 ghost use Rattle.lr_laws_family.specs.Made.{IsBetween, RotatesAmong};
 ghost use Rattle.lr_laws_family.specs.Members.{IsNoMember, IsFamily};

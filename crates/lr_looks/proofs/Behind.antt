@@ -7,7 +7,7 @@ use Rattle.lr_rules.specs.declared.path.Path.{Path}
 use Rattle.lr_rules.specs.declared.rule.Naming.{Naming}
 use Rattle.lr_host.specs.declared.entry.Entry.{Entry}
 use Rattle.lr_host.specs.declared.journal.Journal.{Journal}
-use Rattle.lr_host.specs.Told.{Left}
+use Rattle.lr_host.specs.Told.{Left, Counts, NoneFell, Rose}
 use Rattle.lr_host.proofs.Left.{left_as, left_first, left_then}
 use Rattle.lr_family.specs.declared.listing.Listing.{Listing}
 use Rattle.lr_family.specs.declared.stand.Stand.{Stand}
@@ -20,7 +20,6 @@ use Rattle.lr_kept.proofs.Elements.{same_read}
 use Rattle.lr_looks.proofs.Known.{read_last}
 use Rattle.lr_rules.specs.declared.fault.Fault.{Fault}
 use Rattle.lr_rules.specs.Limits.{is_format, or_none}
-use Rattle.lr_host.specs.Told.{Counts, NoneFell, Rose}
 use Rattle.lr_looks.specs.declared.found.Found.{Found}
 use Rattle.lr_host.specs.Counted.{AddsFaults}
 use Rattle.lr_host.proofs.Counts.{free_none, adds_free, adds_call}

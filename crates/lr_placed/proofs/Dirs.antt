@@ -14,8 +14,8 @@ use Rattle.lr_plan.specs.declared.plan.SetPlan.{SetPlan}
 use Rattle.lr_synced.specs.Synced.{AreSynced, changed_of, all_changed_of, made_of, to_make_of, all_to_make_of, made_in}
 use Rattle.lr_synced.proofs.Kept.{among_from, among_to}
 use Rattle.lr_synced.proofs.Laws.{IsTouched, made_mark, unmade_is, of_touched, none_unmade}
-use Rattle.lr_targets.specs.AllTurns.{IsItsDir}
-use Rattle.lr_targets.specs.Target.{Target}
+use Rattle.lr_laws_targets.specs.AllTurns.{IsItsDir}
+use Rattle.lr_laws_targets.specs.Target.{Target}
 use Rattle.lr_weave.specs.Planned.{IsReadyFor, AreReadyFor, HaveLogs}
 
 -- The directory of the log; that of the path that it gets, of whose making a mark tells where the rotation makes it; or that in which the rotation makes one.

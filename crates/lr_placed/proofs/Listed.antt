@@ -1,8 +1,7 @@
 -- The directories of a log that was seen stand, or are to be made.
-use Rattle.std.proofs.Common.{◌≡◌, ◌⊎◌, inl, inr, sym, ap, ◌∙◌, refl, subst, ℕ, List, Option, Some, None}
+use Rattle.std.proofs.Common.{◌≡◌, ◌⊎◌, inl, inr, sym, ◌∙◌, refl, subst, ℕ, List, Option, Some, None}
 use Rattle.lr_rules.specs.declared.clock.Clock.{Clock}
 use Rattle.lr_rules.specs.declared.path.Path.{Path}
-use Rattle.lr_rules.specs.declared.rule.Format.{Format}
 use Rattle.lr_rules.specs.declared.rules.Rules.{Rules}
 use Rattle.lr_rules.specs.Path.{path_fault, parent_of}
 use Rattle.lr_host.specs.declared.entry.Entry.{Entry}
@@ -14,19 +13,14 @@ use Rattle.lr_host.proofs.Looked.{seen_file, seen_dir}
 use Rattle.lr_plan.specs.declared.mark.Mark.{Mark}
 use Rattle.lr_plan.specs.declared.mark.Mark.TheVariants as mark
 use Rattle.lr_weave.proofs.Seen.{log_dir}
-use Rattle.lr_targets.specs.AllTurns.{IsItsDir}
-use Rattle.lr_targets.specs.Apart.{HasNames}
-use Rattle.lr_rotations.specs.Shown.{SawDir}
-use Rattle.lr_targets.specs.Target.{Target, IsMissingDir, IsDirSeenBy, IsSeen}
-use Rattle.lr_rotations.proofs.Fitting.{first_named}
-use Rattle.lr_rotations.proofs.Moments.{saw_one}
-use Rattle.lr_laws_family.specs.Shown.{SawFile}
-use Rattle.lr_rotations.proofs.Paths.{path_parent}
-use Rattle.lr_targets.proofs.SeenFits.{seen_names}
-use Rattle.lr_laws_family.proofs.DatedNames.{stands_in}
-use Rattle.lr_chain.specs.Rotation.{places_of}
-use Rattle.lr_mixed.specs.Seen.{IsLogSeen}
-use Rattle.lr_mixed.proofs.Seen.{numbered_seen, ready_of}
+use Rattle.lr_laws_targets.specs.AllTurns.{IsItsDir}
+use Rattle.lr_laws_targets.specs.Target.{Target, IsMissingDir, IsDirSeenBy}
+use Rattle.lr_laws_rotations.proofs.Moments.{saw_one}
+use Rattle.lr_laws_family.specs.Shown.{SawDir, SawFile}
+use Rattle.lr_laws_targets.proofs.Own.{target_member}
+use Rattle.lr_laws_targets.proofs.PartFile.{member_parent}
+use Rattle.lr_laws_targets.specs.Seen.{IsLogSeen}
+use Rattle.lr_laws_targets.proofs.LogSeen.{any_names}
 use Rattle.lr_placed.proofs.Dirs.{IsDirOfLog}
 use Rattle.lr_placed.proofs.Lasting.{Says}
 
@@ -36,23 +30,9 @@ says_seen dir looks saw = record { entry = entry.Look dir (Some saw.0); among = 
 
 -- ---- the directory of the members
 
--- in it stands the path that the log gets
-numbers_dir : (rules : Rules) (clock : Clock) (looks : List Entry) (t : Target) → IsSeen rules clock.now.seconds looks t → parent_of t.ready.target ≡ t.naming.dir
-numbers_dir rules clock looks t seen =
-    let h : HasNames t = seen_names rules clock.now.seconds looks t seen in
-    ap parent_of seen.ready.target_is ∙ path_parent t.log t.naming 0 h.family (first_named t.naming t.count (places_of t.stand.members) h.next)
-
-days_dir : (rules : Rules) (clock : Clock) (looks : List Entry) (t : Target) (format : Format) → IsLogSeen rules clock looks t → t.naming.dated ≡ Some format → parent_of t.ready.target ≡ t.naming.dir
-days_dir rules clock looks t format l dated =
-    let r = ready_of rules clock looks t format l dated in
-    stands_in t.log t.naming _ r.serial t.ready.target l.family.kin l.family.format r.target_is l.family.dir
-
+-- in it stands the path that the log gets, which is a member's
 target_dir : (rules : Rules) (clock : Clock) (looks : List Entry) (t : Target) → IsLogSeen rules clock looks t → parent_of t.ready.target ≡ t.naming.dir
-target_dir rules clock looks t l = go t.naming.dated refl
-  where
-    go : (d : Option Format) → t.naming.dated ≡ d → parent_of t.ready.target ≡ t.naming.dir
-    go None is = numbers_dir rules clock looks t (numbered_seen rules clock looks t l is)
-    go (Some format) is = days_dir rules clock looks t format l is
+target_dir rules clock looks t l = member_parent t.log t.naming l.family t.ready.target (target_member t (any_names rules clock looks t l))
 
 -- where the rotation doesn't make it, it was seen
 says_listed : (rules : Rules) (clock : Clock) (looks : List Entry) (t : Target) → t.ready.dir ≡ None → IsLogSeen rules clock looks t → Says (λ n. IsDirectoryAt n (parent_of t.ready.target)) looks

@@ -27,9 +27,9 @@ use Rattle.lr_looks.specs.Shown.{ShowsLooks}
 use Rattle.lr_reading.specs.declared.remembered.Remembered.{Remembered}
 use Rattle.lr_reading.specs.Answers.{ReadsState}
 use Rattle.lr_reading.proofs.Quiet.{state_quiet}
-use Rattle.lr_targets.specs.Target.{Target}
-use Rattle.lr_mixed.specs.Seen.{IsLogSeen}
-use Rattle.lr_mixed.proofs.Seen.{log_among}
+use Rattle.lr_laws_targets.specs.Target.{Target}
+use Rattle.lr_laws_targets.specs.Seen.{IsLogSeen}
+use Rattle.lr_laws_targets.proofs.LogSeen.{log_among}
 use Rattle.lr_weave.specs.Parts.{ArePlanned}
 use Rattle.lr_weave.specs.Planned.{HaveLogs}
 use Rattle.lr_weave.proofs.Marked.{marked_stands}

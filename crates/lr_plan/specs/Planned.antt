@@ -7,10 +7,7 @@ use Rattle.lr_rules.specs.declared.path.Path.{Path}
 use Rattle.lr_rules.specs.declared.civil.Moment.{Moment}
 use Rattle.lr_rules.specs.declared.clock.Clock.{Clock}
 use Rattle.lr_rules.specs.declared.fault.Fault.{Fault}
-use Rattle.lr_rules.specs.declared.fault.Fault.TheVariants as fault
-use Rattle.lr_rules.specs.declared.rule.Count.{Count}
 use Rattle.lr_rules.specs.declared.rule.Count.TheVariants as count
-use Rattle.lr_rules.specs.declared.rule.Format.{Format}
 use Rattle.lr_rules.specs.declared.rule.Make.{Make}
 use Rattle.lr_rules.specs.declared.rule.Make.TheVariants as make
 use Rattle.lr_rules.specs.declared.rule.Naming.{Naming}
@@ -19,7 +16,6 @@ use Rattle.lr_rules.specs.declared.rule.Way.{Way}
 use Rattle.lr_rules.specs.declared.rule.Way.TheVariants as way
 use Rattle.lr_rules.specs.Limits.{is_format, or_none}
 use Rattle.lr_rules.specs.Names.{aside_path}
-use Rattle.lr_stamps.specs.Dated.{clock_seconds}
 use Rattle.lr_host.specs.declared.thing.Seen.{Seen}
 use Rattle.lr_scripts.specs.declared.removal.Removal.{Removal}
 use Rattle.lr_due.specs.declared.answer.Due.{Due}
@@ -33,11 +29,10 @@ use Rattle.lr_family.specs.Places.{AreNamed}
 use Rattle.lr_family.specs.Stands.{AreNewestFirst}
 use Rattle.lr_commands.specs.Commands.{spaced, script, where_so, mail, with_programs}
 use Rattle.lr_chain.specs.declared.ready.Ready.{Ready}
-use Rattle.lr_chain.specs.Ready.{IsCount, at_rest, with_dir, with_members, is_highest, highest_path}
-use Rattle.lr_chain.specs.Rotation.{places_of, going}
+use Rattle.lr_chain.specs.Hindrances.{what_hinders}
+use Rattle.lr_chain.specs.Prepared.{ready_of}
+use Rattle.lr_chain.specs.Ready.{IsCount, with_dir}
 use Rattle.lr_copy.specs.declared.job.Job.{Job}
-use Rattle.lr_dated_ready.specs.Hindrances.{dated_hindrances}
-use Rattle.lr_dated_ready.specs.Ready.{dated_ready}
 use Rattle.lr_plan.specs.Asked.{Asked}
 use Rattle.lr_plan.specs.declared.looks.LogLook.{LogLook}
 use Rattle.lr_plan.specs.declared.looks.SetLooks.{SetLooks}
@@ -93,28 +88,9 @@ standing rule look = with_stand (stand_for rule look) look
 
 -- ---- what hinders, and what is made ready
 
--- all members are kept
-abbrev pub keeps_all : Count → Bool
-keeps_all count.Always = true
-keeps_all (count.Keep n) = false
-
--- all members are kept, and one has the highest number that there is
-abbrev pub is_too_high : Rule → LogLook → Bool
-is_too_high rule look = keeps_all rule.count && list_any (is_highest look.family.naming) look.stand.members
-
--- what keeps the log from being rotated to numbers: its family's directory isn't there, or a member's number would have to become too high
-abbrev pub numbered_hindrances : Rule → LogLook → List Fault
-numbered_hindrances rule look =
-    if look.stand.there then (if is_too_high rule look then fault.TooHigh (highest_path look.family.naming) ∷ [] else []) else fault.NoDir look.family.naming.dir ∷ []
-
--- what keeps it from being rotated, by the format of the dates, where there is one: to the clock's stamp
-abbrev pub hindrances_by : Option Format → Clock → Rule → LogLook → List Fault
-hindrances_by None clock rule look = numbered_hindrances rule look
-hindrances_by (Some format) clock rule look = dated_hindrances look.family.naming look.stand (clock_seconds look.family.naming.dated clock)
-
--- a directory that the rotation makes doesn't hinder it
+-- what hinders its rotation, of which a directory that it makes is there
 abbrev pub hindrances : Clock → Rule → LogLook → List Fault
-hindrances clock rule look = hindrances_by look.family.naming.dated clock rule (standing rule look)
+hindrances clock rule look = what_hinders look.family.naming rule.count clock (stand_for rule look)
 
 -- where the log is made anew, with which mode: the one that the rule gives, else the one that was seen
 abbrev pub make_of : Make → Seen → Make
@@ -122,23 +98,10 @@ make_of make.No seen = make.No
 make_of (make.Yes None) seen = make.Yes seen.mode
 make_of (make.Yes (Some mode)) seen = make.Yes (Some mode)
 
--- the places from which members come that go, by the rule's count and age, at this moment; members with dates don't move
-abbrev pub going_by : Option Format → Moment → Rule → LogLook → List ℕ
-going_by None now rule look = going rule.count rule.maxage now.seconds look.stand.members
-going_by (Some format) now rule look = []
-
-abbrev pub going_from : Moment → Rule → LogLook → List ℕ
-going_from now rule look = going_by look.family.naming.dated now rule (standing rule look)
-
--- its rotation, with all its paths, and each removal without the programs before it: to the first of the numbered places, or to the clock's stamp
-abbrev pub ready_by : Option Format → Clock → Rule → LogLook → Ready
-ready_by None clock rule look =
-    with_members look.family.naming rule.count (places_of look.stand.members) (going_by None clock.now rule look) (at_rest look.path look.family.naming (make_of rule.create look.seen))
-ready_by (Some format) clock rule look = dated_ready look.path look.family.naming rule.count rule.maxage clock (make_of rule.create look.seen) look.stand.members
-
--- with the directory that it makes
+-- Its rotation, with all its paths, and with the directory that it makes; each removal is without the programs before it.
 abbrev pub ready_for : Clock → Rule → LogLook → Ready
-ready_for clock rule look = with_dir (dir_of rule look) (ready_by look.family.naming.dated clock rule (standing rule look))
+ready_for clock rule look =
+    with_dir (dir_of rule look) (ready_of look.path look.family.naming rule.count rule.maxage clock (make_of rule.create look.seen) (stand_for rule look).members)
 
 -- the rotation with these removals, the first ones and those at the end
 abbrev pub with_removals : List Removal → List Removal → Ready → Ready

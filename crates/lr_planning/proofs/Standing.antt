@@ -4,6 +4,7 @@ use Rattle.std.specs.Prelude.{if◌then◌else◌}
 use Rattle.std.specs.List.Sorted.{IsStrictlySortedBy}
 use Rattle.lr_rules.specs.declared.clock.Clock.{Clock}
 use Rattle.lr_rules.specs.declared.fault.Fault.{Fault}
+use Rattle.lr_rules.specs.declared.path.Path.{Path}
 use Rattle.lr_rules.specs.declared.rule.Naming.{Naming}
 use Rattle.lr_rules.specs.declared.rule.Rule.{Rule}
 use Rattle.lr_family.specs.declared.stand.Stand.{Stand}
@@ -11,10 +12,11 @@ use Rattle.lr_family.specs.Stands.{AreNewestFirst}
 use Rattle.lr_chain.specs.declared.ready.Ready.{Ready}
 use Rattle.lr_chain.specs.declared.ready.PrepareStop.{PrepareStop}
 use Rattle.lr_chain.specs.Ready.{with_dir}
-use Rattle.lr_dated_ready.specs.Hindrances.{IsHindered}
+use Rattle.lr_chain.specs.Hindrances.{what_hinders, IsHindered}
+use Rattle.lr_chain.specs.Prepared.{ready_of}
 use Rattle.lr_plan.specs.declared.looks.LogLook.{LogLook}
 use Rattle.lr_planning.specs.Hindered.{fault_of}
-use Rattle.lr_plan.specs.Planned.{makes_dir, dir_of, empty_stand, stand_for, with_stand, standing, hindrances_by, hindrances, ready_by, ready_for, AreMembersOf, CanPlan}
+use Rattle.lr_plan.specs.Planned.{makes_dir, dir_of, empty_stand, stand_for, with_stand, standing, hindrances, make_of, ready_for, AreMembersOf, CanPlan}
 use Rattle.lr_planning.proofs.Hindrances.{fault_hinders}
 
 none_fall : AreNewestFirst []
@@ -38,15 +40,18 @@ module _ (rule : Rule) (look : LogLook) (stand : Stand) (is : stand ≡ stand_fo
   can_stand can = subst (λ (s : Stand). CanPlan (with_stand s look)) (sym is) (standing_can rule look can)
 
   -- what is ready there is planned, with the directory
-  pub ready_stands : (clock : Clock) (ready : Ready) → ready ≡ ready_by look.family.naming.dated clock rule (with_stand stand look) → with_dir (dir_of rule look) ready ≡ ready_for clock rule look
-  ready_stands clock ready h = ap (with_dir (dir_of rule look)) (subst (λ (s : Stand). ready ≡ ready_by look.family.naming.dated clock rule (with_stand s look)) is h)
+  pub ready_stands : (clock : Clock) (ready : Ready) → look.family.log ≡ look.path
+      → ready ≡ ready_of look.family.log look.family.naming rule.count rule.maxage clock (make_of rule.create look.seen) stand.members → with_dir (dir_of rule look) ready ≡ ready_for clock rule look
+  ready_stands clock ready log h = ap (with_dir (dir_of rule look))
+      (h ∙ (ap (λ (x : Path). ready_of x look.family.naming rule.count rule.maxage clock (make_of rule.create look.seen) stand.members) log
+      ∙ ap (λ (s : Stand). ready_of look.path look.family.naming rule.count rule.maxage clock (make_of rule.create look.seen) s.members) is))
 
   -- what hinders there is all that does
-  hindrances_stand : (clock : Clock) → hindrances_by look.family.naming.dated clock rule (with_stand stand look) ≡ hindrances clock rule look
-  hindrances_stand clock = ap (λ (s : Stand). hindrances_by look.family.naming.dated clock rule (with_stand s look)) is
+  hindrances_stand : (clock : Clock) → what_hinders look.family.naming rule.count clock stand ≡ hindrances clock rule look
+  hindrances_stand clock = ap (λ (s : Stand). what_hinders look.family.naming rule.count clock s) is
 
-  pub free_stands : (clock : Clock) → hindrances_by look.family.naming.dated clock rule (with_stand stand look) ≡ [] → hindrances clock rule look ≡ []
+  pub free_stands : (clock : Clock) → what_hinders look.family.naming rule.count clock stand ≡ [] → hindrances clock rule look ≡ []
   free_stands clock h = sym (hindrances_stand clock) ∙ h
 
-  pub fault_stands : (clock : Clock) (stop : PrepareStop) (f : Fault) → IsHindered (hindrances_by look.family.naming.dated clock rule (with_stand stand look)) stop → Ok f ≡ fault_of stop → hindrances clock rule look ≡ f ∷ []
+  pub fault_stands : (clock : Clock) (stop : PrepareStop) (f : Fault) → IsHindered (what_hinders look.family.naming rule.count clock stand) stop → Ok f ≡ fault_of stop → hindrances clock rule look ≡ f ∷ []
   fault_stands clock stop f h told = sym (hindrances_stand clock) ∙ fault_hinders _ stop f h told

@@ -1,13 +1,14 @@
 // What makes the plan.
-ghost use Rattle.std.specs.Prelude.{◌≡◌, ◌≤◌, ◌++◌, ◌∷◌, [], None, length, IsSome, OnOk, IfOk, IfErr};
+ghost use Rattle.std.specs.Prelude.{◌≡◌, ◌≤◌, ◌++◌, ◌∷◌, [], None, length, OnOk, IfOk, IfErr};
 ghost use Rattle.lr_rules.specs.declared.rule.Rule.{Rule};
 ghost use Rattle.lr_plan.specs.declared.looks.LogLook.{LogLook};
 ghost use Rattle.lr_plan.specs.Asked.{asking};
 ghost use Rattle.lr_planning.specs.Hindered.{fault_of};
-ghost use Rattle.lr_plan.specs.Planned.{decision, decisions_of, hindrances, plans_of, log_plans, log_faults, set_plan, where_due, all_decisions, all_plans, all_faults, plan_of, make_of, dir_of, stand_for, with_stand, standing, hindrances_by, ready_by, dressed, job_by, plan_with, CanPlan, CanPlanSet, CanPlanAll};
+ghost use Rattle.lr_plan.specs.Planned.{decision, decisions_of, hindrances, plans_of, log_plans, log_faults, set_plan, where_due, all_decisions, all_plans, all_faults, plan_of, make_of, dir_of, stand_for, with_stand, standing, dressed, job_by, plan_with, CanPlan, CanPlanSet, CanPlanAll};
 ghost use Rattle.lr_chain.specs.Ready.{IsCount, with_dir};
 ghost use Rattle.lr_commands.specs.Commands.{spaced};
-ghost use Rattle.lr_dated_ready.specs.Hindrances.{IsHindered};
+ghost use Rattle.lr_chain.specs.Hindrances.{what_hinders, IsHindered};
+ghost use Rattle.lr_chain.specs.Prepared.{ready_of};
 
 use crate::commands::{outer_scripts, own_scripts, shared_scripts};
 use crate::copying::job_of;
@@ -15,7 +16,6 @@ use crate::directory::{empty_stand, made_dir, makes_dir};
 use lr_chain::{PrepareStop, Ready, prepare};
 use lr_commands::{mail_of, spaced, with_programs};
 use lr_copy::Job;
-use lr_dated_ready::prepare_dated;
 use lr_due::{Due, due};
 use lr_family::Stand;
 use lr_host::Seen;
@@ -146,56 +146,6 @@ fn add_plan(
     Ok(())
 }
 
-// Makes the rotation of a log ready that has dates, where this stands of its family.
-fn dated_ready(
-    alloc: Global,
-    rule: &Rule,
-    clock: &Clock,
-    look: &LogLook,
-    stand: &Stand,
-    anew: Make,
-) -> Result<Ready, PrepareStop>
-    requires dated { IsSome look.now.family.naming.dated }
-    requires look { CanPlan (with_stand stand.now look.now) }
-    requires anew { anew ≡ make_of rule.now.create look.now.seen }
-    ensures ready { IfOk result (λ ready. ready ≡ ready_by look.now.family.naming.dated clock.entry.now rule.now (with_stand stand.now look.now)) }
-    ensures short { IfOk result (λ ready. length ready.target ≤ 4081) }
-    ensures free { OnOk result (hindrances_by look.now.family.naming.dated clock.entry.now rule.now (with_stand stand.now look.now) ≡ []) }
-    ensures hindered { IfErr result (IsHindered (hindrances_by look.now.family.naming.dated clock.entry.now rule.now (with_stand stand.now look.now))) }
-{
-    let family = &look.family;
-    prepare_dated(alloc, family, stand, rule.count, rule.maxage, anew, clock)
-}
-
-// Makes the rotation of a log ready that has numbers, where this stands of its family.
-fn numbered_ready(
-    alloc: Global,
-    rule: &Rule,
-    clock: &Clock,
-    look: &LogLook,
-    stand: &Stand,
-    anew: Make,
-) -> Result<Ready, PrepareStop>
-    requires numbered { look.now.family.naming.dated ≡ None }
-    requires count { IsCount rule.now.count }
-    requires look { CanPlan (with_stand stand.now look.now) }
-    requires anew { anew ≡ make_of rule.now.create look.now.seen }
-    ensures ready { IfOk result (λ ready. ready ≡ ready_by look.now.family.naming.dated clock.entry.now rule.now (with_stand stand.now look.now)) }
-    ensures short { IfOk result (λ ready. length ready.target ≤ 4081) }
-    ensures free { OnOk result (hindrances_by look.now.family.naming.dated clock.entry.now rule.now (with_stand stand.now look.now) ≡ []) }
-    ensures hindered { IfErr result (IsHindered (hindrances_by look.now.family.naming.dated clock.entry.now rule.now (with_stand stand.now look.now))) }
-{
-    prepare(
-        alloc,
-        &look.family,
-        stand,
-        rule.count,
-        rule.maxage,
-        clock.now.seconds,
-        anew,
-    )
-}
-
 // Makes the rotation of a log ready, where this stands of its family.
 fn make_ready(
     alloc: Global,
@@ -206,17 +156,21 @@ fn make_ready(
 ) -> Result<Ready, PrepareStop>
     requires count { IsCount rule.now.count }
     requires look { CanPlan (with_stand stand.now look.now) }
-    ensures ready { IfOk result (λ ready. ready ≡ ready_by look.now.family.naming.dated clock.entry.now rule.now (with_stand stand.now look.now)) }
+    ensures ready { IfOk result (λ ready. ready ≡ ready_of look.now.family.log look.now.family.naming rule.now.count rule.now.maxage clock.entry.now (make_of rule.now.create look.now.seen) stand.now.members) }
     ensures short { IfOk result (λ ready. length ready.target ≤ 4081) }
-    ensures free { OnOk result (hindrances_by look.now.family.naming.dated clock.entry.now rule.now (with_stand stand.now look.now) ≡ []) }
-    ensures hindered { IfErr result (IsHindered (hindrances_by look.now.family.naming.dated clock.entry.now rule.now (with_stand stand.now look.now))) }
+    ensures free { OnOk result (what_hinders look.now.family.naming rule.now.count clock.entry.now stand.now ≡ []) }
+    ensures hindered { IfErr result (IsHindered (what_hinders look.now.family.naming rule.now.count clock.entry.now stand.now)) }
 {
     let anew = made_with(rule.create, &look.seen);
-    if look.family.naming().dated.is_some() {
-        dated_ready(alloc, rule, clock, look, stand, anew)
-    } else {
-        numbered_ready(alloc, rule, clock, look, stand, anew)
-    }
+    prepare(
+        alloc,
+        &look.family,
+        stand,
+        rule.count,
+        rule.maxage,
+        clock,
+        anew,
+    )
 }
 
 // Adds the plan of a log that is due, or what hinders it, where this stands of its family as its rotation begins.

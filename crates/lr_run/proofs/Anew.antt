@@ -38,7 +38,7 @@ use Rattle.lr_acts.specs.declared.progress.Progress.{Progress}
 use Rattle.lr_acts.specs.Making.{all_of_each, all_of_set, all_of_sets}
 use Rattle.lr_acts.specs.Named.{IsNamed, CreatesAt, OneCreates, LastsBehind, TellCreated}
 use Rattle.lr_looks.specs.Shown.{ShowsLooks, LooksAtAll}
-use Rattle.lr_mixed.proofs.Seen.{log_among}
+use Rattle.lr_laws_targets.proofs.LogSeen.{log_among}
 use Rattle.lr_reading.specs.declared.remembered.Remembered.{Remembered}
 use Rattle.lr_record.specs.After.{stamped}
 use Rattle.lr_seen.specs.Free.{reserved_by, IsFreeOf}
@@ -49,7 +49,7 @@ use Rattle.lr_seen.proofs.Free.{targets_free}
 use Rattle.lr_seen.proofs.Ready.{plans_have_logs}
 use Rattle.lr_seen.proofs.Seen.{targets_seen}
 use Rattle.lr_state.specs.Written.{text_of}
-use Rattle.lr_targets.specs.Target.{Target}
+use Rattle.lr_laws_targets.specs.Target.{Target}
 use Rattle.lr_writing.specs.Target.{Target as Writing}
 use Rattle.lr_weave.specs.Planned.{AreReadyFor}
 use Rattle.lr_run.specs.declared.ready.Ready.{Ready}

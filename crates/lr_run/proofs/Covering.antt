@@ -1,52 +1,35 @@
 -- What the acts of a plan change: no name of the state, and of names those of a log, those in its family's directory, and that directory where it is made.
-use Rattle.std.proofs.Common.{◌≡◌, ◌⊎◌, inl, inr, ⊎_elim, ℕ, Bool, true, false, not, cond, refl, sym, ◌∙◌, ap, subst, Option, Some, None, List, [], ◌∷◌, map}
+use Rattle.std.proofs.Common.{◌≡◌, ◌⊎◌, inl, inr, ⊎_elim, ℕ, Bool, true, false, cond, refl, ◌∙◌, ap, subst, Option, Some, None, List, [], ◌∷◌}
 use Rattle.std.specs.Prelude.{filter}
 use Rattle.lr_rules.specs.declared.clock.Clock.{Clock}
 use Rattle.lr_rules.specs.declared.path.Path.{Path}
 use Rattle.lr_rules.specs.declared.rule.Count.{Count}
 use Rattle.lr_rules.specs.declared.rule.Format.{Format}
+use Rattle.lr_rules.specs.declared.rule.Make.{Make}
 use Rattle.lr_rules.specs.declared.rule.Naming.{Naming}
 use Rattle.lr_rules.specs.declared.rules.Rules.{Rules}
 use Rattle.lr_rules.specs.Path.{parent_of}
-use Rattle.lr_stamps.specs.Dated.{clock_seconds}
 use Rattle.lr_host.specs.declared.entry.Entry.{Entry}
 use Rattle.lr_host.specs.declared.entry.Entry.TheVariants as entry
-use Rattle.lr_host.specs.declared.entry.Entry.TheVariants.{Renames, Unlinks}
 use Rattle.lr_host.specs.Lists.{IsIn}
 use Rattle.lr_host.specs.Quiet.{is_disk_change}
 use Rattle.lr_host.specs.Steps.{is_change}
 use Rattle.lr_host.specs.Told.{Each, IsTools}
-use Rattle.lr_host.proofs.Each.{each_append}
 use Rattle.lr_host.proofs.Quiet.{no_disk_change}
 use Rattle.lr_laws.specs.Follow.{changed_paths}
 use Rattle.lr_durable.specs.Renewing.{IsAsideOf, IsWithin}
 use Rattle.lr_durable.specs.StateWhole.{renamed_paths}
-use Rattle.lr_family.proofs.Numbers.{every_all, every_filter}
 use Rattle.lr_family.specs.declared.stand.Member.{Member}
-use Rattle.lr_copy.specs.declared.job.Job.{Job}
-use Rattle.lr_copy.specs.Copying.{clearing}
-use Rattle.lr_chain.specs.Ready.{removal_at}
-use Rattle.lr_chain.specs.Rotation.{places_of, is_left, leftovers, kept, retired, leftover_steps, shift_steps, retire_steps}
-use Rattle.lr_targets.specs.AllTurns.{IsItsDir, AlsoDoes, IsOf, IsOfSome}
-use Rattle.lr_targets.specs.Apart.{HasNames}
-use Rattle.lr_rotations.specs.Members as places
-use Rattle.lr_laws_family.specs.Numbered.{HasName}
-use Rattle.lr_targets.specs.Target.{Target, transfer_of, rotation_of}
-use Rattle.lr_rotations.proofs.Fitting.{kept_next, first_named, retire_named}
-use Rattle.lr_rotations.proofs.Members.{IsOfMembers, unlinks_of, moves_of}
-use Rattle.lr_targets.proofs.PartFile.{part_parent, job_target, job_part}
-use Rattle.lr_rotations.proofs.Paths.{path_parent}
-use Rattle.lr_targets.proofs.Rotating.{left_are, shift_are, retire_are, each_part}
-use Rattle.lr_laws_family.proofs.Weaving.{each_in}
-use Rattle.lr_targets.proofs.SeenFits.{seen_names}
-use Rattle.lr_laws_family.specs.Members.{IsFamily}
-use Rattle.lr_laws_family.proofs.DatedNames.{stands_in}
-use Rattle.lr_dated_run.specs.Own.{IsDatedName, MakesItsDir, HasDatedNames, HaveAnyNames}
-use Rattle.lr_dated_run.proofs.Own.{dated_turns}
-use Rattle.lr_dated_run.proofs.Mixed.{any_change}
-use Rattle.lr_dated_run.proofs.PartFile.{part_parent as dated_part_parent}
-use Rattle.lr_mixed.specs.Seen.{IsLogSeen}
-use Rattle.lr_mixed.proofs.Seen.{numbered_seen, ready_of, dated_names}
+use Rattle.lr_chain.specs.declared.ready.Ready.{Ready}
+use Rattle.lr_chain.specs.Prepared.{ready_by, ready_of}
+use Rattle.lr_laws_targets.specs.AllTurns.{IsItsDir, IsOf, IsOfSome}
+use Rattle.lr_laws_targets.specs.Apart.{HasNames, HaveNames}
+use Rattle.lr_laws_targets.specs.Own.{MakesItsDir, IsOfFamily}
+use Rattle.lr_laws_targets.specs.Seen.{IsLogSeen}
+use Rattle.lr_laws_targets.specs.Target.{Target, IsReadyBy}
+use Rattle.lr_laws_targets.proofs.LogSeen.{any_names}
+use Rattle.lr_laws_targets.proofs.Own.{target_member, family_change, any_change}
+use Rattle.lr_laws_targets.proofs.PartFile.{member_parent, part_parent}
 use Rattle.lr_seen.specs.Free.{reserved_by, AreFreeOf}
 
 -- ---- entries that change nothing
@@ -91,11 +74,7 @@ of_changes R (e ∷ ts) calm tools a = go (is_change e) refl (λ a. of_changes R
 
 -- ---- the paths of a rotation
 
--- each path whose name the entry changes is the log's, or stands in the family's directory
-abbrev IsOnFamily : Path → Naming → Entry → Type 0
-IsOnFamily log n e = (x : Path) → IsIn x (renamed_paths e) → (x ≡ log) ⊎ (parent_of x ≡ n.dir)
-
--- each is the directory that the rotation makes, or such a one
+-- each path whose name the entry changes is the directory that the rotation makes, the log's, or one in the family's directory
 abbrev pub IsOnTarget : Target → Entry → Type 0
 IsOnTarget t e = (x : Path) → IsIn x (renamed_paths e) → IsItsDir t x ⊎ ((x ≡ t.log) ⊎ (parent_of x ≡ t.naming.dir))
 
@@ -104,97 +83,30 @@ makes_on : (t : Target) (y : Path) (mode : Option ℕ) → IsItsDir t y → IsOn
 makes_on t y mode d x (inl same) = inl (subst (IsItsDir t) same d)
 makes_on t y mode d x (inr none) = absurd none
 
-of_members : (log : Path) (n : Naming) → places.IsFamily log n → (e : Entry) → IsOfMembers n e → IsOnFamily log n e
-of_members log n family (Renames from to) h x (inl is) = inr (ap parent_of (sym is ∙ h.2) ∙ path_parent log n h.0 family h.1)
-of_members log n family (Renames from to) h x (inr (inl is)) = inr (ap parent_of (sym is ∙ h.3.2) ∙ path_parent log n h.3.0 family h.3.1)
-of_members log n family (Renames from to) h x (inr (inr none)) = absurd none
-of_members log n family (Unlinks y) h x (inl is) = inr (ap parent_of (sym is ∙ h.2) ∙ path_parent log n h.0 family h.1)
-of_members log n family (Unlinks y) h x (inr none) = absurd none
-of_members log n family _ h x i = absurd h
-
-each_member : (log : Path) (n : Naming) → places.IsFamily log n → (es : List Entry) → Each (IsOfMembers n) es → Each (IsOnFamily log n) es
-each_member log n family [] a = tt
-each_member log n family (e ∷ es) a = (of_members log n family e a.0, each_member log n family es a.1)
-
-module _ (t : Target) (h : HasNames t) where
-  first : HasName t.naming 0
-  first = first_named t.naming t.count (places_of t.stand.members) h.next
-
-  target_in : parent_of t.ready.target ≡ t.naming.dir
-  target_in = ap parent_of h.ready.target_is ∙ path_parent t.log t.naming 0 h.family first
-
-  part_in : (job : Job) → t.job ≡ Some job → parent_of job.part ≡ t.naming.dir
-  part_in job is = ap parent_of (job_part t job h.ready (h.job job is)) ∙ part_parent t.log t.naming h.family first
-
-  to_in : (job : Job) → t.job ≡ Some job → parent_of job.to ≡ t.naming.dir
-  to_in job is = ap parent_of (job_target t job h.ready (h.job job is)) ∙ path_parent t.log t.naming 0 h.family first
-
-  transfer_in : (j : Option Job) → t.job ≡ j → Each (IsOnFamily t.log t.naming) (transfer_of t.ready j)
-  transfer_in None is = (renamed, tt)
-    where
-      renamed : IsOnFamily t.log t.naming (Renames t.ready.log t.ready.target)
-      renamed x (inl e) = inl (sym e ∙ h.ready.log_is)
-      renamed x (inr (inl e)) = inr (ap parent_of (sym e) ∙ target_in)
-      renamed x (inr (inr none)) = absurd none
-  transfer_in (Some job) is = each_append (IsOnFamily t.log t.naming) (clearing job) (Renames job.part job.to ∷ []) (cleared job.stale) (moved, tt)
-    where
-      dropped : IsOnFamily t.log t.naming (Unlinks job.part)
-      dropped x (inl e) = inr (ap parent_of (sym e) ∙ part_in job is)
-      dropped x (inr none) = absurd none
-
-      cleared : (b : Bool) → Each (IsOnFamily t.log t.naming) (cond b (Unlinks job.part ∷ []) [])
-      cleared true = (dropped, tt)
-      cleared false = tt
-
-      moved : IsOnFamily t.log t.naming (Renames job.part job.to)
-      moved x (inl e) = inr (ap parent_of (sym e) ∙ part_in job is)
-      moved x (inr (inl e)) = inr (ap parent_of (sym e) ∙ to_in job is)
-      moved x (inr (inr none)) = absurd none
-
-  -- what is done besides
-  also_in : (e : Entry) → AlsoDoes t e → IsOnTarget t e
-  also_in (entry.MakesDir y mode) d x i = makes_on t y mode d x i
-  also_in (entry.Makes y mode) (inl is) x (inl same) = inr (inl (sym same ∙ is))
-  also_in (entry.Makes y mode) (inl is) x (inr none) = absurd none
-  also_in (entry.Makes y mode) (inr p) x (inl same) = inr (inr (ap parent_of (sym same ∙ p.2) ∙ part_in p.0 p.1))
-  also_in (entry.Makes y mode) (inr p) x (inr none) = absurd none
-  also_in (entry.Appends y bytes) p x i = absurd i
-  also_in (entry.Truncates y) p x i = absurd i
-  also_in _ none x i = absurd none
-
-turns_on_family : (t : Target) → HasNames t → Each (IsOnFamily t.log t.naming) (rotation_of t)
-turns_on_family t h = each_part P t
-    (subst (Each P) (sym (left_are t h.ready)) (each_member t.log n h.family (leftover_steps n c ps) (unlinks_of n (leftovers c ps) (every_filter (HasName n) (is_left c) ps (every_all (HasName n) ps h.named)))))
-    (subst (Each P) (sym (shift_are t h.ready))
-    (each_member t.log n h.family (shift_steps n c ps) (moves_of n (kept c ps) (every_filter (HasName n) (λ k. not (is_left c k)) ps (every_all (HasName n) ps h.named)) (kept_next n c ps h.next))))
-    (transfer_in t h t.job refl)
-    (subst (Each P) (sym (retire_are t h.ready)) (each_member t.log n h.family (retire_steps n c t.from) (unlinks_of n (retired c t.from) (retire_named n c ps t.from h.next h.going))))
-  where
-    n : Naming
-    n = t.naming
-
-    c : Count
-    c = t.count
-
-    ps : List ℕ
-    ps = places_of t.stand.members
-
-    P : Entry → Type 0
-    P = IsOnFamily t.log t.naming
-
--- ---- the same of a log with dates
-
 makes_its_on : (t : Target) (e : Entry) → MakesItsDir t e → IsOnTarget t e
 makes_its_on t (entry.MakesDir y mode) d x i = makes_on t y mode d x i
 makes_its_on t _ none x i = absurd none
 
-dated_on : (t : Target) → HasDatedNames t → IsFamily t.log t.naming → (e : Entry) → IsOf t e → IsOnTarget t e
-dated_on t h family e i = ⊎_elim (λ changes x j. inr (go x (changes x (renamed_changed e x j)))) (λ makes. makes_its_on t e makes) (dated_turns t e h i)
+all_on : (t : Target) → HasNames t → (e : Entry) → IsOf t e → IsOnTarget t e
+all_on t h e i = ⊎_elim (λ changes x j. inr (go x (changes x (renamed_changed e x j)))) (λ makes. makes_its_on t e makes) (family_change t e h i)
   where
-    go : (x : Path) → IsDatedName t.log t.naming x → (x ≡ t.log) ⊎ (parent_of x ≡ t.naming.dir)
+    go : (x : Path) → IsOfFamily t.log t.naming x → (x ≡ t.log) ⊎ (parent_of x ≡ t.naming.dir)
     go x (inl is) = inl is
-    go x (inr (inl m)) = inr (stands_in t.log t.naming m.0 m.1 x family.kin family.format m.2 family.dir)
-    go x (inr (inr p)) = inr (ap parent_of p.2 ∙ dated_part_parent t.log t.naming p.1.0 p.1.1 p.0 family p.1.2)
+    go x (inr (inl m)) = inr (member_parent t.log t.naming h.family x m)
+    go x (inr (inr p)) = inr (ap parent_of p.2 ∙ part_parent t.log t.naming h.family p.0 p.1)
+
+-- ---- leftovers
+
+-- where no member stands, none goes first
+none_first : (d : Option Format) (log : Path) (n : Naming) (c : Count) (maxage : Option ℕ) (clock : Clock) (anew : Make) → (ready_by d log n c maxage clock anew []).leftovers ≡ []
+none_first None log n c maxage clock anew = refl
+none_first (Some format) log n c maxage clock anew = refl
+
+no_leftovers : (clock : Clock) (t : Target) → IsReadyBy clock t → t.stand.members ≡ [] → t.ready.leftovers ≡ []
+no_leftovers clock t ready none =
+    ap (λ (r : Ready). r.leftovers) ready
+    ∙ (ap (λ (ms : List Member). (ready_of t.log t.naming t.count t.maxage clock t.ready.make ms).leftovers) none
+    ∙ none_first t.naming.dated t.log t.naming t.count t.maxage clock t.ready.make)
 
 -- ---- where they stand
 
@@ -204,28 +116,19 @@ pub record IsPlaced (t : Target) : Type 0 where
   pub target : parent_of t.ready.target ≡ t.naming.dir
   pub no_leftovers : t.stand.members ≡ [] → t.ready.leftovers ≡ []
 
--- so it is where the log was seen, be its names numbers or dates
+-- so it is where the log was seen
 pub log_placed : (rules : Rules) (clock : Clock) (looks : List Entry) (t : Target) → IsLogSeen rules clock looks t → IsPlaced t
-log_placed rules clock looks t l = go t.naming.dated refl
-  where
-    go : (d : Option Format) → t.naming.dated ≡ d → IsPlaced t
-    go None is = let h = seen_names rules clock.now.seconds looks t (numbered_seen rules clock looks t l is) in
-        record {
-          on = λ e i. ⊎_elim (λ j x k. inr (each_in (IsOnFamily t.log t.naming) (rotation_of t) e (turns_on_family t h) j x k)) (λ also. also_in t h e also) i;
-          target = target_in t h;
-          no_leftovers = λ none. h.ready.leftovers_are ∙ ap (λ (ms : List Member). map (removal_at t.naming) (leftovers t.count (places_of ms))) none;
-        }
-    go (Some format) is =
-        let r = ready_of rules clock looks t format l is in
-        record {
-          on = dated_on t (dated_names rules clock looks t format l is) l.family;
-          target = stands_in t.log t.naming (clock_seconds t.naming.dated clock) r.serial t.ready.target l.family.kin l.family.format r.target_is l.family.dir;
-          no_leftovers = λ none. r.no_leftovers;
-        }
+log_placed rules clock looks t l =
+    let h = any_names rules clock looks t l in
+    record {
+      on = all_on t h;
+      target = member_parent t.log t.naming l.family t.ready.target (target_member t h);
+      no_leftovers = no_leftovers clock t l.ready;
+    }
 
 -- ---- a change of the acts and the state
 
-pub some_aside : (state : Path) (ts : List Target) (e : Entry) → HaveAnyNames ts → AreFreeOf (reserved_by state) ts → IsOfSome ts e → IsAsideOf state e
+pub some_aside : (state : Path) (ts : List Target) (e : Entry) → HaveNames ts → AreFreeOf (reserved_by state) ts → IsOfSome ts e → IsAsideOf state e
 some_aside state [] e h free i = absurd i
 some_aside state (t ∷ ts) e h free (inl i) = λ changed. free.0 state (inl refl) (any_change t e h.0 i state changed)
 some_aside state (t ∷ ts) e h free (inr i) = some_aside state ts e h.1 free.1 i

@@ -31,7 +31,7 @@ use Rattle.lr_plan.specs.declared.plan.Plan.{Plan}
 use Rattle.lr_plan.specs.Planned.{decision, plan_of}
 use Rattle.lr_reading.specs.declared.remembered.Remembered.{Remembered}
 use Rattle.lr_reading.specs.Answers.{ReadsState}
-use Rattle.lr_mixed.specs.AllTurns.{IsWholeRunBy}
+use Rattle.lr_laws_targets.specs.Runs.{IsWholeRunBy}
 use Rattle.lr_durable.specs.Renewing.{MayRenew}
 use Rattle.lr_durable.specs.StateWhole.{KeepsWhole}
 use Rattle.lr_emptied.specs.Emptied.{EmptiesCopied, EmptiesWhole}
@@ -53,7 +53,7 @@ use Rattle.lr_run.proofs.Emptying.{left_copied, runs_copied, answers_copied}
 use Rattle.lr_run.proofs.Made.{AreMade}
 use Rattle.lr_run.proofs.Renewing.{left_whole, quiet_alone, runs_may, answers_may}
 use Rattle.lr_run.proofs.Seeing.{state_so, looks_so, some_so}
-use Rattle.lr_mixed.proofs.Shapes.{quiet_run_by}
+use Rattle.lr_laws_targets.proofs.Shapes.{quiet_run_by}
 use Rattle.lr_run.proofs.Shape.{sees_quiet}
 use Rattle.lr_run.proofs.Works.{plan_free, none_fell, some_of_whole, none_sights, none_shown}
 

@@ -6,15 +6,12 @@ use Rattle.std.proofs.lemmas.List.{append-nil, reverse-reverse}
 use Rattle.lr_rules.specs.declared.clock.Clock.{Clock}
 use Rattle.lr_rules.specs.declared.fault.Fault.{Fault}
 use Rattle.lr_rules.specs.declared.path.Path.{Path}
-use Rattle.lr_rules.specs.declared.rule.Format.{Format}
 use Rattle.lr_rules.specs.declared.rule.Naming.{Naming}
 use Rattle.lr_rules.specs.declared.rule.Rule.{Rule}
 use Rattle.lr_rules.specs.declared.rules.Rules.{Rules}
-use Rattle.lr_rules.specs.Dated.{IsDatedAt}
 use Rattle.lr_rules.specs.Match.{WordGives, RuleGives}
-use Rattle.lr_rules.specs.Names.{IsMemberAt, naming_of}
+use Rattle.lr_rules.specs.Names.{naming_of}
 use Rattle.lr_rules.specs.Path.{parent_of}
-use Rattle.lr_stamps.specs.Dated.{clock_seconds}
 use Rattle.lr_host.specs.declared.entry.Entry.{Entry}
 use Rattle.lr_host.specs.declared.entry.Entry.TheVariants as entry
 use Rattle.lr_host.specs.declared.journal.Journal.{Journal}
@@ -29,7 +26,6 @@ use Rattle.lr_kept.specs.declared.choice.Choice.TheVariants.{Kept}
 use Rattle.lr_kept.proofs.Elements.{same_read}
 use Rattle.lr_due.specs.declared.answer.Due.{Due}
 use Rattle.lr_copy.specs.declared.job.Job.{Job}
-use Rattle.lr_chain.specs.Rotation.{places_of}
 use Rattle.lr_plan.specs.Asked.{Asked}
 use Rattle.lr_plan.specs.declared.looks.LogLook.{LogLook}
 use Rattle.lr_plan.specs.declared.looks.SetLooks.{SetLooks}
@@ -49,14 +45,10 @@ use Rattle.lr_looks.specs.Families.{LookedLog}
 use Rattle.lr_looks.specs.Choices.{kept_of}
 use Rattle.lr_looks.specs.Sets.{looked_in}
 use Rattle.lr_looks.specs.Shown.{ShowsLooks}
-use Rattle.lr_targets.specs.Target.{Target, IsJob}
-use Rattle.lr_rotations.proofs.Fitting.{first_named}
-use Rattle.lr_targets.proofs.PartFile.{job_target}
-use Rattle.lr_rotations.proofs.Paths.{path_member}
-use Rattle.lr_targets.proofs.SeenFits.{seen_names}
-use Rattle.lr_mixed.specs.Seen.{IsLogSeen, AreLogsSeen}
-use Rattle.lr_mixed.proofs.Calls.{log_paths}
-use Rattle.lr_mixed.proofs.Seen.{numbered_seen, ready_of}
+use Rattle.lr_laws_targets.specs.Target.{Target, IsJob}
+use Rattle.lr_laws_targets.specs.Seen.{IsLogSeen, AreLogsSeen}
+use Rattle.lr_laws_targets.proofs.CallsFit.{log_paths}
+use Rattle.lr_laws_targets.proofs.LogSeen.{any_names}
 use Rattle.lr_weave.specs.Planned.{AreReadyFor, HaveLogs}
 use Rattle.lr_seen.specs.Targets.{groups_of, all_targets}
 use Rattle.lr_seen.proofs.Apart.{kept_at}
@@ -69,9 +61,10 @@ use Rattle.lr_run.specs.declared.answer.Ran.{Ran}
 use Rattle.lr_run.specs.declared.answer.RunStop.{RunStop}
 use Rattle.lr_run.specs.declared.answer.RunStop.TheVariants as stop
 use Rattle.lr_run.specs.Answers.{Answers}
-use Rattle.lr_run.specs.Copied.{IsNewestBy, IsNewest, IsCopyBy}
+use Rattle.lr_run.specs.Copied.{IsNewest, IsCopyBy}
 use Rattle.lr_run.specs.Runs as runs
 use Rattle.lr_run.specs.Runs.{Looked, plan_in, Worked, Works, not_known, too_big, worked, Runs, no_directory, not_seen, not_begun, BrokeOff, at_first, in_looks, in_acts}
+use Rattle.lr_run.proofs.Newest.{target_newest}
 use Rattle.lr_run.proofs.Made.{AreMade, are_made, made_first, made_later}
 use Rattle.lr_run.proofs.Renewing.{between_made}
 use Rattle.lr_run.proofs.Shape.{sees_quiet, some_quiet, seen_quiet, looked_parts, in_parts}
@@ -176,7 +169,7 @@ is_copy rules sets faults ts clock mailer decide made s job i cut = record {
   among = r.among;
   given = subst (RuleGives r.rule) (sym j.from_is) r.given;
   way_is = cut_way r.rule r.look t.ready.target job (r.job_is ∙ o.is) cut;
-  newest = subst (λ (log : Path). IsNewest (naming_of r.rule log) clock job.to) (sym j.from_is) (subst (λ (n : Naming). IsNewest n clock job.to) (sym r.naming_is) (newest t.naming.dated refl));
+  newest = subst (λ (log : Path). IsNewest (naming_of r.rule log) clock job.to) (sym j.from_is) (subst (λ (n : Naming). IsNewest n clock job.to) (sym r.naming_is) newest);
   part_is = j.part_is;
   paths = log_paths rules clock ts t seen job o.is;
   cut = cut;
@@ -198,11 +191,8 @@ is_copy rules sets faults ts clock mailer decide made s job i cut = record {
     j = (seen.job job o.is).0
 
     -- the copy goes where the log would go
-    newest : (d : Option Format) → t.naming.dated ≡ d → IsNewestBy d t.naming clock job.to
-    newest None is = let h = seen_names rules clock.now.seconds ts t (numbered_seen rules clock ts t seen is) in
-        subst (IsMemberAt t.naming 0) (sym (job_target t job h.ready j)) (path_member t.naming 0 (first_named t.naming t.count (places_of t.stand.members) h.next))
-    newest (Some format) is = let d = ready_of rules clock ts t format seen is in
-        (d.serial, subst (IsDatedAt t.naming (clock_seconds t.naming.dated clock) d.serial) (sym j.to_is) d.target_is)
+    newest : IsNewest t.naming clock job.to
+    newest = subst (IsNewest t.naming clock) (sym j.to_is) (target_newest clock t (any_names rules clock ts t seen) seen.free seen.ready)
 
 -- ---- what a run leaves
 

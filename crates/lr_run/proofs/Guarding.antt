@@ -24,10 +24,10 @@ use Rattle.lr_plan.specs.declared.plan.LogPlan.{LogPlan}
 use Rattle.lr_plan.specs.declared.plan.SetPlan.{SetPlan}
 use Rattle.lr_plan.specs.Done.{SetsDone}
 use Rattle.lr_plan.specs.Steps.{steps_of_set}
-use Rattle.lr_targets.specs.AllTurns.{IsItsDir, IsOf}
-use Rattle.lr_targets.specs.Target.{Target, IsDirSeenBy}
-use Rattle.lr_mixed.specs.Seen.{IsLogSeen, AreLogsSeen}
-use Rattle.lr_mixed.proofs.Seen.{log_among}
+use Rattle.lr_laws_targets.specs.AllTurns.{IsItsDir, IsOf}
+use Rattle.lr_laws_targets.specs.Target.{Target, IsDirSeenBy}
+use Rattle.lr_laws_targets.specs.Seen.{IsLogSeen, AreLogsSeen}
+use Rattle.lr_laws_targets.proofs.LogSeen.{log_among}
 use Rattle.lr_weave.proofs.Allowed.{HasAll, Allowed, AllowsMore, AllowsLog}
 use Rattle.lr_weave.specs.Planned.{IsReadyFor, AreReadyFor, HaveLogs}
 use Rattle.lr_weave.proofs.Guarding.{acts_guarded}

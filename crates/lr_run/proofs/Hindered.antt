@@ -1,5 +1,6 @@
--- A log with dates that can't be rotated since a member has the name that it would get: the member was seen, and the acts spare it.
+-- A log that can't be rotated since a member has the name that it would get: the member was seen, and the acts spare it.
 use Rattle.std.proofs.Common.{◌≡◌, ◌≢◌, inl, inr, ⊎_elim, ℕ, suc, ◌+◌, Bool, true, false, cond, not, ◌&&◌, Option, Some, None, List, [], ◌∷◌, ◌++◌, map, reverse, slice_get, refl, sym, ap, ◌∙◌, subst}
+use Rattle.std.specs.List.{list_any}
 use Rattle.std.specs.Option.{is_some}
 use Rattle.std.proofs.lemmas.Bool.{and_left, and_right}
 use Rattle.std.specs.Prelude.{ℤ, filter, codes}
@@ -8,6 +9,7 @@ use Rattle.lr_rules.specs.declared.clock.Clock.{Clock}
 use Rattle.lr_rules.specs.declared.fault.Fault.{Fault}
 use Rattle.lr_rules.specs.declared.fault.Fault.TheVariants as fault
 use Rattle.lr_rules.specs.declared.path.Path.{Path}
+use Rattle.lr_rules.specs.declared.rule.Count.{Count}
 use Rattle.lr_rules.specs.declared.rule.Format.{Format}
 use Rattle.lr_rules.specs.declared.rule.Naming.{Naming}
 use Rattle.lr_rules.specs.declared.rule.Rule.{Rule}
@@ -34,15 +36,14 @@ use Rattle.lr_family.specs.declared.stand.Stand.{Stand}
 use Rattle.lr_family.specs.Parts.{IsDated}
 use Rattle.lr_family.specs.Places.{IsPlaceOf}
 use Rattle.lr_family.proofs.Placed.{dated_at}
-use Rattle.lr_chain.specs.Ready.{highest_path}
-use Rattle.lr_dated_chain.specs.Next.{has_serials}
-use Rattle.lr_dated_ready.specs.Hindrances.{is_stamp, fault_at, too_high, taken, dated_hindrances}
+use Rattle.lr_chain.specs.Hindrances.{is_stamp, fault_at, too_high, taken, stamp_hindrances, keeps_all, number_hindrances, name_hindrances, what_hinders}
+use Rattle.lr_chain.specs.Ready.{is_highest, highest_path}
 use Rattle.lr_plan.specs.declared.looks.LogLook.{LogLook}
 use Rattle.lr_plan.specs.declared.looks.SetLooks.{SetLooks}
 use Rattle.lr_plan.specs.declared.mark.Mark.{Mark}
 use Rattle.lr_plan.specs.Course.{Course}
 use Rattle.lr_plan.specs.Done.{SetsDone}
-use Rattle.lr_plan.specs.Planned.{is_made, dir_is_log, makes_dir, empty_stand, stand_for, standing, numbered_hindrances, hindrances_by, hindrances, is_too_high, where_due, log_faults, all_faults, all_plans}
+use Rattle.lr_plan.specs.Planned.{is_made, dir_is_log, makes_dir, empty_stand, stand_for, hindrances, where_due, log_faults, all_faults, all_plans}
 use Rattle.lr_plan.specs.Steps.{steps_of_set, state_steps}
 use Rattle.lr_acts.specs.Named.{IsNamed}
 use Rattle.lr_acts.specs.Taken.{Spares, WasTaken}
@@ -51,12 +52,12 @@ use Rattle.lr_looks.specs.Families.{LookedLog, looked_at, looked_of}
 use Rattle.lr_looks.specs.Found.{FoundLog}
 use Rattle.lr_looks.specs.Sets.{looked_in}
 use Rattle.lr_looks.specs.Shown.{ShowsLooks}
-use Rattle.lr_targets.specs.AllTurns.{IsOf, IsOfSome, IsOfState}
-use Rattle.lr_targets.specs.Target.{Target}
+use Rattle.lr_laws_targets.specs.AllTurns.{IsOf, IsOfSome, IsOfState}
+use Rattle.lr_laws_targets.specs.Target.{Target}
 use Rattle.lr_laws_family.specs.Shown.{WasSeen, Shown}
 use Rattle.lr_laws_family.proofs.Stood.{file_stands}
-use Rattle.lr_dated_run.specs.Own.{HasAnyNames, HaveAnyNames}
-use Rattle.lr_dated_run.proofs.Own.{dated_own}
+use Rattle.lr_laws_targets.specs.Apart.{HasNames, HaveNames}
+use Rattle.lr_laws_targets.proofs.Own.{member_own}
 use Rattle.lr_weave.proofs.Parting.{done_some}
 use Rattle.lr_weave.proofs.Planning.{ready_planned}
 use Rattle.lr_seen.specs.Free.{reserved_by}
@@ -109,36 +110,43 @@ in_taken path seconds serial (m ∷ ms) i = go (is_stamp seconds serial m.place)
     go true further (inr none) = absurd none
     go false further i = let r = further i in (r.0, inr r.1, r.2)
 
-in_dated : (n : Naming) (stand : Stand) (seconds : ℤ) (path : Path) → IsIn (fault.Taken path) (dated_hindrances n stand seconds) → IsBarred n stand path
-in_dated n stand seconds path i = go stand.there refl (has_serials n.dated) i
+-- numbers hinder as none can be higher
+in_numbers : (n : Naming) (c : Count) (path : Path) (ms : List Member) → IsIn (fault.Taken path) (number_hindrances n c ms) → ⊥
+in_numbers n c path ms i = go (keeps_all c && list_any (is_highest n) ms) i
   where
-    go : (a : Bool) → stand.there ≡ a → (b : Bool) → IsIn (fault.Taken path) (cond a (cond b (fault_at too_high seconds 4294967295 stand.members) (fault_at taken seconds 0 stand.members)) (fault.NoDir n.dir ∷ [])) → IsBarred n stand path
-    go true is true i = absurd (in_high path seconds 4294967295 stand.members i)
-    go true is false i = let r = in_taken path seconds 0 stand.members i in record { there = is; member = r.0; among = r.1; path_is = r.2 }
-    go false is b (inl e) = absurd (no_dir n.dir path e)
-    go false is b (inr none) = absurd none
+    go : (b : Bool) → IsIn (fault.Taken path) (cond b (fault.TooHigh (highest_path n) ∷ []) []) → ⊥
+    go true (inl e) = no_high (highest_path n) path e
+    go true (inr none) = none
+    go false none = none
 
-in_numbered : (rule : Rule) (look : LogLook) (path : Path) → IsIn (fault.Taken path) (numbered_hindrances rule look) → ⊥
-in_numbered rule look path i = go look.stand.there (is_too_high rule look) i
+in_stamps : (format : Format) (path : Path) (seconds : ℤ) (ms : List Member) → IsIn (fault.Taken path) (stamp_hindrances format seconds ms) → (m : Member) × IsIn m ms × (m.path ≡ path)
+in_stamps format path seconds ms i = go format.serial i
   where
-    go : (a b : Bool) → IsIn (fault.Taken path) (cond a (cond b (fault.TooHigh (highest_path look.family.naming) ∷ []) []) (fault.NoDir look.family.naming.dir ∷ [])) → ⊥
-    go true true (inl e) = no_high (highest_path look.family.naming) path e
-    go true true (inr none) = none
-    go true false none = none
-    go false b (inl e) = no_dir look.family.naming.dir path e
-    go false b (inr none) = none
+    go : (b : Bool) → IsIn (fault.Taken path) (cond b (fault_at too_high seconds 4294967295 ms) (fault_at taken seconds 0 ms)) → (m : Member) × IsIn m ms × (m.path ≡ path)
+    go true i = absurd (in_high path seconds 4294967295 ms i)
+    go false i = in_taken path seconds 0 ms i
 
--- the log is one with dates
-is_dated : (clock : Clock) (rule : Rule) (look : LogLook) (path : Path) → IsIn (fault.Taken path) (hindrances clock rule look) → (format : Format) × (look.family.naming.dated ≡ Some format)
-is_dated clock rule look path i = go look.family.naming.dated refl i
+in_names : (d : Option Format) (n : Naming) (c : Count) (clock : Clock) (path : Path) (ms : List Member) → IsIn (fault.Taken path) (name_hindrances d n c clock ms)
+    → ((format : Format) × (d ≡ Some format)) × ((m : Member) × IsIn m ms × (m.path ≡ path))
+in_names None n c clock path ms i = absurd (in_numbers n c path ms i)
+in_names (Some format) n c clock path ms i = ((format, refl), in_stamps format path (clock_seconds n.dated clock) ms i)
+
+-- so the log is one with dates, and a member has the name
+in_hindrances : (n : Naming) (c : Count) (clock : Clock) (stand : Stand) (path : Path) → IsIn (fault.Taken path) (what_hinders n c clock stand) → ((format : Format) × (n.dated ≡ Some format)) × IsBarred n stand path
+in_hindrances n c clock stand path i = go stand.there refl i
   where
-    go : (d : Option Format) → look.family.naming.dated ≡ d → IsIn (fault.Taken path) (hindrances_by d clock rule (standing rule look)) → (format : Format) × (look.family.naming.dated ≡ Some format)
-    go None is i = absurd (in_numbered rule (standing rule look) path i)
-    go (Some format) is i = (format, is)
+    go : (b : Bool) → stand.there ≡ b → IsIn (fault.Taken path) (cond b (name_hindrances n.dated n c clock stand.members) (fault.NoDir n.dir ∷ [])) → ((format : Format) × (n.dated ≡ Some format)) × IsBarred n stand path
+    go true is i = let r = in_names n.dated n c clock path stand.members i in (r.0, record { there = is; member = r.1.0; among = r.1.1; path_is = r.1.2 })
+    go false is (inl e) = absurd (no_dir n.dir path e)
+    go false is (inr none) = absurd none
 
--- what hinders a log with dates is what its family and the clock say
-dated_hinders : (clock : Clock) (rule : Rule) (look : LogLook) (format : Format) → look.family.naming.dated ≡ Some format → hindrances clock rule look ≡ dated_hindrances look.family.naming (stand_for rule look) (clock_seconds look.family.naming.dated clock)
-dated_hinders clock rule look format is = ap (λ (d : Option Format). hindrances_by d clock rule (standing rule look)) is
+-- of dates no count matters
+same_hindrances : (format : Format) (n : Naming) (c k : Count) (clock : Clock) (stand : Stand) → n.dated ≡ Some format → what_hinders n c clock stand ≡ what_hinders n k clock stand
+same_hindrances format n c k clock stand dated = ap (λ (fs : List Fault). cond stand.there fs (fault.NoDir n.dir ∷ [])) (go n.dated dated)
+  where
+    go : (d : Option Format) → d ≡ Some format → name_hindrances d n c clock stand.members ≡ name_hindrances d n k clock stand.members
+    go None none = absurd (cc)
+    go (Some f) is = refl
 
 -- a directory that is there isn't made
 pub stands_as_seen : (rule : Rule) (look : LogLook) → look.stand.there ≡ true → stand_for rule look ≡ look.stand
@@ -198,11 +206,11 @@ all_spare path R spare (e ∷ ts) a = go (is_change e) refl (λ b. all_spare pat
     go false h rest a = (calm_spares path e h, rest a)
 
 -- an unlink of the path is on own names of the log that is rotated
-unlinks_own : (t : Target) (path : Path) (e : Entry) → HasAnyNames t → (IsOwnName t.log t.naming path → ⊥) → IsOf t e → Spares path e
+unlinks_own : (t : Target) (path : Path) (e : Entry) → HasNames t → (IsOwnName t.log t.naming path → ⊥) → IsOf t e → Spares path e
 unlinks_own t path (entry.Unlinks x) h none i = λ same. none (subst (IsOwnName t.log t.naming) same (unlinked_own t h x i))
 unlinks_own t path _ h none i = tt
 
-some_spare : (path : Path) (ts : List Target) → HaveAnyNames ts → ((t : Target) → IsIn t ts → IsOwnName t.log t.naming path → ⊥) → (e : Entry) → IsOfSome ts e → Spares path e
+some_spare : (path : Path) (ts : List Target) → HaveNames ts → ((t : Target) → IsIn t ts → IsOwnName t.log t.naming path → ⊥) → (e : Entry) → IsOfSome ts e → Spares path e
 some_spare path [] h none e i = absurd i
 some_spare path (t ∷ ts) h none e (inl i) = unlinks_own t path e h.0 (none t (inl refl)) i
 some_spare path (t ∷ ts) h none e (inr i) = some_spare path ts h.1 (λ u j. none u (inr j)) e i
@@ -215,23 +223,23 @@ state_spares state path other part _ h = tt
 -- ---- the member
 
 module _ (state : Path) (rules : Rules) (sets : List SetLooks) (faults : List Fault) (looks : List Entry) (clock : Clock) (decide : Rule → LogLook → Due) (s : ShowsLooks (reserved_by state) rules.sets sets faults looks) (path : Path) (h : IsHindered clock rules.sets sets path) where
-  format : (f : Format) × (h.look.family.naming.dated ≡ Some f)
-  format = is_dated clock h.rule h.look path h.fault_in
-
   abbrev n : Naming
   n = h.look.family.naming
 
   abbrev x : LookedLog
   x = looked_in (0 + h.place) h.look
 
-  fault_of_standing : IsIn (fault.Taken path) (dated_hindrances n (stand_for h.rule h.look) (clock_seconds n.dated clock))
-  fault_of_standing = subst (IsIn (fault.Taken path)) (dated_hinders clock h.rule h.look format.0 format.1) h.fault_in
+  hindered : ((f : Format) × (n.dated ≡ Some f)) × IsBarred n (stand_for h.rule h.look) path
+  hindered = in_hindrances n h.rule.count clock (stand_for h.rule h.look) path h.fault_in
+
+  format : (f : Format) × (n.dated ≡ Some f)
+  format = hindered.0
 
   barred : IsBarred n h.look.stand path
-  barred = barred_as_seen (makes_dir h.rule h.look) n h.look.stand path (in_dated n (stand_for h.rule h.look) (clock_seconds n.dated clock) path fault_of_standing)
+  barred = barred_as_seen (makes_dir h.rule h.look) n h.look.stand path hindered.1
 
-  fault_of_stand : IsIn (fault.Taken path) (dated_hindrances n h.look.stand (clock_seconds n.dated clock))
-  fault_of_stand = subst (λ (stand : Stand). IsIn (fault.Taken path) (dated_hindrances n stand (clock_seconds n.dated clock))) (stands_as_seen h.rule h.look barred.there) fault_of_standing
+  fault_of_stand : IsIn (fault.Taken path) (what_hinders n h.rule.count clock h.look.stand)
+  fault_of_stand = subst (λ (stand : Stand). IsIn (fault.Taken path) (what_hinders n h.rule.count clock stand)) (stands_as_seen h.rule h.look barred.there) h.fault_in
 
   looked : IsIn x s.looked
   looked = was_looked 0 h.place s.looked sets h.set h.look s.by_sets h.at_set h.among
@@ -253,7 +261,7 @@ module _ (state : Path) (rules : Rules) (sets : List SetLooks) (faults : List Fa
   day = subst (IsDated n) barred.path_is (dated_at n barred.member.place barred.member.path (ap is_some format.1) (All-contains (λ m. IsPlaceOf n m.place m.path) h.look.stand.members barred.member shown.named (in_to barred.member h.look.stand.members barred.among)))
 
   own : IsOwnName h.look.path n path
-  own = dated_own h.look.path n day.0 day.1 path day.2
+  own = member_own h.look.path n path (inr day)
 
   kept : (f : FoundLog) × IsIn f s.kept × ((stand : Stand) × (x ≡ looked_at f stand))
   kept = in_looked s.kept s.entries.second.families.sights x in_sights
@@ -262,7 +270,7 @@ module _ (state : Path) (rules : Rules) (sets : List SetLooks) (faults : List Fa
   day_kept = subst (λ (y : LookedLog). IsDated y.naming path) kept.2.1 day
 
   own_kept : IsOwnName kept.0.log.path kept.0.log.naming path
-  own_kept = dated_own kept.0.log.path kept.0.log.naming day_kept.0 day_kept.1 path day_kept.2
+  own_kept = member_own kept.0.log.path kept.0.log.naming path (inr day_kept)
 
   no_reserved : (y : Path) → IsIn y (reserved_by state) → path ≢ y
   no_reserved y i same = kept_has_none rules.sets sets faults looks s kept.0 kept.1 y i (inl (subst (IsOwnName kept.0.log.path kept.0.log.naming) same own_kept))
@@ -287,11 +295,12 @@ module _ (state : Path) (rules : Rules) (sets : List SetLooks) (faults : List Fa
       -- nothing hinders a log that is rotated
       same : y ≡ x → ⊥
       same is =
-          let dated : c.look.family.naming.dated ≡ Some format.0 = ap (λ (z : LookedLog). z.naming.dated) is ∙ format.1 in
-          let moved : IsIn (fault.Taken path) (dated_hindrances c.look.family.naming c.look.stand (clock_seconds c.look.family.naming.dated clock)) = subst (λ (z : LookedLog). IsIn (fault.Taken path) (dated_hindrances z.naming z.stand (clock_seconds z.naming.dated clock))) (sym is) fault_of_stand in
-          let there = (in_dated c.look.family.naming c.look.stand (clock_seconds c.look.family.naming.dated clock) path moved).there in
-          let standing_so = subst (λ (stand : Stand). IsIn (fault.Taken path) (dated_hindrances c.look.family.naming stand (clock_seconds c.look.family.naming.dated clock))) (sym (stands_as_seen c.rule c.look there)) moved in
-          let none : IsIn (fault.Taken path) [] = subst (IsIn (fault.Taken path)) (sym (dated_hinders clock c.rule c.look format.0 dated) ∙ c.free) standing_so in none
+          let m : Naming = c.look.family.naming in
+          let dated : m.dated ≡ Some format.0 = ap (λ (z : LookedLog). z.naming.dated) is ∙ format.1 in
+          let moved : IsIn (fault.Taken path) (what_hinders m h.rule.count clock c.look.stand) = subst (λ (z : LookedLog). IsIn (fault.Taken path) (what_hinders z.naming h.rule.count clock z.stand)) (sym is) fault_of_stand in
+          let there = (in_hindrances m h.rule.count clock c.look.stand path moved).1.there in
+          let standing_so = subst (λ (stand : Stand). IsIn (fault.Taken path) (what_hinders m h.rule.count clock stand)) (sym (stands_as_seen c.rule c.look there)) moved in
+          let none : IsIn (fault.Taken path) [] = subst (IsIn (fault.Taken path)) (same_hindrances format.0 m h.rule.count c.rule.count clock (stand_for c.rule c.look) dated ∙ c.free) standing_so in none
 
   -- so the acts spare it
   acts_spare : (mailer : Path) (stale : Bool) (dirs : List Path) (text : List ℕ) (marks : List Mark) (of_plan of_state : List Fault) (ts : List Entry)

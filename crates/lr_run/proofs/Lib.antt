@@ -27,6 +27,7 @@ mod Covering
 pub mod Made
 mod Guarding
 pub mod Renewing
+mod Newest
 pub mod Emptying
 pub mod Drying
 mod Short

@@ -31,9 +31,9 @@ use Rattle.lr_plan.specs.declared.mark.Mark.{Mark}
 use Rattle.lr_plan.specs.Done.{SetsDone, rotated_logs}
 use Rattle.lr_plan.specs.Planned.{decision}
 use Rattle.lr_plan.specs.Steps.{steps_of_set}
-use Rattle.lr_targets.specs.AllTurns.{IsOfSome}
-use Rattle.lr_dated_run.specs.Own.{HaveAnyNames}
-use Rattle.lr_targets.specs.Target.{Target}
+use Rattle.lr_laws_targets.specs.AllTurns.{IsOfSome}
+use Rattle.lr_laws_targets.specs.Apart.{HaveNames}
+use Rattle.lr_laws_targets.specs.Target.{Target}
 use Rattle.lr_weave.specs.Parts.{ArePlanned}
 use Rattle.lr_weave.specs.Planned.{HaveLogs}
 use Rattle.lr_weave.proofs.Parting.{done_some, cut_some}
@@ -183,7 +183,7 @@ module _ (state : Path) (rules : Rules) (clock : Clock) (asked : Asked) where
     planned : ArePlanned targets (map steps_of_set (plan_in state rules.sets ts l clock asked).sets)
     planned = ready_planned (groups_of clock decide rules.sets l.sets) (plan_in state rules.sets ts l clock asked).sets logs (targets_apart rules.sets l.sets l.of_looks l.looks clock decide l.shown)
 
-    have_names : HaveAnyNames targets
+    have_names : HaveNames targets
     have_names = targets_have_names rules l.sets l.of_looks l.looks clock decide l.shown
 
     valid : (t : Target) → IsIn t targets → path_fault t.log ≡ None

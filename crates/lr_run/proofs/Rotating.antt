@@ -25,18 +25,18 @@ use Rattle.lr_plan.specs.Asked.{Asked}
 use Rattle.lr_plan.specs.declared.looks.LogLook.{LogLook}
 use Rattle.lr_plan.specs.Done.{PlanDone}
 use Rattle.lr_plan.specs.Planned.{decision}
-use Rattle.lr_targets.specs.AllTurns.{dir_paths, other_paths, paths_beside}
-use Rattle.lr_targets.specs.Target.{Target, HasDir}
+use Rattle.lr_laws_targets.specs.AllTurns.{dir_paths, other_paths, paths_beside}
+use Rattle.lr_laws_targets.specs.Target.{Target, HasDir}
 use Rattle.lr_laws_family.specs.Turned.{IsRotation}
-use Rattle.lr_targets.specs.Rotation.{rotation_by}
-use Rattle.lr_targets.proofs.SeenFits.{has_dir}
-use Rattle.lr_dated_run.specs.Own.{LieOutside, HasAnyNames, HaveAnyNames}
-use Rattle.lr_dated_run.proofs.Mixed.{name_out, all_outside}
-use Rattle.lr_mixed.specs.AllTurns.{AllTurnedBy}
-use Rattle.lr_mixed.proofs.Plan.{plan_is_one}
-use Rattle.lr_mixed.proofs.Seen.{any_names, log_among}
+use Rattle.lr_laws_targets.specs.Rotation.{rotation_by}
+use Rattle.lr_laws_targets.specs.Own.{LieOutside}
+use Rattle.lr_laws_targets.specs.Apart.{HasNames, HaveNames}
+use Rattle.lr_laws_targets.proofs.Beside.{name_out, all_outside}
+use Rattle.lr_laws_targets.specs.Runs.{AllTurnedBy}
+use Rattle.lr_laws_targets.proofs.Plan.{plan_is_one}
+use Rattle.lr_laws_targets.proofs.LogSeen.{any_names, log_among}
 use Rattle.lr_run.specs.Rotated.{rotated_in}
-use Rattle.lr_mixed.specs.Seen.{IsLogSeen}
+use Rattle.lr_laws_targets.specs.Seen.{IsLogSeen}
 use Rattle.lr_weave.specs.Fitting.{NoneMeets, DontMeet}
 use Rattle.lr_weave.proofs.Planning.{ready_planned}
 use Rattle.lr_weave.proofs.Turned.{done_turned}
@@ -110,7 +110,7 @@ module _ (state : Path) (asked : Asked) (clock : Clock) (rules : Rules) (own : L
   abbrev pub targets : List Target
   targets = rotated_in state rules.sets i.between i.within.looked clock asked
 
-  named : HaveAnyNames targets
+  named : HaveNames targets
   named = targets_have_names rules l.sets l.of_looks l.looks clock decide l.shown
 
   free : IsFreeOf (reserved_by state) t
@@ -143,19 +143,15 @@ module _ (state : Path) (asked : Asked) (clock : Clock) (rules : Rules) (own : L
   pub seen : IsLogSeen rules clock turned.turns.looks t
   seen = log_among rules clock turned.turns.looks turned.turns.targets turned.turns.seen t one
 
-  -- the directory that its rotation makes is no own name of it
-  known_dir : HasDir t
-  known_dir = has_dir t turned.turns.looks seen.dir
-
   others_apart : (x : Target) → IsIn x targets → x.log ≢ t.log → Meet x.log x.naming t.log t.naming → ⊥
   others_apart x j = apart_of t x targets (λ y k. (log_among rules clock turned.turns.looks turned.turns.targets turned.turns.seen y k).family.kin) (targets_dont_meet rules.sets l.sets l.of_looks l.looks clock decide l.shown) j one
 
-  pub names_any : HasAnyNames t
+  pub names_any : HasNames t
   names_any = any_names rules clock turned.turns.looks t seen
 
   pub is_one : IsRotation t.naming (rotation_by t)
-  is_one = plan_is_one t names_any seen.family seen.seen.named
+  is_one = plan_is_one t names_any
 
   -- the paths beside it are neither the log's nor a member's
   pub paths_out : LieOutside (paths_beside state t targets) t.log t.naming
-  paths_out x j = ⊎_elim (λ k. name_out t.log t.naming x (dir_apart t known_dir x k)) (λ k. all_outside t.log t.naming state targets named others_apart no_state no_part x k) (in_append x (dir_paths t.ready.dir) (other_paths state t.log targets) j)
+  paths_out x j = ⊎_elim (λ k. name_out t.log t.naming x (dir_apart t names_any.dir x k)) (λ k. all_outside t.log t.naming state targets named others_apart no_state no_part x k) (in_append x (dir_paths t.ready.dir) (other_paths state t.log targets) j)

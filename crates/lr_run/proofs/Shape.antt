@@ -27,18 +27,18 @@ use Rattle.lr_due.specs.declared.answer.Due.{Due}
 use Rattle.lr_plan.specs.Asked.{Asked}
 use Rattle.lr_plan.specs.declared.looks.LogLook.{LogLook}
 use Rattle.lr_plan.specs.Planned.{decision}
-use Rattle.lr_targets.specs.AllTurns.{IsOfSome, IsOfState, StandsBetween}
+use Rattle.lr_laws_targets.specs.AllTurns.{IsOfSome, IsOfState, StandsBetween}
 use Rattle.lr_reading.proofs.Quiet.{state_quiet}
-use Rattle.lr_targets.specs.Target.{Target, rotation_of, IsGiven, IsDirSeenBy, IsJobOf}
+use Rattle.lr_laws_targets.specs.Target.{Target, rotation_of, IsGiven, IsDirSeenBy, IsJobOf}
 use Rattle.lr_laws_family.specs.Weave.{Weave, FirstWoven, Among}
 use Rattle.lr_laws_family.proofs.Weaving.{weave_on, weave_others}
-use Rattle.lr_mixed.specs.AllTurns.{AllTurnsBy, AllTurnedBy, started, IsWholeRunBy}
-use Rattle.lr_mixed.specs.Seen.{AreLogsSeen}
+use Rattle.lr_laws_targets.specs.Runs.{AllTurnsBy, AllTurnedBy, started, IsWholeRunBy}
+use Rattle.lr_laws_targets.specs.Seen.{AreLogsSeen}
 use Rattle.lr_weave.proofs.Parting.{done_turns, cut_turns}
 use Rattle.lr_weave.proofs.Planning.{ready_planned}
 use Rattle.lr_seen.specs.Targets.{groups_of, all_targets}
-use Rattle.lr_mixed.proofs.Shapes.{quiet_run_by}
-use Rattle.lr_mixed.proofs.Whole.{shown_more}
+use Rattle.lr_laws_targets.proofs.Shapes.{quiet_run_by}
+use Rattle.lr_laws_targets.proofs.Whole.{shown_more}
 use Rattle.lr_run.specs.declared.answer.Ran.{Ran}
 use Rattle.lr_run.specs.declared.answer.RunStop.{RunStop}
 use Rattle.lr_plan.specs.declared.plan.Plan.{Plan}
@@ -123,7 +123,7 @@ written_whole state clock rules ts us t a = record {
 among_later : (P : List Entry → Type 0) (xs ys : List Entry) → Among P ys → Among P (xs ++ ys)
 among_later P xs ys a = record { before = xs ++ a.before; part = a.part; after = a.after; joined = ap (λ zs. xs ++ zs) a.joined ∙ sym (append_assoc xs a.before (a.part ++ a.after)); is = a.is }
 
-given_later : {rules : List Rule} {log : Path} {n : Naming} {c : Count} {job : Option Job} (xs looks : List Entry) → IsGiven rules looks log n c job → IsGiven rules (xs ++ looks) log n c job
+given_later : {rules : List Rule} {log : Path} {n : Naming} {c : Count} {maxage : Option ℕ} {job : Option Job} (xs looks : List Entry) → IsGiven rules looks log n c maxage job → IsGiven rules (xs ++ looks) log n c maxage job
 given_later xs looks g = record {
   rule = g.rule;
   word = g.word;
@@ -132,6 +132,7 @@ given_later xs looks g = record {
   given = among_later _ xs looks g.given;
   naming_is = g.naming_is;
   count_is = g.count_is;
+  maxage_is = g.maxage_is;
   way_is = g.way_is;
 }
 
@@ -148,7 +149,6 @@ dir_later log n members job xs looks (Some (dir, mode)) s = record {
 }
 
 pub seen_later : (rules : Rules) (clock : Clock) (xs looks : List Entry) (ts : List Target) → AreLogsSeen rules clock looks ts → AreLogsSeen rules clock (xs ++ looks) ts
-unfolding given_later
 seen_later rules clock xs looks [] s = tt
 seen_later rules clock xs looks (t ∷ ts) s = (
   record {
@@ -156,8 +156,8 @@ seen_later rules clock xs looks (t ∷ ts) s = (
     family = s.0.family;
     log_seen = among_later (Sees t.log IsFile) xs looks s.0.log_seen;
     seen = shown_more t.naming t.stand.members looks (xs ++ looks) (λ e i. in_back e xs looks i) s.0.seen;
-    shows = s.0.shows;
-    maxage_is = s.0.maxage_is;
+    free = s.0.free;
+    ready = s.0.ready;
     dir = dir_later t.log t.naming t.stand.members t.job xs looks t.ready.dir s.0.dir;
     job = job_later s.0.job;
   },

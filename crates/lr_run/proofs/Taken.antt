@@ -38,7 +38,7 @@ use Rattle.lr_plan.specs.Planned.{decision, all_faults}
 use Rattle.lr_plan.specs.Steps.{steps_of_plan, state_steps}
 use Rattle.lr_plan.specs.Course.{Course}
 use Rattle.lr_plan.specs.Done.{SetsDone, rotated_logs}
-use Rattle.lr_dated_ready.specs.Hindrances.{taken}
+use Rattle.lr_chain.specs.Hindrances.{taken}
 use Rattle.lr_record.specs.After.{stamped}
 use Rattle.lr_state.specs.Written.{text_of}
 use Rattle.lr_seen.specs.Free.{reserved_by}

@@ -1,11 +1,9 @@
 -- A run of which no call failed, no program ended badly and no copy broke off turns the family of each log of its plan.
-use Rattle.std.proofs.Common.{◌≡◌, ◌≢◌, inl, inr, ⊎_elim, Option, Some, None, List, [], ◌∷◌, ◌++◌, reverse, refl, sym, ap, ◌∙◌, subst}
+use Rattle.std.proofs.Common.{◌≡◌, ◌≢◌, inl, inr, Option, Some, None, List, [], ◌∷◌, ◌++◌, reverse, refl, sym, ap, ◌∙◌, subst}
 use Rattle.lr_rules.specs.declared.clock.Clock.{Clock}
 use Rattle.lr_rules.specs.declared.fault.Fault.{Fault}
 use Rattle.lr_rules.specs.declared.path.Path.{Path}
-use Rattle.lr_rules.specs.declared.rule.Format.{Format}
 use Rattle.lr_rules.specs.declared.rules.Rules.{Rules}
-use Rattle.lr_rules.specs.Dated.{IsDatedAt}
 use Rattle.lr_host.specs.declared.entry.Entry.{Entry}
 use Rattle.lr_host.specs.declared.entry.Entry.TheVariants as entry
 use Rattle.lr_host.specs.Lists.{IsIn}
@@ -13,7 +11,6 @@ use Rattle.lr_host.specs.Opening.{IsJournal}
 use Rattle.lr_host.specs.Quiet.{AreQuiet}
 use Rattle.lr_host.specs.Told.{Made}
 use Rattle.lr_host.specs.World.{Past}
-use Rattle.lr_family.specs.Parts.{part_of, IsNumbered, IsDated}
 use Rattle.lr_copy.specs.declared.job.Job.{Job}
 use Rattle.lr_copy.specs.Fits.{ArePaths}
 use Rattle.lr_plan.specs.Asked.{Asked}
@@ -21,13 +18,11 @@ use Rattle.lr_plan.specs.Done.{PlanDone}
 use Rattle.lr_emptied.specs.Emptied.{EmptiesCopied}
 use Rattle.lr_emptied.proofs.Acts.{state_copying}
 use Rattle.lr_emptied.proofs.Entries.{none_empties, both_empty}
-use Rattle.lr_targets.specs.AllTurns.{paths_beside}
-use Rattle.lr_targets.specs.Target.{Target, IsJob}
-use Rattle.lr_chain.specs.Rotation.{places_of}
-use Rattle.lr_dated_run.proofs.PartFile.{part_no_dated}
-use Rattle.lr_mixed.specs.AllTurns.{AllTurnedBy}
-use Rattle.lr_mixed.specs.Seen.{IsLogSeen}
-use Rattle.lr_mixed.proofs.Calls.{log_paths}
+use Rattle.lr_laws_targets.specs.AllTurns.{paths_beside}
+use Rattle.lr_laws_targets.specs.Target.{Target, IsJob}
+use Rattle.lr_laws_targets.specs.Runs.{AllTurnedBy}
+use Rattle.lr_laws_targets.specs.Seen.{IsLogSeen}
+use Rattle.lr_laws_targets.proofs.CallsFit.{log_paths}
 use Rattle.lr_weave.specs.Planned.{HaveLogs, AreApart}
 use Rattle.lr_turned.proofs.Stands.{stands_first, plan_stands, plan_empties}
 use Rattle.lr_seen.specs.Targets.{groups_of}
@@ -35,26 +30,17 @@ use Rattle.lr_seen.proofs.Apart.{targets_apart}
 use Rattle.lr_seen.proofs.Ready.{plans_have_logs}
 use Rattle.lr_run.specs.Met.{MetNothing}
 use Rattle.lr_run.specs.Runs.{Inside, Worked, plan_in, dirs_in}
+use Rattle.lr_run.proofs.Members.{HasMembers, job_part, has_members}
 use Rattle.lr_run.proofs.Rotating as rotating
 use Rattle.lr_laws_family.specs.Made.{HasJob, AreOutside, RotatesAmong}
 use Rattle.lr_laws_family.specs.Members.{IsNoMember}
 use Rattle.lr_laws_family.specs.Rotation.{Rotation, By, Copy, part_paths, way_of}
 use Rattle.lr_laws_family.proofs.Whole.{turned as family_turned}
-use Rattle.lr_rotations.specs.Members as places
-use Rattle.lr_rotations.proofs.Fitting.{first_named}
-use Rattle.lr_targets.specs.Rotation.{by_of, rotation_by}
-use Rattle.lr_targets.proofs.PartFile.{job_part, part_no_member}
-use Rattle.lr_targets.proofs.SeenFits.{seen_names}
-use Rattle.lr_mixed.proofs.Plan.{any_log}
-use Rattle.lr_mixed.proofs.Seen.{numbered_seen, dated_names}
-use Rattle.lr_mixed.proofs.Whole.{rotates}
+use Rattle.lr_laws_targets.specs.Rotation.{by_of, rotation_by}
+use Rattle.lr_laws_targets.proofs.Whole.{rotates}
 use Rattle.lr_turned.specs.Copied.{CopyStands, IsSameFor}
 use Rattle.lr_turned.proofs.Rotates.{copied_among}
 use Rattle.lr_run.specs.Rotated.{rotated_in, IsTurnedAmong}
-
--- no family has both numbers and dates
-not_both : (d : Option Format) (format : Format) → d ≡ None → d ≡ Some format → ⊥
-not_both d format none some = cc
 
 module _ (state : Path) (asked : Asked) (clock : Clock) (rules : Rules) (own : List Fault) (p q : Past) (es reads acts : List Entry) (made : Made p es q) (journal : IsJournal p) (joined : reverse es ≡ reads ++ acts) (quiet : AreQuiet reads)
     (i : Inside state clock rules (Worked state rules.sets clock asked own) acts) (met : MetNothing (dirs_in (plan_in state rules.sets i.between i.within.looked clock asked)) own) (t : Target) (one : IsIn t (rotated_in state rules.sets i.between i.within.looked clock asked)) where
@@ -73,8 +59,11 @@ module _ (state : Path) (asked : Asked) (clock : Clock) (rules : Rules) (own : L
   abbrev r : Rotation
   r = rotation_by t
 
+  members : HasMembers t
+  members = has_members t (rotating.names_any state asked clock rules own p q es reads acts made journal joined quiet i met t one)
+
   log_is : t.ready.log ≡ t.log
-  log_is = any_log t (rotating.names_any state asked clock rules own p q es reads acts made journal joined quiet i met t one)
+  log_is = members.log
 
   no_source : IsNoMember t.naming t.ready.log
   no_source = subst (IsNoMember t.naming) (sym log_is) seen.family.apart
@@ -138,20 +127,7 @@ module _ (state : Path) (asked : Asked) (clock : Clock) (rules : Rules) (own : L
 
     -- the part file is no member
     part_out : IsNoMember t.naming job.part
-    part_out = go t.naming.dated refl
-      where
-        go : (d : Option Format) → t.naming.dated ≡ d → IsNoMember t.naming job.part
-        go None numbered = λ m. ⊎_elim
-            (λ (h : IsNumbered t.naming job.part). no_place numbered h.1.0 h.1.1.bound h.1.1.named)
-            (λ (h : IsDated t.naming job.part). not_both t.naming.dated h.2.format numbered h.2.dated) m
-          where
-            no_place : (none : t.naming.dated ≡ None) → places.IsNoMember t.naming job.part
-            no_place none = let h = seen_names rules clock.now.seconds all.turns.looks t (numbered_seen rules clock all.turns.looks t seen none) in
-                subst (places.IsNoMember t.naming) (sym (job_part t job h.ready is_job)) (part_no_member t.log t.naming h.family (first_named t.naming t.count (places_of t.stand.members) h.next))
-        go (Some format) dated = λ m. ⊎_elim
-            (λ (h : IsNumbered t.naming job.part). not_both t.naming.dated format h.0 dated)
-            (λ (h : IsDated t.naming job.part). let d = dated_names rules clock all.turns.looks t format seen dated in
-            part_no_dated t.log t.naming d.seconds d.ready.serial t.ready.target seen.family d.ready.target_is h.0 h.1 (subst (IsDatedAt t.naming h.0 h.1) (is_job.part_is ∙ ap part_of is_job.to_is) h.2)) m
+    part_out = subst (IsNoMember t.naming) (sym (job_part t members job job_is)) members.apart
 
     outside : (y : Path) → IsIn y (job.part ∷ others) → (y ≢ t.log) × IsNoMember t.naming y
     outside y (inl same) = ((λ e. paths.part_apart (same ∙ (e ∙ sym is_job.from_is))), subst (IsNoMember t.naming) same part_out)

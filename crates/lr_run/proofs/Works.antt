@@ -1,6 +1,6 @@
 -- The work of a run, put together of its parts.
-use Rattle.std.proofs.Common.{◌≡◌, ◌≤◌, ◌<◌, ℕ, Bool, true, false, cond, List, [], ◌∷◌, ◌++◌, length, take, map, reverse, Option, Some, None, Result, Ok, Err, OnErr, refl, sym, ap, ◌∙◌, subst, arith, append_assoc, rules}
-use Rattle.std.specs.Prelude.{OnOk, ℤ}
+use Rattle.std.proofs.Common.{◌≡◌, ◌≤◌, ◌<◌, ℕ, Bool, true, List, [], ◌∷◌, ◌++◌, length, take, map, reverse, Option, Some, None, Result, Ok, Err, OnErr, refl, sym, ap, ◌∙◌, subst, arith, append_assoc, rules}
+use Rattle.std.specs.Prelude.{OnOk}
 use Rattle.std.specs.Result.{IsErr}
 use Rattle.std.proofs.lemmas.Result.{IfOk-from_err}
 use Rattle.std.specs.List.{list_all}
@@ -16,8 +16,6 @@ use Rattle.lr_rules.specs.declared.fault.Fault.{Fault}
 use Rattle.lr_rules.specs.declared.fault.Fault.TheVariants as fault
 use Rattle.lr_rules.specs.declared.fault.StateKind.TheVariants as kind
 use Rattle.lr_rules.specs.declared.memory.Memory.{Memory}
-use Rattle.lr_rules.specs.declared.rule.Format.{Format}
-use Rattle.lr_rules.specs.declared.rule.Naming.{Naming}
 use Rattle.lr_rules.specs.declared.rule.Rule.{Rule}
 use Rattle.lr_rules.specs.declared.rules.Rules.{Rules}
 use Rattle.lr_host.specs.declared.entry.Entry.{Entry}
@@ -26,16 +24,10 @@ use Rattle.lr_host.specs.Opening.{IsJournal}
 use Rattle.lr_host.specs.Told.{Counts, NoneFell, Rose, Left, Then, not_told, is_told, WhereTold}
 use Rattle.lr_host.specs.Steps.{CanAll}
 use Rattle.lr_host.proofs.Left.{left_as, left_first, left_then}
-use Rattle.lr_stamps.specs.Dated.{clock_seconds}
 use Rattle.lr_state.specs.Table.{Entry as Row}
 use Rattle.lr_state.specs.Written.{text_of}
 use Rattle.lr_due.specs.declared.answer.Due.{Due}
 use Rattle.lr_due.specs.declared.answer.Due.TheVariants as due
-use Rattle.lr_family.specs.declared.stand.Member.{Member}
-use Rattle.lr_family.specs.declared.stand.Stand.{Stand}
-use Rattle.lr_chain.specs.Ready.{highest_path}
-use Rattle.lr_dated_chain.specs.Next.{has_serials}
-use Rattle.lr_dated_ready.specs.Hindrances.{is_stamp, fault_at, too_high, taken, dated_hindrances}
 use Rattle.lr_plan.specs.Asked.{Asked}
 use Rattle.lr_plan.specs.declared.looks.LogLook.{LogLook}
 use Rattle.lr_plan.specs.declared.looks.Looks.{Looks}
@@ -49,7 +41,7 @@ use Rattle.lr_plan.specs.Course.{Course}
 use Rattle.lr_plan.specs.Done.{SetsDone, rotated_logs}
 use Rattle.lr_plan.specs.Cut.{SetsCut}
 use Rattle.lr_plan.specs.Asking.{asks, CanMake, CanEach, CanSet, CanSets}
-use Rattle.lr_plan.specs.Planned.{decision, stand_for, standing, numbered_hindrances, hindrances_by, hindrances, is_too_high, where_due, log_faults, all_plans, all_faults, plan_of, CanPlanAll}
+use Rattle.lr_plan.specs.Planned.{decision, stand_for, hindrances, where_due, log_faults, all_plans, all_faults, plan_of, CanPlanAll}
 use Rattle.lr_plan.specs.Steps.{steps_of_set, steps_of_plan, state_steps}
 use Rattle.lr_host.proofs.Counts.{AreFree, free_none, free_on, adds_on, adds_free, adds_call}
 use Rattle.lr_acts.specs.declared.progress.Progress.{Progress}
@@ -73,6 +65,7 @@ use Rattle.lr_seen.specs.Free.{reserved_by}
 use Rattle.lr_seen.specs.Targets.{groups_of, all_targets}
 use Rattle.lr_seen.proofs.Apart.{targets_dont_meet}
 use Rattle.lr_seen.proofs.Built.{can_plan_set}
+use Rattle.lr_seen.proofs.Hindrances.{each_hindrance}
 use Rattle.lr_seen.proofs.Quiet.{whole_quiet}
 use Rattle.lr_seen.proofs.Ready.{plans_have_logs, plans_read_own}
 use Rattle.lr_seen.proofs.Seen.{targets_seen, targets_have_names, targets_have_paths}
@@ -103,38 +96,8 @@ high_free path = record { calls = refl; scripts = refl; none_around = ((λ h. h)
 taken_free : (path : Path) → AreFree (fault.Taken path ∷ [])
 taken_free path = record { calls = refl; scripts = refl; none_around = ((λ h. h), tt) }
 
--- of a log with numbers
-numbered_free : (rule : Rule) (look : LogLook) → AreFree (numbered_hindrances rule look)
-numbered_free rule look = go look.stand.there (is_too_high rule look)
-  where
-    go : (a b : Bool) → AreFree (cond a (cond b (fault.TooHigh (highest_path look.family.naming) ∷ []) []) (fault.NoDir look.family.naming.dir ∷ []))
-    go true true = high_free (highest_path look.family.naming)
-    go true false = free_none
-    go false b = no_dir_free look.family.naming.dir
-
--- of a log with dates
-at_free : (why : Path → Fault) → ((path : Path) → AreFree (why path ∷ [])) → (seconds : ℤ) (serial : ℕ) (ms : List Member) → AreFree (fault_at why seconds serial ms)
-at_free why one seconds serial [] = free_none
-at_free why one seconds serial (m ∷ ms) = go (is_stamp seconds serial m.place) (at_free why one seconds serial ms)
-  where
-    go : (b : Bool) → AreFree (fault_at why seconds serial ms) → AreFree (cond b (why m.path ∷ []) (fault_at why seconds serial ms))
-    go true rest = one m.path
-    go false rest = rest
-
-dated_free : (n : Naming) (stand : Stand) (seconds : ℤ) → AreFree (dated_hindrances n stand seconds)
-dated_free n stand seconds = go stand.there (has_serials n.dated)
-  where
-    go : (a b : Bool) → AreFree (cond a (cond b (fault_at too_high seconds 4294967295 stand.members) (fault_at taken seconds 0 stand.members)) (fault.NoDir n.dir ∷ []))
-    go true true = at_free too_high high_free seconds 4294967295 stand.members
-    go true false = at_free taken taken_free seconds 0 stand.members
-    go false b = no_dir_free n.dir
-
 hindered_free : (clock : Clock) (rule : Rule) (look : LogLook) → AreFree (hindrances clock rule look)
-hindered_free clock rule look = go look.family.naming.dated
-  where
-    go : (d : Option Format) → AreFree (hindrances_by d clock rule (standing rule look))
-    go None = numbered_free rule (standing rule look)
-    go (Some format) = dated_free look.family.naming (stand_for rule look) (clock_seconds look.family.naming.dated clock)
+hindered_free clock rule look = each_hindrance AreFree free_none high_free taken_free look.family.naming rule.count clock (stand_for rule look) (λ none. no_dir_free look.family.naming.dir)
 
 due_free : (d : Due) (fs : List Fault) → AreFree fs → AreFree (where_due d fs)
 due_free (due.Yes why) fs h = h

@@ -12,9 +12,9 @@ use Rattle.lr_plan.specs.Planned.{decision}
 use Rattle.lr_laws_family.specs.Made.{NoneAttached}
 use Rattle.lr_laws_family.specs.Members.{AreThere}
 use Rattle.lr_laws_family.specs.Turned.{IsTurned}
-use Rattle.lr_targets.specs.AllTurns.{paths_beside}
-use Rattle.lr_targets.specs.Rotation.{rotation_by}
-use Rattle.lr_targets.specs.Target.{Target}
+use Rattle.lr_laws_targets.specs.AllTurns.{paths_beside}
+use Rattle.lr_laws_targets.specs.Rotation.{rotation_by}
+use Rattle.lr_laws_targets.specs.Target.{Target}
 use Rattle.lr_seen.specs.Targets.{all_targets}
 use Rattle.lr_run.specs.Runs.{Looked}
 

@@ -11,7 +11,7 @@ ghost use Rattle.lr_host.specs.World.{Past};
 ghost use Rattle.lr_host.specs.Opening.{IsJournal};
 ghost use Rattle.lr_host.specs.Quiet.{AreQuiet};
 ghost use Rattle.lr_host.specs.Told.{Made};
-ghost use Rattle.lr_targets.specs.Target.{Target};
+ghost use Rattle.lr_laws_targets.specs.Target.{Target};
 ghost use Rattle.lr_plan.specs.Asked.{Asked};
 ghost use Rattle.lr_run.specs.Met.{MetNothing};
 ghost use Rattle.lr_run.specs.Rotated.{rotated_in, IsTurnedAmong};

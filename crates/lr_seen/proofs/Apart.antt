@@ -25,7 +25,7 @@ use Rattle.lr_looks.specs.Families.{FamilySight, Stood, Stopped, LookedLog, look
 use Rattle.lr_looks.specs.Found.{FoundLog}
 use Rattle.lr_looks.specs.Sets.{where_in, of_set, looked_in, HaveLooksFrom}
 use Rattle.lr_looks.specs.Shown.{ShowsLooks}
-use Rattle.lr_targets.specs.Target.{Target}
+use Rattle.lr_laws_targets.specs.Target.{Target}
 use Rattle.lr_weave.specs.Fitting.{NoneMeets, DontMeet}
 use Rattle.lr_weave.specs.Planned.{NoneHas, AreApart}
 use Rattle.lr_seen.specs.Targets.{target_of, where_free, targets_of, all_targets}

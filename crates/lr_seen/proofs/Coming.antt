@@ -26,7 +26,7 @@ use Rattle.lr_looks.specs.Found.{FoundLog}
 use Rattle.lr_looks.specs.Sets.{where_in, of_set, looked_in, HaveLooksFrom}
 use Rattle.lr_looks.specs.Shown.{ShowsLooks}
 use Rattle.lr_looks.specs.Sights.{WordSight, found_at, found_by, found_of, ShowsWord, ShowWords}
-use Rattle.lr_targets.specs.Target.{Target}
+use Rattle.lr_laws_targets.specs.Target.{Target}
 use Rattle.lr_laws_family.specs.Weave.{Among}
 use Rattle.lr_seen.specs.Targets.{target_of, where_free, targets_of, all_targets}
 use Rattle.lr_seen.proofs.Elements.{in_flat}

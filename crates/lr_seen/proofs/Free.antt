@@ -21,7 +21,7 @@ use Rattle.lr_looks.specs.Families.{LookedLog, looked_at}
 use Rattle.lr_looks.specs.Found.{FoundLog}
 use Rattle.lr_looks.specs.Sets.{looked_in}
 use Rattle.lr_looks.specs.Shown.{ShowsLooks}
-use Rattle.lr_targets.specs.Target.{Target}
+use Rattle.lr_laws_targets.specs.Target.{Target}
 use Rattle.lr_seen.specs.Free.{IsFreeOf, AreFreeOf}
 use Rattle.lr_seen.specs.Targets.{all_targets}
 use Rattle.lr_seen.proofs.Apart.{kept_each}

@@ -40,8 +40,8 @@ use Rattle.lr_looks.specs.Shown.{ShowsLooks}
 use Rattle.lr_looks.specs.Sights.{found_at}
 use Rattle.lr_sought.specs.Finds.{FindsFile}
 use Rattle.lr_sought.proofs.Stood.{stood_is_found}
-use Rattle.lr_targets.specs.Target.{Gives}
-use Rattle.lr_targets.proofs.Given.{Stretch, stretch, still_file}
+use Rattle.lr_laws_targets.specs.Target.{Gives}
+use Rattle.lr_laws_targets.proofs.Given.{Stretch, stretch, still_file}
 use Rattle.lr_seen.proofs.Coming.{IsFoundBy, found_word, IsAsked, was_asked}
 use Rattle.lr_seen.proofs.Elements.{in_list, map_at, unmap_at}
 use Rattle.lr_seen.proofs.Quiet.{looking_words}

@@ -16,7 +16,7 @@ use Rattle.lr_looks.specs.Families.{LookedLog}
 use Rattle.lr_looks.specs.Found.{FoundLog}
 use Rattle.lr_looks.specs.Sets.{looked_in}
 use Rattle.lr_looks.specs.Shown.{ShowsLooks}
-use Rattle.lr_targets.specs.Target.{Target}
+use Rattle.lr_laws_targets.specs.Target.{Target}
 use Rattle.lr_seen.specs.Targets.{all_targets}
 use Rattle.lr_seen.proofs.Apart.{OffFound, kept_off}
 use Rattle.lr_seen.proofs.Coming.{Comes, comes_from, was_looked, in_looked, in_files}

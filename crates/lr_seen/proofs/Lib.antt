@@ -5,6 +5,7 @@ mod Directory
 pub mod Elements
 pub mod Free
 pub mod Gives
+pub mod Hindrances
 pub mod Kept
 pub mod Listed
 pub mod Quiet

@@ -20,8 +20,7 @@ use Rattle.lr_family.specs.Listed.{HasListed, ShowsListing}
 use Rattle.lr_family.specs.Parts.{part_if_file, part_seen, part_in, part_look, PartsAmong, ShowsParts}
 use Rattle.lr_looks.specs.Families.{FamilySight, Stood, Stopped, ShowsFamily, behind_listing, with_listing, not_listed, ShowFamilies, LookedLog, looked_by, looked_of}
 use Rattle.lr_looks.specs.Found.{FoundLog}
-use Rattle.lr_rotations.specs.Shown.{SawDir}
-use Rattle.lr_laws_family.specs.Shown.{Shown}
+use Rattle.lr_laws_family.specs.Shown.{SawDir, Shown}
 use Rattle.lr_laws_family.proofs.Shows.{members_shown}
 use Rattle.lr_seen.proofs.Elements.{in_list, in_flat}
 

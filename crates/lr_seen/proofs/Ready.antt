@@ -3,29 +3,33 @@ use Rattle.std.proofs.Common.{◌≡◌, ◌↔◌, ℕ, Bool, true, false, not,
 use Rattle.lr_rules.specs.declared.clock.Clock.{Clock}
 use Rattle.lr_rules.specs.declared.fault.Fault.{Fault}
 use Rattle.lr_rules.specs.declared.path.Path.{Path}
+use Rattle.lr_rules.specs.declared.rule.Count.{Count}
 use Rattle.lr_rules.specs.declared.rule.Format.{Format}
+use Rattle.lr_rules.specs.declared.rule.Make.{Make}
 use Rattle.lr_rules.specs.declared.rule.Naming.{Naming}
 use Rattle.lr_rules.specs.declared.rule.Rule.{Rule}
 use Rattle.lr_rules.specs.declared.rule.Way.{Way}
 use Rattle.lr_rules.specs.declared.rule.Way.TheVariants as way
 use Rattle.lr_due.specs.declared.answer.Due.{Due}
 use Rattle.lr_due.specs.declared.answer.Due.TheVariants as due
+use Rattle.lr_family.specs.declared.stand.Member.{Member}
 use Rattle.lr_scripts.specs.declared.command.Command.{Command}
 use Rattle.lr_scripts.specs.declared.removal.Removal.{Removal}
 use Rattle.lr_chain.specs.declared.ready.Ready.{Ready}
-use Rattle.lr_chain.specs.Ready.{removal_at}
-use Rattle.lr_chain.specs.Rotation.{places_of, leftovers, retired}
+use Rattle.lr_chain.specs.Prepared.{ready_by}
+use Rattle.lr_chain.specs.Ready.{removal_at, with_dir}
+use Rattle.lr_chain.specs.Rotation.{places_of, leftovers, going, retired}
 use Rattle.lr_copy.specs.declared.job.Job.{Job}
 use Rattle.lr_host.specs.declared.entry.Entry.{Entry}
 use Rattle.lr_plan.specs.declared.looks.LogLook.{LogLook}
 use Rattle.lr_plan.specs.declared.looks.SetLooks.{SetLooks}
 use Rattle.lr_plan.specs.declared.plan.LogPlan.{LogPlan}
 use Rattle.lr_commands.specs.Commands.{spaced, script, where_so, mail, with_programs}
-use Rattle.lr_plan.specs.Planned.{standing, copy_job, job_by, going_by, ready_by, ready_for, with_removals, dressed, hindrances, plan_with, log_plan, none_hinders, plans_of, where_due, log_plans, all_plans}
+use Rattle.lr_plan.specs.Planned.{dir_of, stand_for, standing, make_of, copy_job, job_by, ready_for, with_removals, dressed, hindrances, plan_with, log_plan, none_hinders, plans_of, where_due, log_plans, all_plans}
 use Rattle.lr_looks.specs.Shown.{ShowsLooks}
-use Rattle.lr_dated.specs.Steps.{Ranked}
-use Rattle.lr_dated_chain.specs.Ready.{removal_of}
-use Rattle.lr_targets.specs.Target.{Target, IsJob, HasJob}
+use Rattle.lr_chain.specs.DatedRotation.{Ranked}
+use Rattle.lr_chain.specs.DatedReady.{removal_of}
+use Rattle.lr_laws_targets.specs.Target.{Target, IsReadyBy, IsJob, HasJob}
 use Rattle.lr_weave.specs.Fitting.{ReadsNothing, ReadsThis, ReadThemselves, ReadsOwn, ReadOwn, ReadOnlyOwn}
 use Rattle.lr_weave.specs.Planned.{bare_removal, bare, IsReadyFor, AreReadyFor, HaveLogs}
 use Rattle.lr_seen.specs.Targets.{target_of, where_free, targets_of, groups_of}
@@ -127,13 +131,15 @@ bare_days : (ms : List Ranked) → map bare_removal (map removal_of ms) ≡ map 
 bare_days [] = refl
 bare_days (m ∷ ms) = ap (λ rs. removal_of m ∷ rs) (bare_days ms)
 
-bare_leftovers : (d : Option Format) (clock : Clock) (rule : Rule) (look : LogLook) → map bare_removal (ready_by d clock rule look).leftovers ≡ (ready_by d clock rule look).leftovers
-bare_leftovers None clock rule look = bare_numbers look.family.naming (leftovers rule.count (places_of look.stand.members))
-bare_leftovers (Some format) clock rule look = refl
+bare_leftovers : (d : Option Format) (log : Path) (n : Naming) (c : Count) (maxage : Option ℕ) (clock : Clock) (anew : Make) (members : List Member)
+    → map bare_removal (ready_by d log n c maxage clock anew members).leftovers ≡ (ready_by d log n c maxage clock anew members).leftovers
+bare_leftovers None log n c maxage clock anew members = bare_numbers n (leftovers c (places_of members))
+bare_leftovers (Some format) log n c maxage clock anew members = refl
 
-bare_retired : (d : Option Format) (clock : Clock) (rule : Rule) (look : LogLook) → map bare_removal (ready_by d clock rule look).retire ≡ (ready_by d clock rule look).retire
-bare_retired None clock rule look = bare_numbers look.family.naming (retired rule.count (going_by None clock.now rule look))
-bare_retired (Some format) clock rule look = bare_days _
+bare_retired : (d : Option Format) (log : Path) (n : Naming) (c : Count) (maxage : Option ℕ) (clock : Clock) (anew : Make) (members : List Member)
+    → map bare_removal (ready_by d log n c maxage clock anew members).retire ≡ (ready_by d log n c maxage clock anew members).retire
+bare_retired None log n c maxage clock anew members = bare_numbers n (retired c (going c maxage clock.now.seconds members))
+bare_retired (Some format) log n c maxage clock anew members = bare_days _
 
 ready_bare : (mailer : Path) (rule : Rule) (ready : Ready) → map bare_removal ready.leftovers ≡ ready.leftovers → map bare_removal ready.retire ≡ ready.retire → bare (dressed rule mailer ready) ≡ ready
 ready_bare mailer rule ready first last =
@@ -141,17 +147,37 @@ ready_bare mailer rule ready first last =
     ∙ ap (λ (rs : List Removal). with_removals ready.leftovers rs ready) (bare_are mailer rule ready.log ready.retire ∙ last)
 
 -- the rotation begins at the log
-at_log : (d : Option Format) (clock : Clock) (rule : Rule) (look : LogLook) → (ready_by d clock rule look).log ≡ look.path
-at_log None clock rule look = refl
-at_log (Some format) clock rule look = refl
+at_log : (d : Option Format) (log : Path) (n : Naming) (c : Count) (maxage : Option ℕ) (clock : Clock) (anew : Make) (members : List Member) → (ready_by d log n c maxage clock anew members).log ≡ log
+at_log None log n c maxage clock anew members = refl
+at_log (Some format) log n c maxage clock anew members = refl
 
-ready_log : (clock : Clock) (mailer : Path) (rule : Rule) (look : LogLook) → IsReadyFor (target_of clock rule look) (log_plan clock mailer rule look)
-ready_log clock mailer rule look = record {
-  log_is = at_log look.family.naming.dated clock rule (standing rule look);
-  job = target_job clock rule look;
-  ready_is = ready_bare mailer rule (ready_for clock rule look) (bare_leftovers look.family.naming.dated clock rule (standing rule look)) (bare_retired look.family.naming.dated clock rule (standing rule look));
-  job_is = refl;
-}
+-- without the directory that it makes it is the same
+less_dir : (dir : Option (Path × Option ℕ)) (d : Option Format) (log : Path) (n : Naming) (c : Count) (maxage : Option ℕ) (clock : Clock) (anew : Make) (members : List Member)
+    → with_dir None (with_dir dir (ready_by d log n c maxage clock anew members)) ≡ ready_by d log n c maxage clock (ready_by d log n c maxage clock anew members).make members
+less_dir dir None log n c maxage clock anew members = refl
+less_dir dir (Some format) log n c maxage clock anew members = refl
+
+module _ (clock : Clock) (rule : Rule) (look : LogLook) where
+  abbrev n : Naming
+  n = look.family.naming
+
+  abbrev anew : Make
+  anew = make_of rule.create look.seen
+
+  abbrev members : List Member
+  members = (stand_for rule look).members
+
+  pub ready_by_clock : IsReadyBy clock (target_of clock rule look)
+  ready_by_clock = less_dir (dir_of rule look) n.dated look.path n rule.count rule.maxage clock anew members
+
+  ready_log : (mailer : Path) → IsReadyFor (target_of clock rule look) (log_plan clock mailer rule look)
+  ready_log mailer = record {
+    log_is = at_log n.dated look.path n rule.count rule.maxage clock anew members;
+    job = target_job clock rule look;
+    ready_is = ready_bare mailer rule (ready_for clock rule look)
+        (bare_leftovers n.dated look.path n rule.count rule.maxage clock anew members) (bare_retired n.dated look.path n rule.count rule.maxage clock anew members);
+    job_is = refl;
+  }
 
 pub ready_both : (ts us : List Target) (xs ys : List LogPlan) → AreReadyFor ts xs → AreReadyFor us ys → AreReadyFor (ts ++ us) (xs ++ ys)
 ready_both [] us [] ys a b = b
@@ -160,7 +186,7 @@ ready_both (t ∷ ts) us [] ys a b = absurd a
 ready_both (t ∷ ts) us (x ∷ xs) ys a b = (a.0, ready_both ts us xs ys a.1 b)
 
 ready_free : (clock : Clock) (fs : List Fault) (mailer : Path) (rule : Rule) (look : LogLook) → AreReadyFor (where_free fs (target_of clock rule look)) (none_hinders fs (log_plan clock mailer rule look ∷ []))
-ready_free clock [] mailer rule look = (ready_log clock mailer rule look, tt)
+ready_free clock [] mailer rule look = (ready_log clock rule look mailer, tt)
 ready_free clock (f ∷ fs) mailer rule look = tt
 
 ready_where : (d : Due) (ts : List Target) (xs : List LogPlan) → AreReadyFor ts xs → AreReadyFor (where_due d ts) (where_due d xs)

@@ -1,17 +1,12 @@
 -- Each log that a plan rotates was seen, with its members.
-use Rattle.std.proofs.Common.{◌≡◌, ◌≢◌, ◌↔◌, inl, inr, ℕ, ◌+◌, ◌&&◌, ◌||◌, bytes_eq, Bool, true, false, not, cond, if◌then◌else◌, true≢false, List, [], ◌∷◌, ◌++◌, Option, Some, None, slice_get, refl, sym, ap, ◌∙◌, subst, arith, eq-eqb}
+use Rattle.std.proofs.Common.{◌≡◌, ◌≢◌, ◌↔◌, inl, inr, ℕ, ◌+◌, ◌&&◌, ◌||◌, bytes_eq, Bool, true, false, not, if◌then◌else◌, true≢false, List, [], ◌∷◌, ◌++◌, Option, Some, None, slice_get, refl, sym, ap, ◌∙◌, subst, arith}
 use Rattle.std.specs.List.{list_any}
 use Rattle.std.specs.List.Sorted.{IsStrictlySortedBy}
-use Rattle.std.specs.Prelude.{ℤ}
 use Rattle.std.proofs.lemmas.Bool.{and_parts, not-true, or_left, or_right}
-use Rattle.std.proofs.lemmas.List.Folds.{list_any_at}
 use Rattle.std.proofs.lemmas.Slice.Eq.{bytes_eq-Decides}
 use Rattle.lr_rules.specs.declared.clock.Clock.{Clock}
 use Rattle.lr_rules.specs.declared.fault.Fault.{Fault}
-use Rattle.lr_rules.specs.declared.fault.Fault.TheVariants as fault
 use Rattle.lr_rules.specs.declared.path.Path.{Path}
-use Rattle.lr_rules.specs.declared.rule.Count.{Count}
-use Rattle.lr_rules.specs.declared.rule.Format.{Format}
 use Rattle.lr_rules.specs.declared.rule.Naming.{Naming}
 use Rattle.lr_rules.specs.declared.rule.Rule.{Rule}
 use Rattle.lr_rules.specs.declared.rule.Way.{Way}
@@ -29,19 +24,16 @@ use Rattle.lr_host.specs.declared.thing.Seen.{Seen}
 use Rattle.lr_host.specs.Lists.{IsIn}
 use Rattle.lr_host.specs.Looks.{Sees, IsFile, is_dir_kind, is_dir}
 use Rattle.lr_host.proofs.Lists.{in_to, in_front, in_back}
-use Rattle.lr_family.specs.declared.stand.Member.{Member}
-use Rattle.lr_family.specs.declared.stand.Stand.{Stand}
 use Rattle.lr_family.specs.Kin.{IsKin}
 use Rattle.lr_family.specs.Parts.{part_of}
-use Rattle.lr_family.specs.Stands.{number_in, AreNewestFirst}
+use Rattle.lr_family.specs.Stands.{AreNewestFirst}
 use Rattle.lr_glob.proofs.Seeking.{found_were_seen}
 use Rattle.lr_kept.specs.declared.choice.Choice.TheVariants.{Kept}
 use Rattle.lr_kept.proofs.Elements.{same_read}
 use Rattle.lr_copy.specs.declared.job.Job.{Job}
-use Rattle.lr_chain.specs.Ready.{is_highest, highest_path}
 use Rattle.lr_plan.specs.declared.looks.LogLook.{LogLook}
 use Rattle.lr_plan.specs.declared.looks.SetLooks.{SetLooks}
-use Rattle.lr_plan.specs.Planned.{is_made, mode_of, dir_is_log, makes_dir, dir_of, empty_stand, stand_for, with_stand, standing, keeps_all, is_too_high, numbered_hindrances, hindrances_by, ready_for, job_by}
+use Rattle.lr_plan.specs.Planned.{is_made, mode_of, dir_is_log, makes_dir, empty_stand, stand_for, with_stand, standing, ready_for, job_by}
 use Rattle.lr_looks.specs.Asked.{CanAsk}
 use Rattle.lr_looks.specs.Families.{LookedLog}
 use Rattle.lr_looks.specs.Choices.{kept_of}
@@ -49,24 +41,23 @@ use Rattle.lr_looks.specs.Found.{FoundLog, HasLogPath, HaveLogPaths}
 use Rattle.lr_looks.specs.Sets.{looked_in}
 use Rattle.lr_looks.specs.Shown.{ShowsLooks}
 use Rattle.lr_looks.proofs.Kindred.{kin_of}
-use Rattle.lr_rotations.specs.Shown.{SawDir}
-use Rattle.lr_targets.specs.Target.{Target, IsOneTooHigh, IsDirSeenBy, Gives}
+use Rattle.lr_laws_targets.specs.Target.{Target, IsDirSeenBy, Gives}
 use Rattle.lr_laws_family.specs.Weave.{Among}
-use Rattle.lr_dated_ready.specs.Hindrances.{dated_hindrances}
 use Rattle.lr_laws_family.specs.Members.{IsFamily}
-use Rattle.lr_laws_family.specs.Shown.{no_dir, Shown}
+use Rattle.lr_laws_family.specs.Shown.{SawDir, no_dir, Shown}
 use Rattle.lr_laws_family.proofs.DatedNames.{no_member}
-use Rattle.lr_dated_run.specs.Own.{HaveAnyNames}
-use Rattle.lr_mixed.specs.Seen.{IsSeenBy, IsLogSeen, AreLogsSeen}
-use Rattle.lr_mixed.proofs.Seen.{have_names}
-use Rattle.lr_seen.specs.Targets.{target_by, target_of, all_targets}
+use Rattle.lr_laws_targets.specs.Apart.{HaveNames}
+use Rattle.lr_laws_targets.specs.Seen.{IsLogSeen, AreLogsSeen}
+use Rattle.lr_laws_targets.proofs.LogSeen.{have_names}
+use Rattle.lr_seen.specs.Targets.{target_of, all_targets}
 use Rattle.lr_seen.proofs.Elements.{in_list}
 use Rattle.lr_seen.proofs.Apart.{kept_at}
 use Rattle.lr_seen.proofs.Coming.{Comes, comes_from, was_looked, in_kept, IsFrom, came_from}
 use Rattle.lr_seen.proofs.Directory.{dir_apart}
 use Rattle.lr_seen.proofs.Gives.{all_in, gives_kept}
+use Rattle.lr_seen.proofs.Hindrances.{there_of}
 use Rattle.lr_seen.proofs.Listed.{SawParent, WasShown, all_shown}
-use Rattle.lr_seen.proofs.Ready.{by_copy, by_rename, target_job}
+use Rattle.lr_seen.proofs.Ready.{by_copy, by_rename, target_job, ready_by_clock}
 
 -- ---- the family
 
@@ -145,39 +136,6 @@ has_in x (y ∷ ys) h = go (λ k. has_in x ys k) (bytes_eq x y) refl h
 stale_stands : (clock : Clock) (rule : Rule) (look : LogLook) (job : Job) → (target_of clock rule look).job ≡ Some job → job.stale ≡ true → IsIn job.part (stand_for rule look).parts
 stale_stands clock rule look job is stale = let by = by_copy rule.way (standing rule look) (ready_for clock rule look).target job is in
     subst (λ (j : Job). IsIn j.part (stand_for rule look).parts) by.1 (has_in (part_of (ready_for clock rule look).target) (stand_for rule look).parts (ap (λ (j : Job). j.stale) by.1 ∙ stale))
-
--- ---- nothing hinders
-
-free_means : (there high : Bool) (a b : Fault) → cond there (cond high (a ∷ []) []) (b ∷ []) ≡ [] → (there ≡ true) × (high ≡ false)
-free_means true true a b e = absurd (cc)
-free_means true false a b e = (refl, refl)
-free_means false high a b e = absurd (cc)
-
--- the directory is there, and no member has to move beyond the highest number
-is_free : (rule : Rule) (look : LogLook) → numbered_hindrances rule look ≡ [] → (look.stand.there ≡ true) × (is_too_high rule look ≡ false)
-is_free rule look e = free_means look.stand.there (is_too_high rule look) (fault.TooHigh (highest_path look.family.naming)) (fault.NoDir look.family.naming.dir) e
-
-is_there : (there : Bool) (fs : List Fault) (f : Fault) → cond there fs (f ∷ []) ≡ [] → there ≡ true
-is_there true fs f e = refl
-is_there false fs f e = absurd (cc)
-
-dated_free : (n : Naming) (stand : Stand) (seconds : ℤ) → dated_hindrances n stand seconds ≡ [] → stand.there ≡ true
-dated_free n stand seconds e = is_there stand.there _ (fault.NoDir n.dir) e
-
-not_high : (n : Naming) (c : Count) (members : List Member) → (keeps_all c && list_any (is_highest n) members) ≡ false → IsOneTooHigh n c members → ⊥
-not_high n c members e h =
-    let top = eq-eqb (n.start + number_in h.1.1.place) 4294967295 h.1.4 in
-    clash (keeps_all c) (list_any (is_highest n) members) (ap keeps_all h.0) (list_any_at (is_highest n) members h.1.0 h.1.1 h.1.2 (ap (is_highest n) h.1.3 ∙ top)) e
-  where
-    clash : (a b : Bool) → a ≡ true → b ≡ true → (a && b) ≡ false → ⊥
-    clash false b p q r = cc
-    clash true false p q r = cc
-    clash true true p q r = cc
-
--- of either kind: its directory is there
-there_of : (d : Option Format) (clock : Clock) (rule : Rule) (look : LogLook) → hindrances_by d clock rule look ≡ [] → look.stand.there ≡ true
-there_of None clock rule look free = (is_free rule look free).0
-there_of (Some format) clock rule look free = dated_free look.family.naming look.stand _ free
 
 -- ---- what stands as the rotation begins
 
@@ -260,18 +218,6 @@ module _ (rule : Rule) (look : LogLook) (ts : List Entry) (shown : WasShown look
 
 -- ---- one log, and all
 
--- its rotation is that of the members that were seen, where this stands of its family
-shows_by : (ts : List Entry) (clock : Clock) (rule : Rule) (look : LogLook) (dir : Option (Path × Option ℕ)) (stand : Stand) → (d : Option Format) → look.family.naming.dated ≡ d → hindrances_by d clock rule (with_stand stand look) ≡ []
-    → IsSeenBy d rule.maxage clock (target_by d dir clock rule (with_stand stand look))
-shows_by ts clock rule look dir stand None e free =
-    let f = is_free rule (with_stand stand look) free in
-    record {
-      from_is = refl;
-      low = not_high look.family.naming rule.count stand.members f.1;
-      ready = record { leftovers_are = refl; no_dir = refl; moves_are = refl; log_is = refl; target_is = refl; make_is = refl; retire_is = refl };
-    }
-shows_by ts clock rule look dir stand (Some format) e free = record { free = free; ready = refl }
-
 target_seen : {reserved : List Path} (rules : Rules) (sets : List SetLooks) (faults : List Fault) (ts : List Entry) (clock : Clock) (t : Target) → (s : ShowsLooks reserved rules.sets sets faults ts) → Comes clock rules.sets sets t → IsLogSeen rules clock ts t
 target_seen rules sets faults ts clock t s c = subst (IsLogSeen rules clock ts) (sym c.is) (record {
   given = record {
@@ -288,15 +234,15 @@ target_seen rules sets faults ts clock t s c = subst (IsLogSeen rules clock ts) 
     };
     naming_is = ap (naming_of o.by_word.word.rule) (sym o.path_is) ∙ (by_rule rules sets faults ts x s looked ∙ o.naming_is);
     count_is = ap (λ (r : Rule). r.count) (sym same);
+    maxage_is = ap (λ (r : Rule). r.maxage) (sym same);
     way_is = subst (λ (r : Rule). (r.way ≡ Rename) ↔ ((target_of clock c.rule c.look).job ≡ None)) same (by_rename c.rule.way (standing c.rule c.look) (ready_for clock c.rule c.look).target);
   };
-  log_seen = sees_file x.path o.found.seen ts o.file (subst (λ (p : Path). IsIn (entry.Look p (Some o.found.seen)) ts) o.path_is look);
   family = looked_family rules sets faults ts x s looked;
-  seen = stand_shown c.rule c.look ts shown (makes_dir c.rule c.look) refl (there_of c.look.family.naming.dated clock c.rule (standing c.rule c.look) c.free);
-  shows = subst (λ (r : Rule). IsSeenBy c.look.family.naming.dated r.maxage clock (target_of clock c.rule c.look)) same
-      (shows_by ts clock c.rule c.look (dir_of c.rule c.look) (stand_for c.rule c.look) c.look.family.naming.dated refl c.free);
-  maxage_is = ap (λ (r : Rule). r.maxage) (sym same);
-  dir = dir_seen c.rule c.look ts shown (ready_for clock c.rule c.look).target (looked_format rules sets faults ts x s looked) (makes_dir c.rule c.look) refl (there_of c.look.family.naming.dated clock c.rule (standing c.rule c.look) c.free);
+  log_seen = sees_file x.path o.found.seen ts o.file (subst (λ (p : Path). IsIn (entry.Look p (Some o.found.seen)) ts) o.path_is look);
+  seen = stand_shown c.rule c.look ts shown (makes_dir c.rule c.look) refl there;
+  free = c.free;
+  ready = ready_by_clock clock c.rule c.look;
+  dir = dir_seen c.rule c.look ts shown (ready_for clock c.rule c.look).target (looked_format rules sets faults ts x s looked) (makes_dir c.rule c.look) refl there;
   job = λ job is. (target_job clock c.rule c.look job is, λ stale. let old = shown.1 job.part (part_stood c.rule c.look ts shown (makes_dir c.rule c.look) job.part (stale_stands clock c.rule c.look job is stale)) in sees_file job.part old.0 ts old.1 old.2);
 })
   where
@@ -316,6 +262,9 @@ target_seen rules sets faults ts clock t s c = subst (IsLogSeen rules clock ts) 
     shown : WasShown x.naming x.stand ts
     shown = all_shown ts s.kept s.entries.second.listings s.entries.second.families.sights s.entries.back (λ e i. subst (IsIn e) (sym s.entries.joined) (in_back e s.entries.front s.entries.back i)) s.entries.second.families.shown
         x (subst (IsIn x) s.entries.second.families.looked_are looked)
+
+    there : (stand_for c.rule c.look).there ≡ true
+    there = there_of c.look.family.naming c.rule.count clock (stand_for c.rule c.look) c.free
 
     none_more : (n : ℕ) → 0 + n ≡ n
     none_more n = omega arith
@@ -339,7 +288,7 @@ each_seen rules clock ts (u ∷ us) h = (h u (inl refl), each_seen rules clock t
 pub targets_seen : {reserved : List Path} (rules : Rules) (sets : List SetLooks) (faults : List Fault) (ts : List Entry) (clock : Clock) (decide : Rule → LogLook → Due) → ShowsLooks reserved rules.sets sets faults ts → AreLogsSeen rules clock ts (all_targets clock decide rules.sets sets)
 targets_seen rules sets faults ts clock decide s = each_seen rules clock ts (all_targets clock decide rules.sets sets) (λ t i. target_seen rules sets faults ts clock t s (comes_from clock decide rules.sets sets t i))
 
-pub targets_have_names : {reserved : List Path} (rules : Rules) (sets : List SetLooks) (faults : List Fault) (ts : List Entry) (clock : Clock) (decide : Rule → LogLook → Due) → ShowsLooks reserved rules.sets sets faults ts → HaveAnyNames (all_targets clock decide rules.sets sets)
+pub targets_have_names : {reserved : List Path} (rules : Rules) (sets : List SetLooks) (faults : List Fault) (ts : List Entry) (clock : Clock) (decide : Rule → LogLook → Due) → ShowsLooks reserved rules.sets sets faults ts → HaveNames (all_targets clock decide rules.sets sets)
 targets_have_names rules sets faults ts clock decide s = have_names rules clock ts (all_targets clock decide rules.sets sets) (targets_seen rules sets faults ts clock decide s)
 
 -- each log of a plan has a path that is one

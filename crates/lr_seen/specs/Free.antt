@@ -4,7 +4,7 @@ use Rattle.std.specs.List.{AllByRecursion}
 use Rattle.lr_rules.specs.declared.path.Path.{Path}
 use Rattle.lr_rules.specs.Names.{IsName}
 use Rattle.lr_host.specs.Lists.{IsIn}
-use Rattle.lr_targets.specs.Target.{Target}
+use Rattle.lr_laws_targets.specs.Target.{Target}
 
 -- the paths that a run reserves for itself: its state's, that of the file that a new state is first written to, and its lock's
 abbrev pub reserved_by : Path → List Path

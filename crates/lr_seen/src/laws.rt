@@ -15,9 +15,9 @@ ghost use Rattle.lr_plan.specs.declared.looks.SetLooks.{SetLooks};
 ghost use Rattle.lr_plan.specs.Planned.{all_plans};
 ghost use Rattle.lr_looks.specs.Found.{FoundLog};
 ghost use Rattle.lr_looks.specs.Shown.{ShowsLooks, ShowsSomeLooks};
-ghost use Rattle.lr_targets.specs.Target.{Target};
-ghost use Rattle.lr_dated_run.specs.Own.{HaveAnyNames};
-ghost use Rattle.lr_mixed.specs.Seen.{AreLogsSeen};
+ghost use Rattle.lr_laws_targets.specs.Target.{Target};
+ghost use Rattle.lr_laws_targets.specs.Apart.{HaveNames};
+ghost use Rattle.lr_laws_targets.specs.Seen.{AreLogsSeen};
 ghost use Rattle.lr_weave.specs.Fitting.{DontMeet, ReadOnlyOwn};
 ghost use Rattle.lr_weave.specs.Planned.{HaveLogs, AreApart};
 ghost use Rattle.lr_seen.specs.Free.{AreFreeOf};
@@ -36,7 +36,7 @@ pub fn looks_see_targets()
     ensures seen { (reserved : List Path) (rules : Rules) (sets : List SetLooks) (faults : List Fault) (ts : List Entry) (clock : Clock) (decide : Rule → LogLook → Due)
         → ShowsLooks reserved rules.sets sets faults ts → AreLogsSeen rules clock ts (all_targets clock decide rules.sets sets) }
     ensures names { (reserved : List Path) (rules : Rules) (sets : List SetLooks) (faults : List Fault) (ts : List Entry) (clock : Clock) (decide : Rule → LogLook → Due)
-        → ShowsLooks reserved rules.sets sets faults ts → HaveAnyNames (all_targets clock decide rules.sets sets) }
+        → ShowsLooks reserved rules.sets sets faults ts → HaveNames (all_targets clock decide rules.sets sets) }
 {}
 
 /// No log stands twice among them, and no two of them meet.

@@ -21,12 +21,13 @@ use Rattle.lr_plan.specs.declared.step.Step.{Step}
 use Rattle.lr_plan.specs.declared.step.Step.TheVariants as step
 use Rattle.lr_plan.specs.Steps.{on_of, program, removal, removals, directory, move, step_if, copy, transfer, made_anew, rotation_of, retirement_of, steps_of_log, shared_steps, by_logs, steps_of_set}
 use Rattle.lr_acts.specs.Making.{all_of_each, all_of_set, all_of_sets}
-use Rattle.lr_targets.specs.AllTurns.{IsItsDir}
-use Rattle.lr_targets.specs.Target.{Target}
+use Rattle.lr_laws_targets.specs.AllTurns.{IsItsDir}
+use Rattle.lr_laws_targets.specs.Target.{Target}
+use Rattle.lr_laws_targets.proofs.Own.{member_own}
 use Rattle.lr_weave.specs.Fitting.{DontMeet}
 use Rattle.lr_weave.specs.Planned.{bare_removal, IsReadyFor, AreReadyFor}
 use Rattle.lr_run.proofs.Courses.{set_so, all_set}
-use Rattle.lr_run.proofs.Members.{AreOfMembers, GiveMembers, HasMembers, HaveMembers, member_own, job_to, job_part, part_own, meets_none}
+use Rattle.lr_run.proofs.Members.{AreOfMembers, GiveMembers, HasMembers, HaveMembers, job_to, job_part, part_own, meets_none}
 use Rattle.lr_spared.proofs.Steps.{NoneTouches, OnceNamed, none_on, none_once, once_first, once_later}
 
 -- ---- one log

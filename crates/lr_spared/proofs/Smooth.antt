@@ -54,11 +54,11 @@ use Rattle.lr_acts.specs.Making.{all_of_sets}
 use Rattle.lr_acts.specs.Taken.{OneTakes}
 use Rattle.lr_looks.specs.Found.{FoundLog}
 use Rattle.lr_reading.specs.Sights.{entries_of}
-use Rattle.lr_targets.specs.AllTurns.{IsOfSome, IsOfState}
-use Rattle.lr_targets.specs.Target.{Target, IsMissingDir, IsDirSeenBy}
+use Rattle.lr_laws_targets.specs.AllTurns.{IsOfSome, IsOfState}
+use Rattle.lr_laws_targets.specs.Target.{Target, IsMissingDir, IsDirSeenBy}
 use Rattle.lr_laws_family.proofs.OrMade.{made_behind}
-use Rattle.lr_mixed.specs.Seen.{AreLogsSeen}
-use Rattle.lr_mixed.proofs.Seen.{log_among}
+use Rattle.lr_laws_targets.specs.Seen.{AreLogsSeen}
+use Rattle.lr_laws_targets.proofs.LogSeen.{log_among}
 use Rattle.lr_weave.specs.Fitting.{DontMeet}
 use Rattle.lr_weave.specs.Planned.{AreReadyFor}
 use Rattle.lr_weave.proofs.Parting.{done_some}

@@ -34,7 +34,7 @@ use Rattle.lr_reading.specs.declared.remembered.Remembered.{Remembered}
 use Rattle.lr_reading.specs.Answers.{IsKnown, IsKnownBy, IsKnownBehind, IsKnownOf, known_of, text_of}
 use Rattle.lr_reading.specs.Pieces.{Reading}
 use Rattle.lr_reading.specs.Sights.{Sight, Failed, Nothing, Saw, StateSights, found, found_kind, look_of, behind_state, entries_of}
-use Rattle.lr_targets.specs.Target.{Target}
+use Rattle.lr_laws_targets.specs.Target.{Target}
 use Rattle.lr_seen.proofs.Coming.{Comes, was_looked, in_looked}
 use Rattle.lr_seen.proofs.Listed.{WasShown, all_shown}
 use Rattle.lr_seen.proofs.Ready.{by_copy}

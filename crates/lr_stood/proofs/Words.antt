@@ -26,7 +26,7 @@ use Rattle.lr_glob.proofs.Seeking.{found_were_seen}
 use Rattle.lr_looks.specs.Asked.{Word, AreTexts}
 use Rattle.lr_looks.specs.Sights.{WordSight, found_by, ShowsWord, ShowWords}
 use Rattle.lr_laws_family.specs.Weave.{Among}
-use Rattle.lr_targets.proofs.Given.{Stretch, stretch, still_file}
+use Rattle.lr_laws_targets.proofs.Given.{Stretch, stretch, still_file}
 use Rattle.lr_sought.specs.Finds.{FindsFile, StoodOrCame}
 use Rattle.lr_sought.proofs.Came.{quiet_prefix, stood_or_came}
 use Rattle.lr_sought.proofs.Stood.{stood_is_found, literal_is_found}

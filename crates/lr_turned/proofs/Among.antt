@@ -17,12 +17,12 @@ use Rattle.lr_copy.proofs.EachOfBytes.{each_all, each_are, each_both}
 use Rattle.lr_copied.specs.Whole.{Named}
 use Rattle.lr_durable.proofs.Lists.{each_last}
 use Rattle.lr_emptied.specs.Emptied.{CopiedLast, EmptiesCopied}
-use Rattle.lr_targets.specs.AllTurns.{StandsBetween, paths_beside}
+use Rattle.lr_laws_targets.specs.AllTurns.{StandsBetween, paths_beside}
 use Rattle.lr_laws_family.specs.Beside.{IsBeside}
-use Rattle.lr_targets.specs.Target.{Target, rotation_of}
+use Rattle.lr_laws_targets.specs.Target.{Target, rotation_of}
 use Rattle.lr_laws_family.specs.Weave.{Weave}
 use Rattle.lr_laws_family.proofs.These.{IsOfThese}
-use Rattle.lr_targets.proofs.Others.{beside_changes}
+use Rattle.lr_laws_targets.proofs.Others.{beside_changes}
 use Rattle.lr_laws_family.proofs.Splitting.{weave_each}
 use Rattle.lr_laws_family.proofs.Weaving.{weave_as}
 use Rattle.lr_turned.specs.Copied.{CopyStands, IsSameFor}

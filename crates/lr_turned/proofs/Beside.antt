@@ -6,10 +6,10 @@ use Rattle.lr_host.specs.declared.entry.Entry.TheVariants.{Makes, MakesDir, Appe
 use Rattle.lr_host.specs.Lists.{IsIn}
 use Rattle.lr_host.proofs.Lists.{in_front, in_back}
 use Rattle.lr_copy.specs.declared.job.Job.{Job}
-use Rattle.lr_targets.specs.AllTurns.{IsItsDir, AlsoDoes, StandsBetween, dir_paths, paths_of_others, other_paths, paths_beside}
+use Rattle.lr_laws_targets.specs.AllTurns.{IsItsDir, AlsoDoes, StandsBetween, dir_paths, paths_of_others, other_paths, paths_beside}
 use Rattle.lr_laws_family.specs.Beside.{IsBeside}
-use Rattle.lr_targets.specs.Target.{Target}
-use Rattle.lr_targets.proofs.Others.{on_more, dir_in, other_on, state_on}
+use Rattle.lr_laws_targets.specs.Target.{Target}
+use Rattle.lr_laws_targets.proofs.Others.{on_more, dir_in, other_on, state_on}
 
 one_job : (o : Option Job) (a b : Job) → o ≡ Some a → o ≡ Some b → a ≡ b
 one_job o a b p q = cc

@@ -13,7 +13,7 @@ use Rattle.lr_host.proofs.Each.{each_append}
 use Rattle.lr_copy.specs.declared.job.Job.{Job}
 use Rattle.lr_copy.specs.Copying.{cutting}
 use Rattle.lr_emptied.specs.Emptied.{EmptiesCopied}
-use Rattle.lr_targets.specs.AllTurns.{paths_beside}
+use Rattle.lr_laws_targets.specs.AllTurns.{paths_beside}
 use Rattle.lr_family.specs.Parts.{IsMember}
 use Rattle.lr_chain.specs.Ready.{move_step}
 use Rattle.lr_laws_family.specs.Beside.{IsBeside}
@@ -21,15 +21,15 @@ use Rattle.lr_laws_family.specs.Made.{IsBetween, Brings, RotatesAmong}
 use Rattle.lr_laws_family.specs.Members.{IsNoMember}
 use Rattle.lr_laws_family.specs.Rotation.{Rotation, By, Copy, unlinks, steps_before, steps_behind, part_paths, start_of, IsOfMembers}
 use Rattle.lr_laws_family.specs.Shown.{SawFile}
-use Rattle.lr_targets.specs.Target.{Target, IsJob}
-use Rattle.lr_targets.specs.Rotation.{by_of, rotation_by}
-use Rattle.lr_targets.proofs.Steps.{copied_steps}
+use Rattle.lr_laws_targets.specs.Target.{Target, IsJob}
+use Rattle.lr_laws_targets.specs.Rotation.{by_of, rotation_by}
+use Rattle.lr_laws_targets.proofs.Rotating.{copied_steps}
 use Rattle.lr_laws_family.specs.Weave.{Weave}
 use Rattle.lr_laws_family.proofs.Core.{unlinks_each, moves_each}
 use Rattle.lr_laws_family.proofs.These.{IsOfThese}
-use Rattle.lr_mixed.specs.AllTurns.{AllTurnedBy}
-use Rattle.lr_mixed.proofs.Seen.{log_among}
-use Rattle.lr_mixed.proofs.Whole.{front, front_is, front_still, source_seen, members_seen}
+use Rattle.lr_laws_targets.specs.Runs.{AllTurnedBy}
+use Rattle.lr_laws_targets.proofs.LogSeen.{log_among}
+use Rattle.lr_laws_targets.proofs.Whole.{front, front_is, front_still, source_seen, members_seen}
 use Rattle.lr_turned.specs.Copied.{CopyStands, IsSameFor}
 use Rattle.lr_turned.proofs.Among.{early_woven, late_woven}
 

@@ -24,7 +24,7 @@ use Rattle.lr_emptied.specs.Steps.{named_steps}
 use Rattle.lr_emptied.proofs.Acts.{sets_copying}
 use Rattle.lr_emptied.proofs.Made.{AllMade, made_split, named_made}
 use Rattle.lr_emptied.proofs.Steps.{plan_copied}
-use Rattle.lr_targets.specs.Target.{Target, IsJob}
+use Rattle.lr_laws_targets.specs.Target.{Target, IsJob}
 use Rattle.lr_weave.specs.Planned.{AreReadyFor, HaveLogs, NoneHas, AreApart}
 use Rattle.lr_weave.proofs.Whole.{one_none, nil_split}
 use Rattle.lr_turned.specs.Copied.{CopyStands, IsSameFor}

@@ -12,10 +12,10 @@ ghost use Rattle.lr_emptied.specs.Emptied.{EmptiesCopied};
 ghost use Rattle.lr_laws_family.specs.Made.{RotatesAmong};
 ghost use Rattle.lr_laws_family.specs.Members.{IsNoMember};
 ghost use Rattle.lr_laws_family.specs.Rotation.{IsOfMembers};
-ghost use Rattle.lr_targets.specs.AllTurns.{paths_beside};
-ghost use Rattle.lr_targets.specs.Rotation.{rotation_by};
-ghost use Rattle.lr_targets.specs.Target.{Target};
-ghost use Rattle.lr_mixed.specs.AllTurns.{AllTurnedBy};
+ghost use Rattle.lr_laws_targets.specs.AllTurns.{paths_beside};
+ghost use Rattle.lr_laws_targets.specs.Rotation.{rotation_by};
+ghost use Rattle.lr_laws_targets.specs.Target.{Target};
+ghost use Rattle.lr_laws_targets.specs.Runs.{AllTurnedBy};
 ghost use Rattle.lr_turned.specs.Copied.{CopyStands, IsSameFor};
 
 /// Where each log was rotated whole, and one of them was copied, one entry behind another, with nothing else that empties it,

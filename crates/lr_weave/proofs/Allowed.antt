@@ -6,8 +6,8 @@ use Rattle.lr_host.specs.declared.entry.Entry.TheVariants as entry
 use Rattle.lr_host.specs.Lists.{IsIn}
 use Rattle.lr_plan.specs.declared.mark.Mark.{Mark}
 use Rattle.lr_plan.specs.declared.mark.Mark.TheVariants as mark
-use Rattle.lr_targets.specs.AllTurns.{IsOf}
-use Rattle.lr_targets.specs.Target.{Target}
+use Rattle.lr_laws_targets.specs.AllTurns.{IsOf}
+use Rattle.lr_laws_targets.specs.Target.{Target}
 
 -- the one list of marks has all of the other
 abbrev pub HasAll : List Mark → List Mark → Type 0

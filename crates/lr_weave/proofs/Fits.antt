@@ -40,17 +40,18 @@ use Rattle.lr_copy.proofs.EachOfBytes.{each_all}
 use Rattle.lr_chain.specs.declared.ready.Move.{Move}
 use Rattle.lr_chain.specs.declared.ready.Ready.{Ready}
 use Rattle.lr_chain.specs.Ready.{move_step, dir_calls}
-use Rattle.lr_rotations.specs.Calls.{after_call, FitCalls, CanCalls}
-use Rattle.lr_targets.specs.AllTurns.{AlsoDoes}
-use Rattle.lr_targets.specs.Calls.{transfer_calls, calls_of}
-use Rattle.lr_targets.specs.Target.{Target, unlinks, transfer_of, rotation_of, IsJob, HasJob, HasDir}
-use Rattle.lr_dated_run.specs.Own.{ChangesDated, ChangesOwn, HasAnyNames}
-use Rattle.lr_dated_run.proofs.Own.{changes_own, turns_own}
+use Rattle.lr_laws_rotations.specs.Calls.{after_call, FitCalls, CanCalls}
+use Rattle.lr_laws_targets.specs.AllTurns.{AlsoDoes}
+use Rattle.lr_laws_targets.specs.Calls.{transfer_calls, calls_of}
+use Rattle.lr_laws_rotations.specs.Steps.{unlinks}
+use Rattle.lr_laws_targets.specs.Target.{Target, transfer_of, rotation_of, IsJob}
+use Rattle.lr_laws_targets.specs.Own.{ChangesOwn}
+use Rattle.lr_laws_targets.specs.Apart.{HasNames}
+use Rattle.lr_laws_targets.proofs.Own.{own_paths}
 use Rattle.lr_laws_family.specs.Weave.{IsFirstOf}
-use Rattle.lr_rotations.proofs.Alike.{IsLike, like_self, AreLike, Anywhere, more_like, put_like, Reads, can_like, after_like, fit_like, each_anywhere, calls_as, calls_made, calls_still}
-use Rattle.lr_targets.proofs.Apart.{own_paths}
+use Rattle.lr_laws_rotations.proofs.Alike.{IsLike, like_self, AreLike, Anywhere, more_like, put_like, Reads, can_like, after_like, fit_like, each_anywhere, calls_as, calls_made, calls_still}
 use Rattle.lr_laws_family.proofs.Fed.{IsTurn}
-use Rattle.lr_targets.proofs.Others.{rotation_turns}
+use Rattle.lr_laws_targets.proofs.Others.{rotation_turns}
 use Rattle.lr_plan.specs.declared.mark.Mark.{Mark}
 use Rattle.lr_plan.specs.declared.plan.LogPlan.{LogPlan}
 use Rattle.lr_plan.specs.declared.step.Step.{Step}
@@ -223,26 +224,16 @@ each_two P Q R (e ∷ es) f a b = (f e a.0 b.0, each_two P Q R es f a.1 b.1)
 abbrev pub NamesOf : Target → Path → Type 0
 NamesOf t y = IsOwnName t.log t.naming y
 
--- what the rotation changes are own names
-pub own_changes : (t : Target) → HasAnyNames t → Each (ChangesOwn t.log t.naming) (rotation_of t)
-own_changes t (inl h) = own_paths t h
-own_changes t (inr h) = each_as (ChangesDated t.log t.naming) (ChangesOwn t.log t.naming) (rotation_of t) (λ e d. changes_own t.log t.naming e d) (turns_own t h)
-
--- the copy goes by a part file to the final path
-pub job_of : (t : Target) → HasAnyNames t → HasJob t
-job_of t (inl h) = h.job
-job_of t (inr h) = h.job
-
 -- so a rename or an unlink of the rotation asks of those alone
 turn_asks : (t : Target) (e : Entry) → IsTurn e → ChangesOwn t.log t.naming e → Asks (NamesOf t) e
 turn_asks t (entry.Renames from to) turn own = (own from (inl refl), own to (inr (inl refl)))
 turn_asks t (entry.Unlinks x) turn own = own x (inl refl)
 turn_asks t _ turn own = absurd turn
 
-module _ (t : Target) (h : HasAnyNames t) where
+module _ (t : Target) (h : HasNames t) where
   -- all its renames and unlinks
   turns_ask : Each (Asks (NamesOf t)) (rotation_of t)
-  turns_ask = each_two IsTurn (ChangesOwn t.log t.naming) (Asks (NamesOf t)) (rotation_of t) (λ e turn own. turn_asks t e turn own) (rotation_turns t) (own_changes t h)
+  turns_ask = each_two IsTurn (ChangesOwn t.log t.naming) (Asks (NamesOf t)) (rotation_of t) (λ e turn own. turn_asks t e turn own) (rotation_turns t) (own_paths t h)
 
   -- those behind the leftovers' removals
   behind_leftovers : Each (Asks (NamesOf t)) (map move_step t.ready.moves ++ (transfer_of t.ready t.job ++ back_of t))
@@ -261,7 +252,7 @@ module _ (t : Target) (h : HasAnyNames t) where
   )
     where
       shape : IsJob t job
-      shape = job_of t h job is
+      shape = h.job job is
 
       log : NamesOf t job.from
       log = the_log shape.from_is
@@ -306,15 +297,11 @@ far x t (entry.Unlinks y) apart turn own = λ i. apart (y, inl (i, inl (own y (i
 far x t _ apart turn own = absurd turn
 
 pub rotation_far : {o : Option Journal} (x t : Target) → IsFit o t → (Meet x.log x.naming t.log t.naming → ⊥) → Each (Avoids (NamesOf x)) (rotation_of t)
-rotation_far x t fit apart = each_two IsTurn (ChangesOwn t.log t.naming) (Avoids (NamesOf x)) (rotation_of t) (λ e turn own. far x t e apart turn own) (rotation_turns t) (own_changes t fit.names)
+rotation_far x t fit apart = each_two IsTurn (ChangesOwn t.log t.naming) (Avoids (NamesOf x)) (rotation_of t) (λ e turn own. far x t e apart turn own) (rotation_turns t) (own_paths t fit.names)
 
 -- nor is the directory that it makes
-has_dir : (t : Target) → HasAnyNames t → HasDir t
-has_dir t (inl h) = h.dir
-has_dir t (inr h) = h.dir
-
-pub made_far : (x t : Target) → HasAnyNames t → (Meet x.log x.naming t.log t.naming → ⊥) → (y : Path) (mode : Option ℕ) → AlsoDoes t (entry.MakesDir y mode) → NamesOf x y → ⊥
-made_far x t h apart y mode made i = apart (y, inl (i, inr (has_dir t h y made.0 made.1).0))
+pub made_far : (x t : Target) → HasNames t → (Meet x.log x.naming t.log t.naming → ⊥) → (y : Path) (mode : Option ℕ) → AlsoDoes t (entry.MakesDir y mode) → NamesOf x y → ⊥
+made_far x t h apart y mode made i = apart (y, inl (i, inr (h.dir y made.0 made.1).0))
 
 -- ---- what goes on fitting
 

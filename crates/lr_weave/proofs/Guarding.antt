@@ -26,8 +26,8 @@ use Rattle.lr_plan.specs.declared.step.Step.TheVariants as step
 use Rattle.lr_plan.specs.Done.{SetsDone}
 use Rattle.lr_plan.specs.Outcomes.{marks_of}
 use Rattle.lr_plan.specs.Steps.{program, removals, directory, move, transfer, made_anew, rotation_of as rotation, retirement_of as retirement, steps_of_log, shared_steps, by_logs, steps_of_set}
-use Rattle.lr_targets.specs.AllTurns.{AlsoDoes, IsOf}
-use Rattle.lr_targets.specs.Target.{Target, rotation_of}
+use Rattle.lr_laws_targets.specs.AllTurns.{AlsoDoes, IsOf}
+use Rattle.lr_laws_targets.specs.Target.{Target, rotation_of}
 use Rattle.lr_weave.proofs.Allowed.{HasAll, Allowed, AllowsMore, AllowsLog}
 use Rattle.lr_weave.specs.Parts.{change_of, changes_by, IsPlain, ArePlain}
 use Rattle.lr_weave.specs.Planned.{bare_removal, IsReadyFor, AreReadyFor, HaveLogs}

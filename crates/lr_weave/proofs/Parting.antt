@@ -31,10 +31,10 @@ use Rattle.lr_plan.specs.Cut.{CourseCut, ListCut, LogsCut, in_each, in_last, Set
 use Rattle.lr_plan.specs.Done.{EachDone, LogsDone, is_rotated, if_rotated, SetDone, broke_off, went_on, SetsDone}
 use Rattle.lr_weave.specs.Parts.{takes_name, change_of, changes_by, IsPlain, ArePlain, EachPlain, IsPlainSet, ArePlainSets, MakesOnly, MakesOne, parts_of_set, parts_of_sets, FirstParts, AllOf, ArePlanned}
 use Rattle.lr_weave.specs.Planned.{NoneHas, AreApart}
-use Rattle.lr_targets.specs.Target.{Target, rotation_of}
-use Rattle.lr_targets.specs.AllTurns.{AlsoDoes, IsOf, IsOfSome, IsOfOther, IsOfState, StandsBetween}
-use Rattle.lr_mixed.specs.AllTurns.{AllTurnsBy}
-use Rattle.lr_mixed.specs.Seen.{AreLogsSeen}
+use Rattle.lr_laws_targets.specs.Target.{Target, rotation_of}
+use Rattle.lr_laws_targets.specs.AllTurns.{AlsoDoes, IsOf, IsOfSome, IsOfOther, IsOfState, StandsBetween}
+use Rattle.lr_laws_targets.specs.Runs.{AllTurnsBy}
+use Rattle.lr_laws_targets.specs.Seen.{AreLogsSeen}
 use Rattle.lr_laws_family.proofs.Weaving.{weave_as, weave_on, weave_others}
 use Rattle.lr_rules.specs.declared.rules.Rules.{Rules}
 

@@ -25,11 +25,12 @@ use Rattle.lr_plan.specs.declared.step.Step.{Step}
 use Rattle.lr_plan.specs.declared.step.Step.TheVariants as step
 use Rattle.lr_plan.specs.Asking.{asks}
 use Rattle.lr_plan.specs.Steps.{on_of, program, removal, removals, directory, move, step_if, transfer, made_anew, rotation as steps_of_rotation, retirement as steps_of_retirement, rotation_of as rotation, retirement_of as retirement, steps_of_log, shared_steps, by_logs, steps_of_set}
-use Rattle.lr_targets.specs.Calls.{transfer_calls, calls_of}
+use Rattle.lr_laws_targets.specs.Calls.{transfer_calls, calls_of}
 use Rattle.lr_laws_family.specs.Weave.{Weave}
-use Rattle.lr_targets.specs.Target.{Target, unlinks, transfer_of, rotation_of, IsJob, HasJob}
-use Rattle.lr_targets.specs.AllTurns.{AlsoDoes, IsOf, IsOfSome, IsOfOther}
-use Rattle.lr_targets.proofs.Rotating.{two}
+use Rattle.lr_laws_rotations.specs.Steps.{unlinks}
+use Rattle.lr_laws_targets.specs.Target.{Target, transfer_of, rotation_of, IsJob, HasJob}
+use Rattle.lr_laws_targets.specs.AllTurns.{AlsoDoes, IsOf, IsOfSome, IsOfOther}
+use Rattle.lr_laws_targets.proofs.Rotating.{two}
 use Rattle.lr_laws_family.proofs.Weaving.{weave_on, weave_own, weave_others}
 use Rattle.lr_weave.specs.Parts.{change_of, changes_by, ArePlain, EachPlain, IsPlainSet, ArePlainSets, MakesOne, parts_of_set, parts_of_sets, AllOf, InOnePart, ArePlanned}
 use Rattle.lr_weave.specs.Planned.{bare_removal, bare, IsReadyFor, AreReadyFor, HaveLogs, NoneHas, AreApart}

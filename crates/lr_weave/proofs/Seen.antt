@@ -17,11 +17,11 @@ use Rattle.lr_host.proofs.More.{directory_more}
 use Rattle.lr_host.proofs.Quiet.{IsAny, since_any, moment, quiet_more, quiet_still, still_in_order}
 use Rattle.lr_host.proofs.Left.{left_as}
 use Rattle.lr_laws.proofs.StandsIn.{stands_in}
-use Rattle.lr_targets.specs.Target.{Target}
-use Rattle.lr_dated_run.specs.Own.{HaveAnyNames}
-use Rattle.lr_mixed.specs.Seen.{IsLogSeen, AreLogsSeen}
-use Rattle.lr_mixed.proofs.Calls.{log_can}
-use Rattle.lr_rotations.proofs.Moments.{saw_one}
+use Rattle.lr_laws_targets.specs.Target.{Target}
+use Rattle.lr_laws_targets.specs.Apart.{HaveNames}
+use Rattle.lr_laws_targets.specs.Seen.{IsLogSeen, AreLogsSeen}
+use Rattle.lr_laws_targets.proofs.CallsFit.{log_can}
+use Rattle.lr_laws_rotations.proofs.Moments.{saw_one}
 use Rattle.lr_laws_family.specs.Shown.{SawFile}
 use Rattle.lr_weave.specs.Fitting.{AreFit, HaveLogPaths}
 
@@ -44,7 +44,7 @@ seen_makes rules clock t o m valid disk (is_told {j = j} {k = k} {es = es} made 
       (log_dir t at.at valid (quiet_disk (past j) at.at at.since disk) (seen_file (world at.at) (names (world at.at) t.log) saw.0 at.fits saw.1));
 }
 
-pub seen_fit : (rules : Rules) (clock : Clock) (ts : List Target) (o m : Option Journal) → HaveAnyNames ts → HaveLogPaths ts → WhereTold o IsJournal → Left (λ us. AreQuiet us × AreLogsSeen rules clock us ts) o m → AreFit m ts
+pub seen_fit : (rules : Rules) (clock : Clock) (ts : List Target) (o m : Option Journal) → HaveNames ts → HaveLogPaths ts → WhereTold o IsJournal → Left (λ us. AreQuiet us × AreLogsSeen rules clock us ts) o m → AreFit m ts
 seen_fit rules clock [] o m h paths disk left = tt
 seen_fit rules clock (t ∷ ts) o m h paths disk left = (
   record { names = h.0; fits = log_can rules clock t o m disk (left_as left (λ us s. (s.0, s.1.0))); anew = seen_makes rules clock t o m (paths t (inl refl)) disk (left_as left (λ us s. (s.0, s.1.0))) },

@@ -15,14 +15,13 @@ use Rattle.lr_rules.specs.declared.path.Path.{Path}
 use Rattle.lr_host.specs.declared.entry.Entry.{Entry}
 use Rattle.lr_host.specs.declared.entry.Entry.TheVariants as entry
 use Rattle.lr_host.specs.Told.{Each}
-use Rattle.lr_targets.specs.AllTurns.{AlsoDoes}
-use Rattle.lr_targets.specs.Target.{Target}
-use Rattle.lr_weave.specs.Fitting.{AreFit, NoneMeets, DontMeet}
+use Rattle.lr_laws_targets.specs.AllTurns.{AlsoDoes}
+use Rattle.lr_laws_targets.specs.Target.{Target}
+use Rattle.lr_weave.specs.Fitting.{AreFit, NoneMeets, DontMeet, SetReadsOwn, ReadOnlyOwn}
 use Rattle.lr_weave.specs.Parts.{takes_name, MakesOne, parts_of_set}
 use Rattle.lr_weave.specs.Planned.{AreReadyFor, HaveLogs}
 use Rattle.lr_weave.proofs.Parting.{set_parts, all_parts, made_by}
 use Rattle.lr_weave.proofs.Planning.{OfMakings, own_makings, AllLogs, set_is, set_out}
-use Rattle.lr_weave.specs.Fitting.{SetReadsOwn, ReadOnlyOwn}
 use Rattle.lr_weave.proofs.Shared.{can_shared}
 use Rattle.lr_weave.proofs.Fits.{Avoids, NamesOf, naming_avoids, made_far, can_each, unchanged, program_changes, program_can, fit_later, rotation_far}
 

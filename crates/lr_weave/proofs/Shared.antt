@@ -17,9 +17,9 @@ use Rattle.lr_plan.specs.declared.step.Step.{Step}
 use Rattle.lr_plan.specs.Steps.{program, shared_steps}
 use Rattle.lr_plan.specs.Steps as steps
 use Rattle.lr_plan.specs.Asking.{CanMake}
-use Rattle.lr_rotations.specs.Calls.{CanCalls}
-use Rattle.lr_targets.specs.AllTurns.{AlsoDoes}
-use Rattle.lr_targets.specs.Target.{Target}
+use Rattle.lr_laws_rotations.specs.Calls.{CanCalls}
+use Rattle.lr_laws_targets.specs.AllTurns.{AlsoDoes}
+use Rattle.lr_laws_targets.specs.Target.{Target}
 use Rattle.lr_weave.specs.Fitting.{IsFit, AreFit, NoneMeets, DontMeet, ReadOwn, ReadsNothing}
 use Rattle.lr_weave.specs.Parts.{takes_name, change_of, changes_by, ArePlain, MakesOnly}
 use Rattle.lr_weave.specs.Planned.{IsReadyFor, AreReadyFor}

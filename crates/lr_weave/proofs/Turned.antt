@@ -10,10 +10,10 @@ use Rattle.lr_host.specs.Quiet.{AreQuiet}
 use Rattle.lr_plan.specs.declared.plan.SetPlan.{SetPlan}
 use Rattle.lr_plan.specs.Steps.{steps_of_set}
 use Rattle.lr_plan.specs.Done.{SetsDone}
-use Rattle.lr_targets.specs.Target.{Target, rotation_of}
-use Rattle.lr_targets.specs.AllTurns.{IsOfOther, StandsBetween}
-use Rattle.lr_mixed.specs.AllTurns.{AllTurnedBy}
-use Rattle.lr_mixed.specs.Seen.{AreLogsSeen}
+use Rattle.lr_laws_targets.specs.Target.{Target, rotation_of}
+use Rattle.lr_laws_targets.specs.AllTurns.{IsOfOther, StandsBetween}
+use Rattle.lr_laws_targets.specs.Runs.{AllTurnedBy}
+use Rattle.lr_laws_targets.specs.Seen.{AreLogsSeen}
 use Rattle.lr_weave.specs.Parts.{takes_name, MakesOne, ArePlanned, parts_of_sets}
 use Rattle.lr_laws_family.specs.Weave.{Weave}
 use Rattle.lr_weave.proofs.Parting.{only_as, made_between, sets_parts, weave_change, done_turns}

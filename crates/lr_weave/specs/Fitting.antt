@@ -9,16 +9,16 @@ use Rattle.lr_host.specs.Told.{Can}
 use Rattle.lr_host.specs.Lists.{IsIn}
 use Rattle.lr_scripts.specs.declared.command.Command.{Command}
 use Rattle.lr_scripts.specs.declared.removal.Removal.{Removal}
-use Rattle.lr_dated_run.specs.Own.{HasAnyNames}
-use Rattle.lr_rotations.specs.Calls.{CanCalls}
-use Rattle.lr_targets.specs.Calls.{calls_of}
+use Rattle.lr_laws_targets.specs.Apart.{HasNames}
+use Rattle.lr_laws_rotations.specs.Calls.{CanCalls}
+use Rattle.lr_laws_targets.specs.Calls.{calls_of}
 use Rattle.lr_plan.specs.declared.plan.LogPlan.{LogPlan}
 use Rattle.lr_plan.specs.declared.plan.SetPlan.{SetPlan}
-use Rattle.lr_targets.specs.Target.{Target}
+use Rattle.lr_laws_targets.specs.Target.{Target}
 
 -- The rotation of the log has names for all its members, numbers or dates, and its calls fit where the calls are now; and the log can be made anew.
 pub record IsFit (told : Option Journal) (t : Target) : Type 0 where
-  pub names : HasAnyNames t
+  pub names : HasNames t
   pub fits : CanCalls told (calls_of t)
   pub anew : Can told (entry.Makes t.log None)
 

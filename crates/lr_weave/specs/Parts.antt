@@ -10,8 +10,8 @@ use Rattle.lr_plan.specs.declared.step.Step.{Step}
 use Rattle.lr_plan.specs.declared.step.Step.TheVariants.{MakesDir, Creates, Takes, Copies, Appends, Truncates}
 use Rattle.lr_plan.specs.declared.step.SetSteps.{SetSteps}
 use Rattle.lr_plan.specs.Asking.{asks}
-use Rattle.lr_targets.specs.Target.{Target, rotation_of}
-use Rattle.lr_targets.specs.AllTurns.{AlsoDoes, IsOfSome, IsOfOther}
+use Rattle.lr_laws_targets.specs.Target.{Target, rotation_of}
+use Rattle.lr_laws_targets.specs.AllTurns.{AlsoDoes, IsOfSome, IsOfOther}
 use Rattle.lr_weave.specs.Planned.{AreApart}
 
 -- an entry by which a name goes

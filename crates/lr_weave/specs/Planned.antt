@@ -6,7 +6,7 @@ use Rattle.lr_chain.specs.declared.ready.Ready.{Ready}
 use Rattle.lr_plan.specs.Planned.{with_removals}
 use Rattle.lr_plan.specs.declared.plan.LogPlan.{LogPlan}
 use Rattle.lr_plan.specs.declared.plan.SetPlan.{SetPlan}
-use Rattle.lr_targets.specs.Target.{Target, HasJob}
+use Rattle.lr_laws_targets.specs.Target.{Target, HasJob}
 
 -- the unlink of a file alone, without the programs before it; and a rotation with such removals
 abbrev pub bare_removal : Removal → Removal

@@ -21,10 +21,10 @@ ghost use Rattle.lr_plan.specs.Steps.{steps_of_set};
 ghost use Rattle.lr_plan.specs.Done.{SetsDone};
 ghost use Rattle.lr_plan.specs.Asking.{CanSets};
 ghost use Rattle.lr_plan.specs.Cut.{SetsCut};
-ghost use Rattle.lr_targets.specs.Target.{Target};
-ghost use Rattle.lr_dated_run.specs.Own.{HaveAnyNames};
-ghost use Rattle.lr_mixed.specs.AllTurns.{AllTurnsBy, AllTurnedBy};
-ghost use Rattle.lr_mixed.specs.Seen.{AreLogsSeen};
+ghost use Rattle.lr_laws_targets.specs.Target.{Target};
+ghost use Rattle.lr_laws_targets.specs.Apart.{HaveNames};
+ghost use Rattle.lr_laws_targets.specs.Runs.{AllTurnsBy, AllTurnedBy};
+ghost use Rattle.lr_laws_targets.specs.Seen.{AreLogsSeen};
 ghost use Rattle.lr_weave.specs.Fitting.{AreFit, HaveLogPaths, ReadOnlyOwn, DontMeet};
 ghost use Rattle.lr_weave.specs.Parts.{ArePlanned};
 ghost use Rattle.lr_weave.specs.Planned.{HaveLogs, AreApart};
@@ -51,7 +51,7 @@ pub fn cut_acts_turn_all()
 /// Behind looks that saw the logs, the rotation of each fits by itself, whatever writers did meanwhile, and on a disk the log
 /// can be made anew, since what stood there stood in a directory.
 pub fn seen_is_fit()
-    ensures { (rules : Rules) (clock : Clock) (targets : List Target) (before now : Option Journal) → HaveAnyNames targets → HaveLogPaths targets → WhereTold before IsJournal
+    ensures { (rules : Rules) (clock : Clock) (targets : List Target) (before now : Option Journal) → HaveNames targets → HaveLogPaths targets → WhereTold before IsJournal
         → Left (λ ts. AreQuiet ts × AreLogsSeen rules clock ts targets) before now → AreFit now targets }
 {}
 

@@ -1,7 +1,7 @@
 use Rattle.std.proofs.Common.{[]}
 use Rattle.lr_host.proofs.Left.{left_first}
-use Rattle.lr_mixed.specs.AllTurns.{IsWholeRunBy}
-use Rattle.lr_mixed.proofs.Shapes.{quiet_run_by}
+use Rattle.lr_laws_targets.specs.Runs.{IsWholeRunBy}
+use Rattle.lr_laws_targets.proofs.Shapes.{quiet_run_by}
 use Rattle.lr_cli.proofs.Called.{by_first}
 use Rattle.lr_cli.proofs.run.run_by.Goals as goal
 

@@ -1,8 +1,7 @@
-use Rattle.std.proofs.Common.{sym, ap, ◌∙◌}
+use Rattle.std.proofs.Common.{sym, ap, ◌∙◌, subst}
 use Rattle.lr_rules.specs.Match.{is_wildcard, literal_path}
 use Rattle.lr_glob.specs.Gathers.{Gathers}
 use Rattle.lr_glob.specs.Parts.{JoinOf}
-use Rattle.std.proofs.Common.{subst}
 use Rattle.lr_glob.proofs.Rounds.{asked_told, asked_stopped, went_told, went_stopped}
 use Rattle.lr_glob.proofs.round.follow.Goals as goal
 

@@ -13,7 +13,7 @@ pub returns-in-Ok-clause-plans : goal.returns-in-Ok-clause-plans
 returns-in-Ok-clause-plans c =
     let rule = c.args.rule.now in
     let look = c.args.look.now in
-    let ready = ready_stands rule look c.args.stand.now c.requires.stand c.args.clock.now c.in-Ok.ready c.in-Ok.ensures.ready in
+    let ready = ready_stands rule look c.args.stand.now c.requires.stand c.args.clock.now c.in-Ok.ready c.requires.look.log c.in-Ok.ensures.ready in
     let free = free_stands rule look c.args.stand.now c.requires.stand c.args.clock.now c.in-Ok.ensures.free in
     where_ok c.add_plan.result c.add_plan.ensures (λ added. added ∙ ap (λ (xs : List LogPlan). c.args.plans.now.items ++ xs) (plans_there c.args.clock.now c.args.mailer.now rule look c.in-Ok.ready ready free))
 

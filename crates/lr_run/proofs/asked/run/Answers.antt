@@ -1,6 +1,6 @@
 use Rattle.std.proofs.Common.{true, false}
 use Rattle.lr_host.proofs.Left.{left_as}
-use Rattle.lr_mixed.proofs.Safety.{all_safe}
+use Rattle.lr_laws_targets.proofs.RunSafety.{all_safe}
 use Rattle.lr_plan.specs.Asked.{asking}
 use Rattle.lr_run.proofs.Drying.{asked_so, answers_sights, dry_shape, dry_whole, dry_copied}
 use Rattle.lr_run.proofs.Short.{answers_short}

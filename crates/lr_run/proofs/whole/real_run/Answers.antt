@@ -2,8 +2,8 @@ use Rattle.std.proofs.Common.{List, [], false, Ok, Err, refl, sym, subst}
 use Rattle.lr_rules.specs.declared.fault.Fault.{Fault}
 use Rattle.lr_host.specs.Told.{Left}
 use Rattle.lr_host.proofs.Left.{left_as, left_first}
-use Rattle.lr_mixed.specs.AllTurns.{IsWholeRunBy}
-use Rattle.lr_mixed.proofs.Safety.{all_safe}
+use Rattle.lr_laws_targets.specs.Runs.{IsWholeRunBy}
+use Rattle.lr_laws_targets.proofs.RunSafety.{all_safe}
 use Rattle.lr_plan.specs.Asked.{asking}
 use Rattle.lr_run.specs.declared.answer.Ran.{Ran}
 use Rattle.lr_run.specs.declared.answer.RunStop.TheVariants as stop

@@ -1,8 +1,7 @@
 use Rattle.std.proofs.Common.{◌≡◌, ◌∙◌, ap, sym, subst, refl, ℕ, ◌+◌, ◌-◌, ◌<◌, ◌≤◌, Bool, true, false, List, [], ◌∷◌, ◌++◌, length, drop, take, get_or, Option, Some, None, arith, add-one, drop-cons}
 use Rattle.std.proofs.lemmas.Bool.{cond-false, ne_eqb}
-use Rattle.std.proofs.lemmas.List.{drop_all, append-nil}
+use Rattle.std.proofs.lemmas.List.{drop_all, append-nil, take_rest}
 use Rattle.lr_state.specs.Reading.{Named, with_front, quoted}
-use Rattle.std.proofs.lemmas.List.{take_rest}
 use Rattle.lr_state.proofs.Names.{front-byte}
 use Rattle.lr_state.proofs.name.between_quotes.Goals as goal
 use Rattle.lr_state.proofs.name.between_quotes.Goals.{then-escape+in_ok-push, else-escape+else-byte-eq34+then-byte-eq92, else-escape+else-byte-eq34+else-byte-eq92+in_ok-push-2}

@@ -1,5 +1,0 @@
-use Rattle.lr_dated.proofs.Moments.{moment_forward}
-use Rattle.lr_dated.proofs.forward.moment_is_forward.Goals as goal
-
-pub returns : goal.returns
-returns c = moment_forward

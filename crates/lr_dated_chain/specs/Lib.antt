@@ -1,3 +1,0 @@
-pub mod Next
-pub mod Ready
-pub mod Refused

@@ -1,4 +1,0 @@
-pub mod Hindering
-pub mod Prepared
-pub mod Serials
-pub mod Whole

@@ -1,9 +1,0 @@
-pub mod CallsFit
-pub mod Mixed
-pub mod Own
-pub mod PartFile
-pub mod Rotating
-pub mod Safe
-pub mod Stamped
-pub mod Stands
-pub mod Weaving

@@ -1,3 +1,0 @@
-pub mod Beside
-pub mod Calls
-pub mod Own

@@ -1,0 +1,58 @@
+// How the promise goes on over the entries of a dated rotation.
+ghost use Rattle.std.specs.Prelude.{◌≡◌, ℤ, Bool, false, List, Option};
+ghost use Rattle.lr_rules.specs.declared.clock.Clock.{Clock};
+ghost use Rattle.lr_host.specs.declared.entry.Entry.{Entry};
+ghost use Rattle.lr_host.specs.declared.journal.Journal.{Journal};
+ghost use Rattle.lr_host.specs.World.{Past, world, names};
+ghost use Rattle.lr_host.specs.Opening.{IsJournal};
+ghost use Rattle.lr_host.specs.Told.{Made, Left};
+ghost use Rattle.lr_host.specs.Steps.{CanAll, Took};
+ghost use Rattle.lr_host.specs.Sets.{LogSet, Dated, order};
+ghost use Rattle.lr_host.specs.Runs.{has_begun};
+ghost use Rattle.lr_host.specs.Forward.{IsForward};
+ghost use Rattle.lr_host.specs.Safe.{IsSafe, KeepsSafe};
+ghost use Rattle.lr_host.specs.Steady.{NoneAttached};
+ghost use Rattle.lr_laws.specs.Room.{HasRoomForOne};
+ghost use Rattle.lr_laws.specs.Rotation.{LogFits};
+ghost use Rattle.lr_laws.specs.Forward.{IsForwardFor};
+ghost use Rattle.lr_laws.specs.DatedRotation.{has_turned, IsDatedRotation, IsDatedRetirement};
+ghost use Rattle.lr_laws.specs.Stays.{StaysSafe, RotatesDated, KeepsSafeWhere};
+
+/// A dated set that is safe is safe behind the entries of one rotation to a member that none is later than, with entries
+/// aside and writers' entries between them, in a run that has begun no rotation of the set: the log, which is a file there,
+/// goes to that member, which names nothing, or it is set aside, or what waits there is taken up again; then those go that
+/// as many later ones follow as the count says, or that are too old; and the log is made anew. Of the entries aside nothing
+/// else is asked.
+pub fn dated_rotation_stays_safe()
+    ensures { (s : LogSet) (p q : Past) (newest : ℤ) (es : List Entry) → order s ≡ Dated → IsJournal p → IsSafe s p
+        → has_begun s p ≡ false → IsForward s p newest → Made p es q → LogFits s (names (world p)) es
+        → IsDatedRotation s p newest es → NoneAttached s q → IsSafe s q }
+{}
+
+/// As long as no member got a file by such entries, each that a member names may get one more later member, and none is later
+/// than the one that the rotation is to: so a copy may get that name.
+pub fn dated_rotation_stays_open()
+    ensures { (s : LogSet) (p q : Past) (newest : ℤ) (es : List Entry) → order s ≡ Dated → IsJournal p → IsSafe s p
+        → has_begun s p ≡ false → IsForward s p newest → Made p es q → LogFits s (names (world p)) es
+        → IsDatedRotation s p newest es → NoneAttached s q → has_turned s es ≡ false → HasRoomForOne s q × IsForward s q newest }
+{}
+
+/// Behind that, where members go that may and what waited aside, with entries aside and writers' between them, the set stays
+/// safe.
+pub fn dated_retirement_stays_safe()
+    ensures { (s : LogSet) (p q : Past) (es : List Entry) → order s ≡ Dated → IsJournal p → IsSafe s p → Made p es q
+        → IsDatedRetirement s p es → NoneAttached s q → IsSafe s q }
+{}
+
+/// Over calls that leave the change entries of a first part of these steps, each set is safe of which they are such a
+/// rotation.
+pub fn dated_steps_stay_safe()
+    ensures { (steps : List Entry) (ok : Bool) (before after : Option Journal) → Left (Took steps ok) before after
+        → CanAll before steps → StaysSafe (RotatesDated steps) before after }
+{}
+
+/// A call that keeps each set safe keeps those safe of which a clock's condition holds.
+pub fn safe_without_clock()
+    ensures { (clock : Clock) (before after : Option Journal) → KeepsSafe before after
+        → KeepsSafeWhere (IsForwardFor clock) before after }
+{}

@@ -1,0 +1,26 @@
+-- A log whose rotation has names for all its members.
+use Rattle.std.specs.Prelude.{◌≡◌, ◌≤◌, List, [], ◌∷◌}
+use Rattle.lr_rules.specs.declared.clock.Clock.{Clock}
+use Rattle.lr_chain.specs.Hindrances.{what_hinders}
+use Rattle.lr_chain.specs.Ready.{IsCount}
+use Rattle.lr_family.specs.Places.{AreNamed}
+use Rattle.lr_family.specs.Stands.{AreNewestFirst}
+use Rattle.lr_laws_family.specs.Members.{IsFamily}
+use Rattle.lr_laws_targets.specs.Target.{Target, IsReadyBy, HasDir, HasJob}
+
+-- Each member that was seen, the newest first, has the path of its place; the count and the first number are such as a rule in its limits gives; and nothing hinders the rotation by some clock: so each member has a name that it comes to, and so has the log. The rotation that is ready is theirs, and so are the directory and the copy.
+pub record HasNames (t : Target) : Type 0 where
+  pub family : IsFamily t.log t.naming
+  pub newest_first : AreNewestFirst t.stand.members
+  pub named : AreNamed t.naming t.stand.members
+  pub count : IsCount t.count
+  pub start : t.naming.start ≤ 999999
+  pub clock : Clock
+  pub free : what_hinders t.naming t.count clock t.stand ≡ []
+  pub ready : IsReadyBy clock t
+  pub dir : HasDir t
+  pub job : HasJob t
+
+abbrev pub HaveNames : List Target → Type 0
+HaveNames [] = Unit {0}
+HaveNames (t ∷ ts) = HasNames t × HaveNames ts

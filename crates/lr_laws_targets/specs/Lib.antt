@@ -1,0 +1,10 @@
+pub mod AllTurns
+pub mod Apart
+pub mod BesideSets
+pub mod Calls
+pub mod Example
+pub mod Own
+pub mod Rotation
+pub mod Runs
+pub mod Seen
+pub mod Target

@@ -1,0 +1,29 @@
+-- The rotation of a log that a run may rotate, be the names of its members numbers or dates.
+use Rattle.std.specs.Prelude.{List, map, Option, Some, None}
+use Rattle.lr_rules.specs.declared.path.Path.{Path}
+use Rattle.lr_scripts.specs.declared.removal.Removal.{Removal}
+use Rattle.lr_copy.specs.declared.job.Job.{Job}
+use Rattle.lr_laws_targets.specs.Target.{Target}
+use Rattle.lr_laws_family.specs.Rotation.{Rotation, By, Rename, Copy}
+
+-- a copy where there is a job, else a rename
+abbrev pub by_of : Option Job → By
+by_of None = Rename
+by_of (Some job) = Copy job
+
+-- the paths of these removals
+abbrev pub paths_in : List Removal → List Path
+paths_in removals = map (λ r. r.path) removals
+
+-- the rotation, as its plan has it
+abbrev pub rotation_by : Target → Rotation
+rotation_by t = record {
+  log = t.log;
+  source = t.ready.log;
+  stood = t.stand.members;
+  early = paths_in t.ready.leftovers;
+  moves = t.ready.moves;
+  target = t.ready.target;
+  gone = paths_in t.ready.retire;
+  by = by_of t.job;
+}

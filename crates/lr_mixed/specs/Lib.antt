@@ -1,4 +1,0 @@
-pub mod AllTurns
-pub mod Example
-pub mod Rotated
-pub mod Seen

@@ -1,9 +1,0 @@
-//! What the rotation of a numbered log does to sets, and when its steps and calls fit.
-//!
-//! A law is the contract of a function without a body; begin with `rotation_is_one`. What it makes of the files of a family,
-//! numbered or dated, is in `lr_laws_family`.
-#![tactic(auto)]
-
-mod rotation;
-
-pub use rotation::{rotation_fits, rotation_is_aside, rotation_is_one};

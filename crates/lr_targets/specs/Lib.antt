@@ -1,5 +1,0 @@
-pub mod AllTurns
-pub mod Apart
-pub mod Calls
-pub mod Rotation
-pub mod Target
