@@ -30,7 +30,7 @@ use Rattle.lr_chain.specs.Ready.{move_step}
 use Rattle.lr_durable.proofs.Lists.{Middle, middle}
 use Rattle.lr_laws_family.specs.Beside.{IsOn, IsBeside, IsNeverAt}
 use Rattle.lr_laws_family.specs.Made.{IsFar, IsBetween}
-use Rattle.lr_laws_family.specs.Members.{IsNoMember, AreThere}
+use Rattle.lr_laws_family.specs.Members.{IsNoMember, IsNewestOf, AreThere}
 use Rattle.lr_laws_family.specs.Rotation.{Rotation, unlinks, steps_before, steps_behind, steps_of, part_paths, start_of, way_of, written_paths}
 use Rattle.lr_laws_family.specs.Shown.{SawFile, Shown}
 use Rattle.lr_laws_family.specs.Turned.{ComesFrom, unless, GoesTo, with_fed, IsOrMade}
@@ -71,6 +71,11 @@ files_as n m m' alike (y ∷ ys) d h =
 from_own : (n : Naming) (x y : Path) → ComesFrom n x y → IsMember n x × IsMember n y
 from_own n x y (inl h) = (inl (h.0, (suc h.1, h.3)), inl (h.0, (h.1, h.2)))
 from_own n x y (inr h) = (inr h.0, subst (IsMember n) (sym h.1) (inr h.0))
+
+-- the newest is a member
+pub newest_own : (n : Naming) (members : List Member) (x : Path) → IsNewestOf n members x → IsMember n x
+newest_own n members x (inl h) = inl (h.0, (0, h.1))
+newest_own n members x (inr h) = inr h.0
 
 module _ (paths : List Path) (n : Naming) (r : Rotation) (p q : Past) (es : List Entry) (g : Given paths n r p q es) where
   abbrev Own : Path → Type 0
@@ -138,7 +143,7 @@ module _ (paths : List Path) (n : Naming) (r : Rotation) (p q : Past) (es : List
   -- ---- paths
 
   pub own_target : IsMember n r.target
-  own_target = g.rotation.members.target
+  own_target = newest_own n r.stood r.target g.rotation.members.target
 
   apart : (x : Path) → Own x → X x → ⊥
   apart x owned far = far.0 owned

@@ -194,7 +194,7 @@ module _ (n : Naming) (c : Count) (from : List ℕ) (members : List Member) (log
   of_members = record {
     early = paths_own n none (leftovers c places) (every_filter (HasName n) (is_left c) places places_named);
     moves = moves_own n none (kept c places) (every_filter (HasName n) (λ k. not (is_left c k)) places places_named) (kept_next n c places next);
-    target = own_at n none 0 first;
+    target = inl (none, record { bound = first; named = refl });
     gone = paths_own n none (retired c from) gone_named;
   }
 

@@ -7,7 +7,7 @@ use Rattle.lr_rules.proofs.Heads.{heads, tails}
 use Rattle.lr_host.specs.declared.entry.Entry.{Entry}
 use Rattle.lr_host.specs.declared.entry.Entry.TheVariants.{Renames}
 use Rattle.lr_host.specs.Quiet.{is_disk_change, ChangeNothing}
-use Rattle.lr_laws_family.specs.Made.{Brings, IsBetween, RotatesAmong}
+use Rattle.lr_laws_family.specs.Made.{SawFree, Brings, IsBetween, RotatesAmong}
 use Rattle.lr_laws_family.specs.Rotation.{Rotation, By, Rename, start_of, steps_before, steps_behind, steps_of}
 use Rattle.lr_laws_family.specs.Shown.{SawFile, Shown}
 use Rattle.lr_laws_family.specs.Weave.{Weave, none, own, other}
@@ -64,6 +64,7 @@ module _ (paths : List Path) (n : Naming) (r : Rotation) (front back : List Entr
     joined = ap (λ (us : List Entry). front ++ us) split.joined;
     still = still;
     start_seen = subst (λ (x : Path). SawFile x front) (sym (ap (start_of r) is)) source;
+    free_seen = subst (λ (by : By). SawFree by r front) (sym is) tt;
     seen = shown;
     before_it = split.before;
     brings = subst (λ (by : By). Brings by paths r (Renames r.source r.target ∷ [])) (sym is) refl;

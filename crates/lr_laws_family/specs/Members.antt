@@ -1,7 +1,8 @@
 -- The members of a family that stand, by their paths, be their names numbers or dates.
-use Rattle.std.specs.Prelude.{◌≡◌, true, List, map, All, None}
+use Rattle.std.specs.Prelude.{◌≡◌, ◌⊎◌, true, List, map, All, None}
 use Rattle.lr_rules.specs.declared.path.Path.{Path}
 use Rattle.lr_rules.specs.declared.rule.Naming.{Naming}
+use Rattle.lr_rules.specs.Names.{IsMemberAt}
 use Rattle.lr_rules.specs.Limits.{is_format, or_none}
 use Rattle.lr_rules.specs.Path.{path_fault}
 use Rattle.lr_host.specs.declared.thing.Thing.TheVariants as thing
@@ -10,7 +11,7 @@ use Rattle.lr_host.specs.Lists.{IsNotIn}
 use Rattle.lr_host.specs.World.{Names}
 use Rattle.lr_family.specs.declared.stand.Member.{Member}
 use Rattle.lr_family.specs.Kin.{IsKin}
-use Rattle.lr_family.specs.Parts.{IsMember}
+use Rattle.lr_family.specs.Parts.{IsMember, IsDated}
 use Rattle.lr_family.specs.Places.{AreNamed}
 use Rattle.lr_family.specs.Stands.{AreNewestFirst}
 
@@ -35,3 +36,7 @@ pub record AreThere (n : Naming) (m : Names) (members : List Member) : Type 0 wh
   pub named : AreNamed n members
   pub files : All (λ member. IsFileAt m member.path) members
   pub others : (x : Path) → IsMember n x → HasNone members x → m x ≡ thing.Nothing
+
+-- The path is the newest place of a numbered family; or a dated one's, and none of these members has it.
+abbrev pub IsNewestOf : Naming → List Member → Path → Type 0
+IsNewestOf n members x = ((n.dated ≡ None) × IsMemberAt n 0 x) ⊎ (IsDated n x × HasNone members x)

@@ -13,7 +13,7 @@ ghost use Rattle.lr_chain.specs.Standing.{AreGoing};
 ghost use Rattle.lr_chain.specs.DatedRotation.{Ranked, AreDatedAt};
 ghost use Rattle.lr_laws_family.specs.Dated.{dated};
 ghost use Rattle.lr_laws_family.specs.Made.{IsBetween, RotatesAmong};
-ghost use Rattle.lr_laws_family.specs.Members.{IsNoMember, IsFamily};
+ghost use Rattle.lr_laws_family.specs.Members.{IsNoMember, IsFamily, HasNone};
 ghost use Rattle.lr_laws_family.specs.Numbered.{numbered, HaveNext};
 ghost use Rattle.lr_laws_family.specs.Rotation.{Rotation, By, Rename, steps_of};
 ghost use Rattle.lr_laws_family.specs.Shown.{SawFile, Shown};
@@ -27,10 +27,11 @@ pub fn numbers_rotate()
         → AreGoing c (places_of members) from → IsRotation n (numbered n c from members log source by) }
 {}
 
-/// Where the target and all members have dated names, the rotation by dates is one of the family.
+/// Where the target and all members have dated names, and none of those that stood has the target's, the rotation by dates is
+/// one of the family.
 pub fn dates_rotate()
     ensures { (n : Naming) (c : Count) (all : List Ranked) (members : List Member) (log source target : Path) (by : By)
-        (seconds : ℤ) (serial : ℕ) → IsDatedAt n seconds serial target → IsNoMember n source → AreDatedAt n all
+        (seconds : ℤ) (serial : ℕ) → IsDatedAt n seconds serial target → IsNoMember n source → HasNone members target → AreDatedAt n all
         → IsRotation n (dated c all members log source target by) }
 {}
 

@@ -31,6 +31,7 @@ use Rattle.lr_laws_targets.specs.Target.{Target, HasDir, transfer_of, rotation_o
 use Rattle.lr_laws_targets.proofs.PartFile.{part_joined, job_part}
 use Rattle.lr_laws_targets.proofs.Plan.{plan_is_one, any_log}
 use Rattle.lr_laws_targets.proofs.Rotating.{each_part}
+use Rattle.lr_laws_family.proofs.Core.{newest_own}
 
 -- ---- members and their part files
 
@@ -93,7 +94,7 @@ module _ (t : Target) (h : HasNames t) where
 
   -- the log comes to a member's path
   pub target_member : IsMember t.naming t.ready.target
-  target_member = family_members.target
+  target_member = newest_own t.naming t.stand.members t.ready.target family_members.target
 
   to_member : (job : Job) → t.job ≡ Some job → IsMember t.naming job.to
   to_member job is = subst (IsMember t.naming) (sym (h.job job is).to_is) target_member

@@ -28,6 +28,8 @@ use Rattle.lr_laws_family.proofs.Numbers.{rising, numbered_is_one}
 use Rattle.lr_laws_family.specs.Rotation.{Rotation, By}
 use Rattle.lr_laws_rotations.proofs.Ready.{have_next}
 use Rattle.lr_laws_targets.specs.Rotation.{by_of, paths_in, rotation_by}
+use Rattle.lr_chain.proofs.Serials.{is_next}
+use Rattle.lr_laws_rotations.proofs.Stamped.{next_free}
 
 -- a rotation by its parts
 abbrev with_parts : Path → List Member → By → Path → List Path → List Move → Path → List Path → Rotation
@@ -81,6 +83,7 @@ module _ (t : Target) (h : HasNames t) where
       let at = target_at n t.count h.clock t.stand h.free f is h.family.format h.named in
       subst (IsRotation n) (sym (by_stamps t h.clock (h.ready ∙ ready_dates t.log n t.count t.maxage h.clock t.ready.make members f is)))
       (dated_is_one n t.count (all_by n t.maxage h.clock members) members t.log t.log (dated_target n h.clock members) (by_of t.job) (clock_seconds n.dated h.clock) (next_serial members (clock_seconds n.dated h.clock)) at h.family.apart
+      (next_free n h.family.format members h.named (clock_seconds n.dated h.clock) (next_serial members (clock_seconds n.dated h.clock)) (is_next members (clock_seconds n.dated h.clock)) (dated_target n h.clock members) at)
       (all_dated n t.maxage now (clock_seconds n.dated h.clock) (next_serial members (clock_seconds n.dated h.clock)) (dated_target n h.clock members) members h.named at))
 
   pub plan_is_one : IsRotation t.naming (rotation_by t)

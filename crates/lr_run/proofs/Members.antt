@@ -18,7 +18,7 @@ use Rattle.lr_laws_targets.specs.Rotation.{paths_in}
 use Rattle.lr_laws_targets.specs.Seen.{IsLogSeen}
 use Rattle.lr_laws_targets.specs.Target.{Target, HasDir, HasJob}
 use Rattle.lr_laws_targets.proofs.LogSeen.{any_names}
-use Rattle.lr_laws_targets.proofs.Own.{named_own}
+use Rattle.lr_laws_targets.proofs.Own.{named_own, target_member}
 use Rattle.lr_laws_targets.proofs.PartFile.{part_no_member}
 use Rattle.lr_laws_targets.proofs.Plan.{plan_is_one, any_log}
 use Rattle.lr_plan.specs.declared.plan.SetPlan.{SetPlan}
@@ -98,11 +98,11 @@ has_members t h =
       leftovers = of_paths t.naming t.ready.leftovers paths.early;
       moves = give t.naming t.ready.moves paths.moves;
       taken = take t.naming t.ready.moves paths.moves;
-      target = paths.target;
+      target = target_member t h;
       retire = of_paths t.naming t.ready.retire paths.gone;
       dir = h.dir;
       job = h.job;
-      apart = part_no_member t.log t.naming h.family t.ready.target paths.target;
+      apart = part_no_member t.log t.naming h.family t.ready.target (target_member t h);
       no_log = h.family.apart;
     }
 

@@ -17,7 +17,7 @@ use Rattle.lr_laws_targets.specs.AllTurns.{paths_beside}
 use Rattle.lr_family.specs.Parts.{IsMember}
 use Rattle.lr_chain.specs.Ready.{move_step}
 use Rattle.lr_laws_family.specs.Beside.{IsBeside}
-use Rattle.lr_laws_family.specs.Made.{IsBetween, Brings, RotatesAmong}
+use Rattle.lr_laws_family.specs.Made.{IsBetween, Brings, RotatesAmong, SawFree}
 use Rattle.lr_laws_family.specs.Members.{IsNoMember}
 use Rattle.lr_laws_family.specs.Rotation.{Rotation, By, Copy, unlinks, steps_before, steps_behind, part_paths, start_of, IsOfMembers}
 use Rattle.lr_laws_family.specs.Shown.{SawFile}
@@ -25,7 +25,7 @@ use Rattle.lr_laws_targets.specs.Target.{Target, IsJob}
 use Rattle.lr_laws_targets.specs.Rotation.{by_of, rotation_by}
 use Rattle.lr_laws_targets.proofs.Rotating.{copied_steps}
 use Rattle.lr_laws_family.specs.Weave.{Weave}
-use Rattle.lr_laws_family.proofs.Core.{unlinks_each, moves_each}
+use Rattle.lr_laws_family.proofs.Core.{unlinks_each, moves_each, newest_own}
 use Rattle.lr_laws_family.proofs.These.{IsOfThese}
 use Rattle.lr_laws_targets.specs.Runs.{AllTurnedBy}
 use Rattle.lr_laws_targets.proofs.LogSeen.{log_among}
@@ -61,7 +61,7 @@ module _ (state : Path) (clock : Clock) (rules : Rules) (reads tail : List Entry
   last_own = unlinks_each Own r.gone of.gone
 
   own_to : Own job.to
-  own_to = subst Own (sym is_job.to_is) of.target
+  own_to = subst Own (sym is_job.to_is) (newest_own x.naming x.stand.members x.ready.target of.target)
 
   -- said of what brings the log to its target
   woven_by : (steps ts : List Entry) → Weave (IsBeside (job.part ∷ paths) job.from) steps ts → Weave (IsBetween paths r) steps ts
@@ -78,6 +78,7 @@ module _ (state : Path) (clock : Clock) (rules : Rules) (reads tail : List Entry
         ∙ ap (λ zs. front state clock rules reads tail t x quiet one ++ zs) (copy_stands.joined ∙ ap (λ zs. copy_stands.before ++ zs) (sym (append_assoc copy_stands.named (cutting job) copy_stands.after)));
     still = front_still state clock rules reads tail t x quiet one;
     start_seen = subst (λ (by : By). SawFile (start_of r by) (front state clock rules reads tail t x quiet one)) (sym by_is) (source_seen state clock rules reads tail t x quiet one);
+    free_seen = subst (λ (by : By). SawFree by r (front state clock rules reads tail t x quiet one)) (sym by_is) tt;
     seen = members_seen state clock rules reads tail t x quiet one;
     before_it = woven_by (steps_before r) (filter is_disk_change copy_stands.before)
         (early_woven state x t.turns.targets t.turns.acts job Own (steps_before r) (steps_behind r) job_is from_log (t.whole x one) (copied_steps x job job_is) first_own last_own own_to outside copy_stands empties);
