@@ -3,7 +3,7 @@ ghost use Rattle.std.specs.Prelude.{◌≡◌, IfOk, option_copied};
 ghost use Rattle.lr_host.specs.declared.entry.Entry.TheVariants as entry;
 
 use lr_host::Entry;
-use lr_rules::{Ended, Listed, Memory, Moment, Path, Rules, Text, copy_texts};
+use lr_rules::{Ended, Listed, Memory, Moment, Path, Rules, Text, copy_path, copy_texts};
 use std::alloc::Global;
 
 pub fn starts(alloc: Global, state: &Path, now: &Moment, rules: &Rules) -> Result<Entry, Memory>
@@ -84,15 +84,6 @@ pub fn makes_dir(alloc: Global, path: &Path, mode: Option<u32>) -> Result<Entry,
     })
 }
 
-fn copy_input(alloc: Global, input: Option<&Path>) -> Result<Option<Path>, Memory>
-    ensures { IfOk result (λ copy. copy ≡ option_copied input.entry) }
-{
-    match input {
-        Some(path) => Ok(Some(path.copy(alloc)?)),
-        None => Ok(None),
-    }
-}
-
 pub fn runs(
     alloc: Global,
     program: &Path,
@@ -105,7 +96,7 @@ pub fn runs(
     Ok(Entry::Runs {
         program: program.copy(alloc)?,
         args: copy_texts(alloc, args)?,
-        input: copy_input(alloc, input)?,
+        input: copy_path(alloc, input)?,
         ended,
     })
 }

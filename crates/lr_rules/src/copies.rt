@@ -1,5 +1,5 @@
 // Copies of rules.
-ghost use Rattle.std.specs.Prelude.{◌≡◌, IfOk};
+ghost use Rattle.std.specs.Prelude.{◌≡◌, IfOk, option_copied};
 
 use crate::{Format, Listed, Memory, Path, Rule, Rules, Scripts, Text};
 use std::alloc::Global;
@@ -21,6 +21,16 @@ pub fn copy_text(alloc: Global, text: &Option<Text>) -> Result<Option<Text>, Mem
 {
     match text {
         Some(text) => Ok(Some(text.copy(alloc)?)),
+        None => Ok(None),
+    }
+}
+
+/// A copy of the path, where there is one.
+pub fn copy_path(alloc: Global, path: Option<&Path>) -> Result<Option<Path>, Memory>
+    ensures { IfOk result (λ copy. copy ≡ option_copied path.entry) }
+{
+    match path {
+        Some(path) => Ok(Some(path.copy(alloc)?)),
         None => Ok(None),
     }
 }

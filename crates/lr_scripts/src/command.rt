@@ -1,11 +1,11 @@
 // Running one program.
-ghost use Rattle.std.specs.Prelude.{[], ◌∷◌, pos, OnOk, IfErr};
+ghost use Rattle.std.specs.Prelude.{◌≡◌, [], ◌∷◌, pos, OnOk, IfOk, IfErr};
 ghost use Rattle.lr_rules.specs.declared.fault.Ended.TheVariants as ended;
 ghost use Rattle.lr_host.specs.Told.{Left, Are, Can, Onward};
 ghost use Rattle.lr_scripts.specs.Programs.{runs, RunRefused, RunCause};
 
 use lr_host::{Host, RunFault};
-use lr_rules::{CallKind, Ended, Listed, Path, Phase, Text};
+use lr_rules::{CallKind, Ended, Listed, Memory, Path, Phase, Text, copy_path, copy_texts};
 use std::alloc::Global;
 
 /// A program that is to be run.
@@ -16,6 +16,22 @@ pub struct Command {
     pub args: Listed<Text>,
     /// The file that the program reads as its input, if any.
     pub input: Option<Path>,
+}
+
+impl Command {
+    /// An equal program.
+    pub fn copy(&self, alloc: Global) -> Result<Command, Memory>
+        ensures { IfOk result (λ command. command ≡ self.now) }
+    {
+        let program = self.program.copy(alloc)?;
+        let args = copy_texts(alloc, self.args.as_slice())?;
+        let input = copy_path(alloc, self.input.as_ref())?;
+        Ok(Command {
+            program,
+            args,
+            input,
+        })
+    }
 }
 
 /// Why a program, or the removal of a file, was refused.
