@@ -8,7 +8,7 @@ ghost use Rattle.lr_host.specs.Counted.{AddsFaults};
 ghost use Rattle.lr_host.specs.Told.{Left, Onward};
 ghost use Rattle.lr_looks.specs.Shown.{ShowsSomeLooks};
 ghost use Rattle.lr_plan.specs.Asked.{asking};
-ghost use Rattle.lr_plan.specs.Planned.{CanPlanAll, plan_of};
+ghost use Rattle.lr_plan.specs.Planned.{CanPlanAll};
 ghost use Rattle.lr_seen.specs.Free.{reserved_by};
 ghost use Rattle.lr_run.specs.Answers.{Answers};
 ghost use Rattle.lr_run.specs.Dry.{Follows, LacksTry, measured_by};
@@ -53,30 +53,28 @@ fn is_small(
 }
 
 // Adds the faults of a plan, and makes room for one more.
-fn add_planned(faults: &mut Vec<Fault>, plan: Plan) -> Result<(), Memory>
-    ensures faults { OnOk result (faults.new.items ≡ faults.old.items ++ plan.faults) }
+fn add_planned(alloc: Global, faults: &mut Vec<Fault>, plan: &Plan) -> Result<(), Memory>
+    ensures faults { OnOk result (faults.new.items ≡ faults.old.items ++ plan.now.faults) }
     ensures room { OnOk result (vec_len faults.new + 1 ≤ vec_capacity faults.new) }
 {
-    let Plan { faults: more, .. } = plan;
-    add_all(faults, more)?;
+    add_all(alloc, faults, plan.faults.as_slice())?;
     faults.reserve(1)?;
     Ok(())
 }
 
-// The plan, where it is small enough, and else none. What is told of it is added: by the same plan, which is taken apart.
+// The plan, where it is small enough, and else none. What is told of it is added.
 fn tell(
+    alloc: Global,
     small: bool,
     plan: Plan,
-    same: Plan,
     faults: &mut Vec<Fault>,
 ) -> Result<Option<Plan>, Memory>
-    requires { same ≡ plan }
     ensures plan { IfOk result (λ told. told ≡ plan_if small plan) }
     ensures faults { OnOk result (faults.new.items ≡ faults.old.items ++ faults_if small plan) }
     ensures room { OnOk result (vec_len faults.new + 1 ≤ vec_capacity faults.new) }
 {
     if small {
-        add_planned(faults, same)?;
+        add_planned(alloc, faults, &plan)?;
         Ok(Some(plan))
     } else {
         add_too_big(faults)?;
@@ -84,28 +82,7 @@ fn tell(
     }
 }
 
-// Measures this plan, and tells of it. A plan is taken apart for its faults, so it is made again.
-fn measure(
-    alloc: Global,
-    rules: &Rules,
-    settings: &Settings,
-    clock: &Clock,
-    looks: &Looks,
-    told: Plan,
-    table: State,
-    faults: &mut Vec<Fault>,
-) -> Result<Option<Plan>, Memory>
-    requires rules { CanPlanAll rules.now.sets looks.now.sets }
-    requires told { told ≡ plan_of rules.now.sets looks.now.sets table clock.now (asking settings.now.force settings.now.mailer) }
-    ensures follows { IfOk result (λ plan. (own : List Fault) × (faults.new.items ≡ faults.old.items ++ own) × Follows rules.now.sets looks.now.sets looks.now.kept table clock.entry.now (asking settings.now.force settings.now.mailer) plan own) }
-    ensures room { OnOk result (vec_len faults.new + 1 ≤ vec_capacity faults.new) }
-{
-    let same = plan(alloc, rules, looks, &table, clock, settings)?;
-    let small = is_small(alloc, table, looks.kept.as_slice(), &told, &clock.now.civil)?;
-    tell(small, told, same, faults)
-}
-
-// Plans by what was seen.
+// Plans by what was seen, measures the plan, and tells of it.
 fn plan_dry(
     alloc: Global,
     rules: &Rules,
@@ -119,8 +96,10 @@ fn plan_dry(
     ensures follows { IfOk result (λ plan. (own : List Fault) × (faults.new.items ≡ faults.old.items ++ own) × Follows rules.now.sets looks.now.sets looks.now.kept table clock.entry.now (asking settings.now.force settings.now.mailer) plan own) }
     ensures room { OnOk result (vec_len faults.new + 1 ≤ vec_capacity faults.new) }
 {
-    let told = plan(alloc, rules, looks, &table, clock, settings)?;
-    measure(alloc, rules, settings, clock, looks, told, table, faults)
+    let plan = plan(alloc, rules, looks, &table, clock, settings)?;
+    let kept = looks.kept.as_slice();
+    let small = is_small(alloc, table, kept, &plan, &clock.now.civil)?;
+    tell(alloc, small, plan, faults)
 }
 
 // Looks at the logs, and plans by what was seen and by this table.

@@ -48,12 +48,12 @@ pub fn bring_up_to(
     fits(alloc, table, &due, now)
 }
 
-/// Adds the faults of the plan.
-pub fn add_all(faults: &mut Vec<Fault>, more: Listed<Fault>) -> Result<(), Memory>
-    ensures { OnOk result (faults.new.items ≡ faults.old.items ++ more) }
+/// Adds copies of these faults.
+pub fn add_all(alloc: Global, faults: &mut Vec<Fault>, more: &[Fault]) -> Result<(), Memory>
+    ensures { OnOk result (faults.new.items ≡ faults.old.items ++ more.now) }
 {
-    for fault in more.into_vec() {
-        faults.push(fault)?;
+    for fault in more {
+        faults.push(fault.copy(alloc)?)?;
     }
     Ok(())
 }
@@ -61,18 +61,17 @@ pub fn add_all(faults: &mut Vec<Fault>, more: Listed<Fault>) -> Result<(), Memor
 // Makes the steps of a plan ready: adds its faults, and takes the room that its acts need.
 fn steps_ready(
     alloc: Global,
-    plan: Plan,
+    plan: &Plan,
     progress: &mut Progress,
 ) -> Result<Listed<SetSteps>, Memory>
-    ensures steps { IfOk result (λ sets. sets ≡ steps_of_plan plan) }
-    ensures faults { OnOk result (progress.new.faults.items ≡ progress.old.faults.items ++ plan.faults) }
+    ensures steps { IfOk result (λ sets. sets ≡ steps_of_plan plan.now) }
+    ensures faults { OnOk result (progress.new.faults.items ≡ progress.old.faults.items ++ plan.now.faults) }
     ensures marks { progress.new.marks.items ≡ progress.old.marks.items }
     ensures room { IfOk result (λ sets. HasRoom (length (all_of_sets sets)) progress.new) }
     ensures two_more { IfOk result (λ sets. vec_len progress.new.faults + length (all_of_sets sets) + 2 ≤ vec_capacity progress.new.faults) }
 {
-    let Plan { sets, faults, .. } = plan;
-    add_all(&mut progress.faults, faults)?;
-    let steps = steps_of(alloc, sets)?;
+    add_all(alloc, &mut progress.faults, plan.faults.as_slice())?;
+    let steps = steps_of(alloc, plan.sets.as_slice())?;
     take_room(progress, steps.as_slice())?;
     Ok(steps)
 }
@@ -83,12 +82,12 @@ fn all_ready(
     state: &Path,
     part: Path,
     stale: bool,
-    plan: Plan,
+    plan: &Plan,
     table: State,
     progress: &mut Progress,
 ) -> Result<Ready, Memory>
     requires { part ≡ state_part state.now }
-    ensures { IfOk result (λ ready. IsReady state.now stale plan table ready progress.old progress.new) }
+    ensures { IfOk result (λ ready. IsReady state.now stale plan.now table ready progress.old progress.new) }
 {
     let writing = prepare(alloc, state, part, stale)?;
     let directories = directories_by(alloc, plan.sets.as_slice())?;
@@ -108,16 +107,16 @@ pub fn make_ready(
     state: &Path,
     now: &Moment,
     kept: &[Path],
-    plan: Plan,
+    plan: &Plan,
     part: Path,
     remembered: Remembered,
     progress: &mut Progress,
 ) -> Result<Option<Ready>, Memory>
     requires { part ≡ state_part state.now }
-    ensures { IfOk result (λ ready. MayBeReady state.now now.now remembered kept.now plan ready progress.old progress.new) }
+    ensures { IfOk result (λ ready. MayBeReady state.now now.now remembered kept.now plan.now ready progress.old progress.new) }
 {
     let Remembered { mut table, stale } = remembered;
-    let small = bring_up_to(alloc, &mut table, kept, &plan, &now.civil)?;
+    let small = bring_up_to(alloc, &mut table, kept, plan, &now.civil)?;
     if !small {
         return Ok(None);
     }

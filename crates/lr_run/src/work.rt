@@ -10,7 +10,7 @@ ghost use Rattle.lr_host.specs.Opening.{IsJournal};
 ghost use Rattle.lr_host.specs.Told.{Left, Can, Onward, WhereTold};
 ghost use Rattle.lr_host.specs.Counted.{AddsFaults};
 ghost use Rattle.lr_plan.specs.Asked.{asking};
-ghost use Rattle.lr_plan.specs.Planned.{CanPlanAll, plan_of};
+ghost use Rattle.lr_plan.specs.Planned.{CanPlanAll};
 ghost use Rattle.lr_run.specs.Anew.{NamesAnew};
 ghost use Rattle.lr_run.specs.Taken.{AddsTaken};
 ghost use Rattle.lr_run.specs.Internal.{WorkDone, LookedDone, KnownBefore, SeenBefore, Carries, SomeWork, EndsBehindLooks, EndsBehindState};
@@ -47,55 +47,8 @@ fn reach(reached: &mut Option<Plan>, plan: Plan)
     *reached = Some(plan);
 }
 
-// Carries this plan out, which is then the one that was reached; or tells that the text of the state could become too big. A
-// plan is taken apart into its steps, so it is made again.
-fn act_by<H: Host>(
-    alloc: Global,
-    host: &mut H,
-    rules: &Rules,
-    settings: &Settings,
-    clock: &Clock,
-    looks: &Looks,
-    told: Plan,
-    part: Path,
-    remembered: Remembered,
-    reached: &mut Option<Plan>,
-    progress: &mut Progress,
-) -> Result<(), Memory>
-    requires none { reached.old ≡ None }
-    requires rules { CanPlanAll rules.now.sets looks.now.sets }
-    requires told { told ≡ plan_of rules.now.sets looks.now.sets remembered.table clock.now (asking settings.now.force settings.now.mailer) }
-    requires part { part ≡ state_part settings.now.state }
-    requires seen { SeenBefore settings.now.state rules.now looks.now remembered (H.told host.old) }
-    ensures told { OnOk result (Carries rules.now looks.now settings.now.state remembered clock.entry.now (asking settings.now.force settings.now.mailer) reached.new progress.old.faults.items progress.new.faults.items (H.told host.old) (H.told host.new)) }
-    ensures some { OnErr result (Left (EndsBehindLooks rules.now looks.now settings.now.state remembered clock.entry.now (asking settings.now.force settings.now.mailer)) (H.told host.old) (H.told host.new)) }
-    ensures room { OnOk result (vec_len progress.new.faults + 1 ≤ vec_capacity progress.new.faults) }
-    ensures counted { OnOk result (AddsFaults progress.old.faults.items progress.new.faults.items (H.counts host.old) (H.counts host.new)) }
-    ensures taken { OnOk result (AddsTaken settings.now.state reached.new progress.old.faults.items progress.new.faults.items (H.told host.old) (H.told host.new)) }
-    ensures anew { OnOk result (NamesAnew reached.new progress.new.faults.items (H.told host.new)) }
-    ensures counts { Onward (H.counts host.old) (H.counts host.new) }
-{
-    let plan = plan(alloc, rules, looks, &remembered.table, clock, settings)?;
-    let kept = looks.kept.as_slice();
-    match make_ready(
-        alloc,
-        &settings.state,
-        &clock.now,
-        kept,
-        plan,
-        part,
-        remembered,
-        progress,
-    )? {
-        Some(ready) => {
-            reach(reached, told);
-            carry_out(alloc, host, ready, &clock.now.civil, progress)
-        }
-        None => add_too_big(&mut progress.faults),
-    }
-}
-
-// Plans, and carries the plan out, or tells why not.
+// Plans, and carries the plan out, which is then the one that was reached; or tells that the text of the state could become
+// too big.
 fn plan_and_act<H: Host>(
     alloc: Global,
     host: &mut H,
@@ -120,10 +73,24 @@ fn plan_and_act<H: Host>(
     ensures anew { OnOk result (NamesAnew reached.new progress.new.faults.items (H.told host.new)) }
     ensures counts { Onward (H.counts host.old) (H.counts host.new) }
 {
-    let told = plan(alloc, rules, looks, &remembered.table, clock, settings)?;
-    act_by(
-        alloc, host, rules, settings, clock, looks, told, part, remembered, reached, progress,
-    )
+    let plan = plan(alloc, rules, looks, &remembered.table, clock, settings)?;
+    let kept = looks.kept.as_slice();
+    match make_ready(
+        alloc,
+        &settings.state,
+        &clock.now,
+        kept,
+        &plan,
+        part,
+        remembered,
+        progress,
+    )? {
+        Some(ready) => {
+            reach(reached, plan);
+            carry_out(alloc, host, ready, &clock.now.civil, progress)
+        }
+        None => add_too_big(&mut progress.faults),
+    }
 }
 
 // Looks at the logs, and carries out what follows from what was seen and is known of the state.

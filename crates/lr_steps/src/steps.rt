@@ -1,4 +1,4 @@
-// The steps of a plan, made before the first of them is taken.
+// The steps of a plan, made before the first of them is taken. They hold copies of what the plan names.
 ghost use Rattle.std.specs.Prelude.{◌≡◌, ◌∷◌, ◌++◌, [], None, map, slice_index_or, option_copied, OnOk, IfOk};
 ghost use Rattle.lr_rules.specs.declared.fault.Phase.TheVariants as phase;
 ghost use Rattle.lr_plan.specs.declared.step.Step.TheVariants as step;
@@ -8,7 +8,7 @@ use lr_chain::{Move, Ready};
 use lr_commands::text_of;
 use lr_copy::Job;
 use lr_plan::Step;
-use lr_rules::{Listed, Make, Memory, Path, Phase, Text};
+use lr_rules::{Make, Memory, Path, Phase, Text};
 use lr_scripts::{Command, Removal};
 use std::alloc::Global;
 
@@ -40,59 +40,79 @@ fn on_text(alloc: Global, phase: Phase, command: &Command) -> Result<Text, Memor
     }
 }
 
+// The step of a program.
+fn run_step(alloc: Global, phase: Phase, command: &Command) -> Result<Step, Memory>
+    ensures { IfOk result (λ made. made ≡ step.Runs phase (on_of phase command.now) command.now) }
+{
+    let on = on_text(alloc, phase, command)?;
+    let command = command.copy(alloc)?;
+    Ok(Step::Runs { phase, on, command })
+}
+
+/// Adds the step of a program, where there is one.
 pub fn add_program(
     alloc: Global,
     steps: &mut Vec<Step>,
     phase: Phase,
-    command: Option<Command>,
+    command: &Option<Command>,
 ) -> Result<(), Memory>
-    ensures { OnOk result (steps.new.items ≡ steps.old.items ++ program phase command) }
+    ensures { OnOk result (steps.new.items ≡ steps.old.items ++ program phase command.now) }
 {
     if let Some(command) = command {
-        let on = on_text(alloc, phase, &command)?;
-        steps.push(Step::Runs { phase, on, command })?;
+        steps.push(run_step(alloc, phase, command)?)?;
     }
     Ok(())
 }
 
-fn add_removal(alloc: Global, steps: &mut Vec<Step>, file: Removal) -> Result<(), Memory>
-    ensures { OnOk result (steps.new.items ≡ steps.old.items ++ removal file) }
+fn add_removal(alloc: Global, steps: &mut Vec<Step>, file: &Removal) -> Result<(), Memory>
+    ensures { OnOk result (steps.new.items ≡ steps.old.items ++ removal file.now) }
 {
-    let Removal {
-        path,
-        preremove,
-        mail,
-    } = file;
-    add_program(alloc, steps, Phase::Preremove, preremove)?;
-    add_program(alloc, steps, Phase::Mail, mail)?;
-    steps.push(Step::Removes { path })?;
+    add_program(alloc, steps, Phase::Preremove, &file.preremove)?;
+    add_program(alloc, steps, Phase::Mail, &file.mail)?;
+    steps.push(Step::Removes {
+        path: file.path.copy(alloc)?,
+    })?;
     Ok(())
 }
 
-fn add_removals(alloc: Global, steps: &mut Vec<Step>, list: Listed<Removal>) -> Result<(), Memory>
-    ensures { OnOk result (steps.new.items ≡ steps.old.items ++ removals list) }
+fn add_removals(alloc: Global, steps: &mut Vec<Step>, list: &[Removal]) -> Result<(), Memory>
+    ensures { OnOk result (steps.new.items ≡ steps.old.items ++ removals list.now) }
 {
-    for file in list.into_vec() {
+    for file in list {
         add_removal(alloc, steps, file)?;
     }
     Ok(())
 }
 
-fn add_moves(steps: &mut Vec<Step>, list: Listed<Move>) -> Result<(), Memory>
-    ensures { OnOk result (steps.new.items ≡ steps.old.items ++ map move list) }
+fn rename_step(alloc: Global, from: &Path, to: &Path) -> Result<Step, Memory>
+    ensures { IfOk result (λ made. made ≡ step.Renames from.now to.now) }
 {
-    for one in list.into_vec() {
-        let Move { from, to } = one;
-        steps.push(Step::Renames { from, to })?;
+    let from = from.copy(alloc)?;
+    let to = to.copy(alloc)?;
+    Ok(Step::Renames { from, to })
+}
+
+fn add_moves(alloc: Global, steps: &mut Vec<Step>, list: &[Move]) -> Result<(), Memory>
+    ensures { OnOk result (steps.new.items ≡ steps.old.items ++ map move list.now) }
+{
+    for one in list {
+        steps.push(rename_step(alloc, &one.from, &one.to)?)?;
     }
     Ok(())
 }
 
-fn add_directory(steps: &mut Vec<Step>, dir: Option<(Path, Option<u32>)>) -> Result<(), Memory>
-    ensures { OnOk result (steps.new.items ≡ steps.old.items ++ directory dir) }
+fn add_directory(
+    alloc: Global,
+    steps: &mut Vec<Step>,
+    dir: &Option<(Path, Option<u32>)>,
+) -> Result<(), Memory>
+    ensures { OnOk result (steps.new.items ≡ steps.old.items ++ directory dir.now) }
 {
     if let Some((path, mode)) = dir {
-        steps.push(Step::MakesDir { path, mode })?;
+        steps.push(Step::MakesDir {
+            path: path.copy(alloc)?,
+            mode: *mode,
+        })?;
     }
     Ok(())
 }
@@ -113,27 +133,30 @@ fn add_part_file(alloc: Global, steps: &mut Vec<Step>, job: &Job) -> Result<(), 
     Ok(())
 }
 
-// Adds the steps behind them.
-fn add_final_name(alloc: Global, steps: &mut Vec<Step>, job: Job) -> Result<(), Memory>
-    ensures { OnOk result (steps.new.items ≡ steps.old.items ++ (step.SyncsFile job.part ∷ step.Renames job.part job.to ∷ step.SyncsDir job.dir ∷ step_if job.cut (step.Truncates job.from))) }
+// Adds the truncation of the log behind its copy, where it is asked for.
+fn add_cut(alloc: Global, steps: &mut Vec<Step>, job: &Job) -> Result<(), Memory>
+    ensures { OnOk result (steps.new.items ≡ steps.old.items ++ step_if job.now.cut (step.Truncates job.now.from)) }
 {
-    let Job {
-        from,
-        part,
-        to,
-        dir,
-        cut,
-        ..
-    } = job;
-    steps.push(Step::SyncsFile {
-        path: part.copy(alloc)?,
-    })?;
-    steps.push(Step::Renames { from: part, to })?;
-    steps.push(Step::SyncsDir { path: dir })?;
-    if cut {
-        steps.push(Step::Truncates { path: from })?;
+    if job.cut {
+        steps.push(Step::Truncates {
+            path: job.from.copy(alloc)?,
+        })?;
     }
     Ok(())
+}
+
+// Adds the steps behind them.
+fn add_final_name(alloc: Global, steps: &mut Vec<Step>, job: &Job) -> Result<(), Memory>
+    ensures { OnOk result (steps.new.items ≡ steps.old.items ++ (step.SyncsFile job.now.part ∷ step.Renames job.now.part job.now.to ∷ step.SyncsDir job.now.dir ∷ step_if job.now.cut (step.Truncates job.now.from))) }
+{
+    steps.push(Step::SyncsFile {
+        path: job.part.copy(alloc)?,
+    })?;
+    steps.push(rename_step(alloc, &job.part, &job.to)?)?;
+    steps.push(Step::SyncsDir {
+        path: job.dir.copy(alloc)?,
+    })?;
+    add_cut(alloc, steps, job)
 }
 
 // Adds the copy of the bytes.
@@ -150,11 +173,11 @@ fn add_bytes(alloc: Global, steps: &mut Vec<Step>, job: &Job) -> Result<(), Memo
     Ok(())
 }
 
-fn add_copy(alloc: Global, steps: &mut Vec<Step>, job: Job) -> Result<(), Memory>
-    ensures { OnOk result (steps.new.items ≡ steps.old.items ++ copy job) }
+fn add_copy(alloc: Global, steps: &mut Vec<Step>, job: &Job) -> Result<(), Memory>
+    ensures { OnOk result (steps.new.items ≡ steps.old.items ++ copy job.now) }
 {
-    add_part_file(alloc, steps, &job)?;
-    add_bytes(alloc, steps, &job)?;
+    add_part_file(alloc, steps, job)?;
+    add_bytes(alloc, steps, job)?;
     add_final_name(alloc, steps, job)
 }
 
@@ -162,98 +185,75 @@ fn add_copy(alloc: Global, steps: &mut Vec<Step>, job: Job) -> Result<(), Memory
 fn add_transfer(
     alloc: Global,
     steps: &mut Vec<Step>,
-    log: Path,
-    target: Path,
-    make: Make,
-    job: Option<Job>,
+    ready: &Ready,
+    job: &Option<Job>,
 ) -> Result<(), Memory>
-    ensures { OnOk result (steps.new.items ≡ steps.old.items ++ (transfer log target job ++ step.Rotated log ∷ made_anew make log job)) }
+    ensures { OnOk result (steps.new.items ≡ steps.old.items ++ (transfer ready.now.log ready.now.target job.now ++ (step.Rotated ready.now.log ∷ made_anew ready.now.make ready.now.log job.now))) }
 {
     match job {
         Some(job) => {
             add_copy(alloc, steps, job)?;
-            steps.push(Step::Rotated { log })?;
-            Ok(())
+            add_rotated(alloc, steps, &ready.log)
         }
         None => {
-            steps.push(Step::Renames {
-                from: log.copy(alloc)?,
-                to: target,
-            })?;
-            add_anew(alloc, steps, log, make)
+            steps.push(rename_step(alloc, &ready.log, &ready.target)?)?;
+            add_anew(alloc, steps, &ready.log, ready.make)
         }
     }
 }
 
-fn add_anew(alloc: Global, steps: &mut Vec<Step>, log: Path, make: Make) -> Result<(), Memory>
-    ensures { OnOk result (steps.new.items ≡ steps.old.items ++ step.Rotated log ∷ made_anew make log None) }
+fn add_rotated(alloc: Global, steps: &mut Vec<Step>, log: &Path) -> Result<(), Memory>
+    ensures { OnOk result (steps.new.items ≡ steps.old.items ++ step.Rotated log.now ∷ []) }
 {
-    match make {
-        Make::No => {
-            steps.push(Step::Rotated { log })?;
-            Ok(())
-        }
-        Make::Yes(mode) => {
-            steps.push(Step::Rotated {
-                log: log.copy(alloc)?,
-            })?;
-            steps.push(Step::Creates { path: log, mode })?;
-            Ok(())
-        }
+    steps.push(Step::Rotated {
+        log: log.copy(alloc)?,
+    })?;
+    Ok(())
+}
+
+fn add_anew(alloc: Global, steps: &mut Vec<Step>, log: &Path, make: Make) -> Result<(), Memory>
+    ensures { OnOk result (steps.new.items ≡ steps.old.items ++ step.Rotated log.now ∷ made_anew make log.now None) }
+{
+    add_rotated(alloc, steps, log)?;
+    if let Make::Yes(mode) = make {
+        steps.push(Step::Creates {
+            path: log.copy(alloc)?,
+            mode,
+        })?;
     }
+    Ok(())
 }
 
-// Adds what comes before the log's own way: the prerotate, the leftovers, the directory and the chain.
-fn add_chain(
-    alloc: Global,
-    steps: &mut Vec<Step>,
-    pre: Option<Command>,
-    leftovers: Listed<Removal>,
-    dir: Option<(Path, Option<u32>)>,
-    moves: Listed<Move>,
-) -> Result<(), Memory>
-    ensures { OnOk result (steps.new.items ≡ steps.old.items ++ (program phase.Pre pre ++ (removals leftovers ++ (directory dir ++ map move moves)))) }
+// Adds what comes before the log's own way: the leftovers, the directory and the chain.
+fn add_chain(alloc: Global, steps: &mut Vec<Step>, ready: &Ready) -> Result<(), Memory>
+    ensures { OnOk result (steps.new.items ≡ steps.old.items ++ (removals ready.now.leftovers ++ (directory ready.now.dir ++ map move ready.now.moves))) }
 {
-    add_program(alloc, steps, Phase::Pre, pre)?;
-    add_removals(alloc, steps, leftovers)?;
-    add_directory(steps, dir)?;
-    add_moves(steps, moves)
+    add_removals(alloc, steps, ready.leftovers.as_slice())?;
+    add_directory(alloc, steps, &ready.dir)?;
+    add_moves(alloc, steps, ready.moves.as_slice())
 }
 
-/// Adds the rotation of a log behind its prerotate, where it has one; the answer is what is left of it, the files that
-/// are retired.
+/// Adds the rotation of a log.
 pub fn add_rotation(
     alloc: Global,
     steps: &mut Vec<Step>,
-    pre: Option<Command>,
-    ready: Ready,
-    job: Option<Job>,
-) -> Result<Listed<Removal>, Memory>
-    ensures steps { OnOk result (steps.new.items ≡ steps.old.items ++ (program phase.Pre pre ++ rotation ready job)) }
-    ensures retired { IfOk result (λ files. files ≡ ready.retire) }
+    ready: &Ready,
+    job: &Option<Job>,
+) -> Result<(), Memory>
+    ensures { OnOk result (steps.new.items ≡ steps.old.items ++ rotation ready.now job.now) }
 {
-    let Ready {
-        leftovers,
-        dir,
-        moves,
-        log,
-        target,
-        make,
-        retire,
-    } = ready;
-    add_chain(alloc, steps, pre, leftovers, dir, moves)?;
-    add_transfer(alloc, steps, log, target, make, job)?;
-    Ok(retire)
+    add_chain(alloc, steps, ready)?;
+    add_transfer(alloc, steps, ready, job)
 }
 
 /// Adds the retirement of these files behind the mail of the first.
 pub fn add_retirement(
     alloc: Global,
     steps: &mut Vec<Step>,
-    first_mail: Option<Command>,
-    files: Listed<Removal>,
+    first_mail: &Option<Command>,
+    files: &[Removal],
 ) -> Result<(), Memory>
-    ensures { OnOk result (steps.new.items ≡ steps.old.items ++ retirement first_mail files) }
+    ensures { OnOk result (steps.new.items ≡ steps.old.items ++ retirement first_mail.now files.now) }
 {
     add_program(alloc, steps, Phase::Mail, first_mail)?;
     add_removals(alloc, steps, files)
