@@ -135,7 +135,7 @@ job_by way.Copy look target = Some (copy_job look target false)
 job_by way.CopyTruncate look target = Some (copy_job look target true)
 job_by way.RenameCopy look target = Some (copy_job look target false)
 
--- what is done with it: its own scripts where the definition doesn't share them, this rotation, by rename or by copy, and with `mailfirst` the mail of the file that was the log
+-- what is done with it: its own scripts where the definition doesn't share them, this rotation, by rename or by copy, and with `mailfirst` the mail of the file that was the log; and what the rotation goes by, the naming, the rule's count and age, and what stands of the family
 abbrev pub plan_with : Path → Rule → LogLook → Ready → LogPlan
 plan_with mailer rule look ready = record {
   pre = where_so (not rule.shared) (script rule.scripts.pre (look.path ∷ []));
@@ -143,6 +143,10 @@ plan_with mailer rule look ready = record {
   first_mail = where_so rule.mailfirst (mail mailer rule.mail look.path ready.target);
   ready = dressed rule mailer ready;
   job = job_by rule.way look ready.target;
+  naming = look.family.naming;
+  count = rule.count;
+  maxage = rule.maxage;
+  stand = look.stand;
 }
 
 abbrev pub log_plan : Clock → Path → Rule → LogLook → LogPlan

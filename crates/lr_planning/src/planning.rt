@@ -1,12 +1,12 @@
 // What makes the plan.
-ghost use Rattle.std.specs.Prelude.{◌≡◌, ◌≤◌, ◌++◌, ◌∷◌, [], None, length, OnOk, IfOk, IfErr};
+ghost use Rattle.std.specs.Prelude.{◌≡◌, ◌≤◌, ◌++◌, ◌∷◌, [], None, not, length, OnOk, IfOk, IfErr};
 ghost use Rattle.lr_rules.specs.declared.rule.Rule.{Rule};
 ghost use Rattle.lr_plan.specs.declared.looks.LogLook.{LogLook};
 ghost use Rattle.lr_plan.specs.Asked.{asking};
 ghost use Rattle.lr_planning.specs.Hindered.{fault_of};
 ghost use Rattle.lr_plan.specs.Planned.{decision, decisions_of, hindrances, plans_of, log_plans, log_faults, set_plan, where_due, all_decisions, all_plans, all_faults, plan_of, make_of, dir_of, stand_for, with_stand, standing, dressed, job_by, plan_with, CanPlan, CanPlanSet, CanPlanAll};
 ghost use Rattle.lr_chain.specs.Ready.{IsCount, with_dir};
-ghost use Rattle.lr_commands.specs.Commands.{spaced};
+ghost use Rattle.lr_commands.specs.Commands.{spaced, script, where_so, mail};
 ghost use Rattle.lr_chain.specs.Hindrances.{what_hinders, IsHindered};
 ghost use Rattle.lr_chain.specs.Prepared.{ready_of};
 
@@ -20,7 +20,8 @@ use lr_due::{Due, due};
 use lr_family::Stand;
 use lr_host::Seen;
 use lr_plan::{LogLook, LogPlan, Looks, Plan, SetLooks, SetPlan, Settings};
-use lr_rules::{Clock, Fault, Listed, Make, Memory, Moment, Path, Rule, Rules};
+use lr_rules::{Clock, Fault, Listed, Make, Memory, Moment, Naming, Path, Rule, Rules};
+use lr_scripts::Command;
 use lr_state::State;
 use std::alloc::Global;
 
@@ -95,34 +96,60 @@ fn with_made_dir(alloc: Global, rule: &Rule, look: &LogLook, ready: Ready) -> Re
     Ok(ready)
 }
 
-// The plan of a log whose rotation is ready, and its copy, where it goes by one; with its own scripts.
+// How the members of the log's family are named, and what stands of it.
+fn copy_family(alloc: Global, look: &LogLook, stand: &Stand) -> Result<(Naming, Stand), Memory>
+    ensures { IfOk result (λ copy. (copy.0 ≡ look.now.family.naming) × (copy.1 ≡ stand.now)) }
+{
+    let naming = look.family.naming().copy(alloc)?;
+    let stand = stand.copy(alloc)?;
+    Ok((naming, stand))
+}
+
+// The programs around the rotation of a log that goes to this path, and with `mailfirst` the mail of the file that was it.
+fn log_programs(
+    alloc: Global,
+    rule: &Rule,
+    mailer: &Path,
+    log: &Path,
+    target: &Path,
+) -> Result<(Option<Command>, Option<Command>, Option<Command>), Memory>
+    ensures pre { IfOk result (λ three. three.0 ≡ where_so (not rule.now.shared) (script rule.now.scripts.pre (log.now ∷ []))) }
+    ensures post { IfOk result (λ three. three.1 ≡ where_so (not rule.now.shared) (script rule.now.scripts.post (log.now ∷ target.now ∷ []))) }
+    ensures first_mail { IfOk result (λ three. three.2 ≡ where_so rule.now.mailfirst (mail mailer.now rule.now.mail log.now target.now)) }
+{
+    let (pre, post) = own_scripts(alloc, rule, log, target)?;
+    let first_mail = mail_of(alloc, rule.mailfirst, mailer, &rule.mail, log, target)?;
+    Ok((pre, post, first_mail))
+}
+
+// The plan of a log whose rotation is ready, where this stands of its family, and its copy, where it goes by one; with its
+// own scripts.
 fn scripted(
     alloc: Global,
     rule: &Rule,
     mailer: &Path,
     look: &LogLook,
+    stand: &Stand,
     ready: Ready,
     job: Option<Job>,
 ) -> Result<LogPlan, Memory>
+    requires stand { stand.now ≡ stand_for rule.now look.now }
     requires job { job ≡ job_by rule.now.way (standing rule.now look.now) ready.target }
     ensures { IfOk result (λ plan. plan ≡ plan_with mailer.now rule.now (standing rule.now look.now) ready) }
 {
-    let (pre, post) = own_scripts(alloc, rule, &look.path, &ready.target)?;
-    let first_mail = mail_of(
-        alloc,
-        rule.mailfirst,
-        mailer,
-        &rule.mail,
-        &look.path,
-        &ready.target,
-    )?;
+    let (pre, post, first_mail) = log_programs(alloc, rule, mailer, &look.path, &ready.target)?;
     let ready = with_all_programs(alloc, rule, mailer, ready)?;
+    let (naming, stand) = copy_family(alloc, look, stand)?;
     Ok(LogPlan {
         pre,
         post,
         first_mail,
         ready,
         job,
+        naming,
+        count: rule.count,
+        maxage: rule.maxage,
+        stand,
     })
 }
 
@@ -142,7 +169,7 @@ fn add_plan(
 {
     let job = job_of(alloc, rule, look, stand, &ready.target)?;
     let ready = with_made_dir(alloc, rule, look, ready)?;
-    plans.push(scripted(alloc, rule, mailer, look, ready, job)?)?;
+    plans.push(scripted(alloc, rule, mailer, look, stand, ready, job)?)?;
     Ok(())
 }
 

@@ -1,7 +1,7 @@
-// Copies of rules.
+// Copies of rules and of namings.
 ghost use Rattle.std.specs.Prelude.{◌≡◌, IfOk, option_copied};
 
-use crate::{Format, Listed, Memory, Path, Rule, Rules, Scripts, Text};
+use crate::{Format, Listed, Memory, Naming, Path, Rule, Rules, Scripts, Text};
 use std::alloc::Global;
 
 /// A copy of the texts.
@@ -11,6 +11,17 @@ pub fn copy_texts(alloc: Global, texts: &[Text]) -> Result<Listed<Text>, Memory>
     let mut copy = Vec::new(alloc);
     for text in texts {
         copy.push(text.copy(alloc)?)?;
+    }
+    Ok(Listed::from_vec(copy))
+}
+
+/// A copy of the paths.
+pub fn copy_paths(alloc: Global, paths: &[Path]) -> Result<Listed<Path>, Memory>
+    ensures { IfOk result (λ copy. copy ≡ paths.now) }
+{
+    let mut copy = Vec::new(alloc);
+    for path in paths {
+        copy.push(path.copy(alloc)?)?;
     }
     Ok(Listed::from_vec(copy))
 }
@@ -186,6 +197,26 @@ pub fn copy_rule(alloc: Global, rule: &Rule) -> Result<Rule, Memory>
     let ends = copy_ends(alloc, rule)?;
     let acts = copy_acts(alloc, rule)?;
     Ok(rule_of(rule, place, ends, acts))
+}
+
+impl Naming {
+    /// A copy of the naming.
+    pub fn copy(&self, alloc: Global) -> Result<Naming, Memory>
+        ensures { IfOk result (λ copy. copy ≡ self.now) }
+    {
+        let dir = self.dir.copy(alloc)?;
+        let base = self.base.copy(alloc)?;
+        let ext = self.ext.copy(alloc)?;
+        let dated = copy_format(alloc, &self.dated)?;
+        Ok(Naming {
+            dir,
+            base,
+            ext,
+            start: self.start,
+            dated,
+            aside: self.aside,
+        })
+    }
 }
 
 impl Rules {

@@ -27,7 +27,7 @@ mod text;
 
 pub use civil::{Civil, Moment};
 pub use clock::Clock;
-pub use copies::{copy_format, copy_path, copy_rule, copy_text, copy_texts};
+pub use copies::{copy_format, copy_path, copy_paths, copy_rule, copy_text, copy_texts};
 pub use fault::{CallKind, ConfKind, Ended, Fault, Notice, Phase, StateKind, ZoneWhy};
 pub use form::{has_bad_byte, is_absolute};
 pub use listed::Listed;

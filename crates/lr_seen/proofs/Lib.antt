@@ -9,5 +9,6 @@ pub mod Hindrances
 pub mod Kept
 pub mod Listed
 pub mod Quiet
+pub mod Planned
 pub mod Ready
 pub mod Seen

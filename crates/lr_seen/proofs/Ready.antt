@@ -170,7 +170,7 @@ module _ (clock : Clock) (rule : Rule) (look : LogLook) where
   pub ready_by_clock : IsReadyBy clock (target_of clock rule look)
   ready_by_clock = less_dir (dir_of rule look) n.dated look.path n rule.count rule.maxage clock anew members
 
-  ready_log : (mailer : Path) → IsReadyFor (target_of clock rule look) (log_plan clock mailer rule look)
+  pub ready_log : (mailer : Path) → IsReadyFor (target_of clock rule look) (log_plan clock mailer rule look)
   ready_log mailer = record {
     log_is = at_log n.dated look.path n rule.count rule.maxage clock anew members;
     job = target_job clock rule look;

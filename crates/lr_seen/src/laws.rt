@@ -1,5 +1,5 @@
 // What looks show of the logs of a plan.
-ghost use Rattle.std.specs.Prelude.{◌≢◌, List};
+ghost use Rattle.std.specs.Prelude.{◌≡◌, ◌≢◌, List};
 ghost use Rattle.lr_rules.specs.declared.clock.Clock.{Clock};
 ghost use Rattle.lr_rules.specs.declared.fault.Fault.{Fault};
 ghost use Rattle.lr_rules.specs.declared.path.Path.{Path};
@@ -7,12 +7,14 @@ ghost use Rattle.lr_rules.specs.declared.rule.Rule.{Rule};
 ghost use Rattle.lr_rules.specs.declared.rules.Rules.{Rules};
 ghost use Rattle.lr_rules.specs.Names.{IsName, Meet};
 ghost use Rattle.lr_due.specs.declared.answer.Due.{Due};
+ghost use Rattle.lr_state.specs.Table.{Entry as Row};
 ghost use Rattle.lr_host.specs.declared.entry.Entry.{Entry};
 ghost use Rattle.lr_host.specs.Lists.{IsIn};
 ghost use Rattle.lr_host.specs.Quiet.{AreQuiet};
 ghost use Rattle.lr_plan.specs.declared.looks.LogLook.{LogLook};
 ghost use Rattle.lr_plan.specs.declared.looks.SetLooks.{SetLooks};
-ghost use Rattle.lr_plan.specs.Planned.{all_plans};
+ghost use Rattle.lr_plan.specs.Asked.{Asked};
+ghost use Rattle.lr_plan.specs.Planned.{decision, all_plans, plan_of};
 ghost use Rattle.lr_looks.specs.Found.{FoundLog};
 ghost use Rattle.lr_looks.specs.Shown.{ShowsLooks, ShowsSomeLooks};
 ghost use Rattle.lr_laws_targets.specs.Target.{Target};
@@ -21,6 +23,7 @@ ghost use Rattle.lr_laws_targets.specs.Seen.{AreLogsSeen};
 ghost use Rattle.lr_weave.specs.Fitting.{DontMeet, ReadOnlyOwn};
 ghost use Rattle.lr_weave.specs.Planned.{HaveLogs, AreApart};
 ghost use Rattle.lr_seen.specs.Free.{AreFreeOf};
+ghost use Rattle.lr_seen.specs.Planned.{targets_in};
 ghost use Rattle.lr_seen.specs.Targets.{groups_of, all_targets};
 
 /// Looks change nothing and start nothing, whole or in part.
@@ -66,6 +69,8 @@ pub fn kept_are_apart()
 pub fn plan_has_targets()
     ensures logs { (reserved : List Path) (rules : List Rule) (sets : List SetLooks) (faults : List Fault) (ts : List Entry) (clock : Clock) (mailer : Path) (decide : Rule → LogLook → Due)
         → ShowsLooks reserved rules sets faults ts → HaveLogs (groups_of clock decide rules sets) (all_plans clock mailer decide rules sets) }
+    ensures same { (rules : List Rule) (sets : List SetLooks) (table : List Row) (clock : Clock) (asked : Asked)
+        → targets_in (plan_of rules sets table clock asked) ≡ all_targets clock (decision table clock.now asked.force) rules sets }
     ensures programs { (rules : List Rule) (sets : List SetLooks) (clock : Clock) (mailer : Path) (decide : Rule → LogLook → Due)
         → ReadOnlyOwn (all_plans clock mailer decide rules sets) }
 {}
