@@ -31,7 +31,7 @@ use Rattle.lr_cli.specs.declared.outcome.Outcome.TheVariants.{Done, BadWords, He
 use Rattle.lr_cli.specs.declared.outcome.Report.{Report}
 use Rattle.lr_command.specs.declared.request.Request.{Request}
 use Rattle.lr_command.specs.Words.{asked}
-use Rattle.lr_cli.specs.Answer.{at_first as lacks_first, Answers, AnswersAt, no_clock, no_memory, called, Answered, not_read, read}
+use Rattle.lr_cli.specs.Answer.{Answers, AnswersAt, no_clock, no_memory, called, Answered, not_read, read}
 use Rattle.lr_cli.specs.Clock.{ShowsClock, ClockStopped, HasClock, IsClockFault, IsClocked, with_clock, without_clock}
 use Rattle.lr_cli.specs.Faults.{answer_of, clock_answer, IsOut, HasNoOut, AreReported, HasCounted, HasFault}
 use Rattle.lr_cli.specs.Asked.{AskFor, planned_text}
@@ -80,9 +80,6 @@ stop_clocked zone s seconds (Ok told) c clock_stop.Memory Y same e is h = absurd
 stop_clocked zone s seconds (Err w) c why Y same e is h = tt
 
 -- ---- a run at a clock
-
-pub by_first : (request : Request) (clock : Clock) (o : Option Journal) → Left (Answers request clock None OutOfMemory) o o
-by_first request clock o = left_first (Answers request clock None OutOfMemory) o (refl, lacks_first refl)
 
 pub at_clock : (request : Request) (zone : Zone) (s seconds : ℤ) (clock : Clock) (plan : Option Plan) (outcome : Outcome) {o m n : Option Journal} → s ≡ seconds → Left (ShowsClock zone s clock) o m → Left (Answers request clock plan outcome) m n → Left (AnswersAt request zone seconds plan outcome) o n
 at_clock request zone s seconds clock plan outcome {o = o} {m = m} same a b = left_as (left_both (subst (λ (z : ℤ). Left (ShowsClock zone z clock) o m) same a) b) (λ ts t. called clock t)
@@ -170,7 +167,7 @@ says_nothing here words zone seconds a o j x y low high same which i w v p t = r
 
 -- a request's
 pub says_so : (here : Path) (words : List (List ℕ)) (zone : Zone) (seconds : ℤ) (request : Request) (plan : Option Plan) (a : Outcome) (j k : Option Journal) (x y : Option (List ℕ)) (low high : ℕ) → AskFor here words request → Left (Answered here words zone seconds plan (without_out a)) j k → Prints (printed_of (planned_text request plan) a) a x y low high
-    → ((other : Request) (report : Report) → AskFor here words other → other.debug ≡ false → without_out a ≡ Done report → TellsTaken other.state plan report.faults j k) → Says here words zone seconds a j k x y low high
+    → ((other : Request) (report : Report) → AskFor here words other → other.settings.debug ≡ false → without_out a ≡ Done report → TellsTaken other.settings.state plan report.faults j k) → Says here words zone seconds a j k x y low high
 says_so here words zone seconds request plan a j k x y low high w l p t = record {
   plan = plan;
   shown = l;

@@ -28,7 +28,7 @@ use Rattle.lr_cli.specs.declared.clock.ClockStop.TheVariants as stop
 use Rattle.lr_cli.specs.declared.outcome.Outcome.{Outcome}
 use Rattle.lr_cli.specs.declared.outcome.Outcome.TheVariants.{Done, BadWords, Held, OutOfMemory}
 use Rattle.lr_command.specs.declared.request.Request.{Request}
-use Rattle.lr_cli.specs.Answer.{Reports, FindsLock, LacksMemory, at_first, at_confs, at_run, Answers, AnswersAt, no_clock, no_memory, called, Answered, not_read, read}
+use Rattle.lr_cli.specs.Answer.{Reports, FindsLock, LacksMemory, at_confs, at_run, Answers, AnswersAt, no_clock, no_memory, called, Answered, not_read, read}
 use Rattle.lr_cli.specs.Asked.{AskFor}
 use Rattle.lr_cli.specs.Clock.{ShowsClock}
 use Rattle.lr_cli.specs.Copied.{ReadsRules, CopiesWhole, none_read, by_rules}
@@ -55,18 +55,17 @@ module _ (request : Request) (zone : Zone) (seconds : ℤ) where
   reports_copies : (clock : Clock) (plan : Option Plan) (ts : List Entry) (us front : List Entry) (notices : List _) (faults : List Fault) → ts ≡ front ++ us → ShowsClock zone seconds clock front → Reports request clock plan notices faults us → Copies ts
   reports_copies clock plan ts us front notices faults joined shown r =
       behind_copies clock r.meaning r.rules ts us r.entries.front r.entries.back front r.rules_are joined r.entries.joined shown r.entries.first
-      (λ made. leaves_copied request.debug request.state r.rules clock (asking request.force request.mailer) plan r.own r.entries.back made r.entries.second)
+      (λ made. leaves_copied request.settings.debug request.settings.state r.rules clock (asking request.settings.force request.settings.mailer) plan r.own r.entries.back made r.entries.second)
 
   -- there was no memory
   lost_copies : (clock : Clock) (ts us front : List Entry) → ts ≡ front ++ us → ShowsClock zone seconds clock front → LacksMemory request clock us → Copies ts
-  lost_copies clock ts us front joined shown (at_first none) = quiet_copies ts (subst AreQuiet (sym joined) (quiet_both front us (clock_quiet zone seconds clock front shown) (subst AreQuiet (sym none) tt)))
   lost_copies clock ts us front joined shown (at_confs l) = quiet_copies ts (subst AreQuiet (sym joined) (quiet_both front us (clock_quiet zone seconds clock front shown) (lacking_quiet request.confs us l)))
   lost_copies clock ts us front joined shown (at_run meaning rules same t) =
       behind_copies clock meaning rules ts us t.front t.back front same joined t.joined shown t.first
-      (λ made. lacks_copied request.debug request.state rules clock (asking request.force request.mailer) t.back made t.second)
+      (λ made. lacks_copied request.settings.debug request.settings.state rules clock (asking request.settings.force request.settings.mailer) t.back made t.second)
 
   lock_quiet : (ts : List Entry) → FindsLock request ts → AreQuiet ts
-  lock_quiet ts f = subst AreQuiet (sym f.entries.joined) (quiet_both f.entries.front f.entries.back (confs_quiet request.confs f.meaning f.entries.front f.entries.first) (holds_quiet request.debug request.state f.entries.back f.entries.second))
+  lock_quiet ts f = subst AreQuiet (sym f.entries.joined) (quiet_both f.entries.front f.entries.back (confs_quiet request.confs f.meaning f.entries.front f.entries.first) (holds_quiet request.settings.debug request.settings.state f.entries.back f.entries.second))
 
   -- behind the clock, whatever the answer
   called_copies : (clock : Clock) (plan : Option Plan) (outcome : Outcome) (ts : List Entry) → Then (ShowsClock zone seconds clock) (Answers request clock plan outcome) ts → Copies ts

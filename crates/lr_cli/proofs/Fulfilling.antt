@@ -47,7 +47,7 @@ own_failed state all xs own dirs e n clear = record {
   not_taken = λ i. n.not_taken (subst (IsIn (fault.Taken (state_part state))) (sym e) (in_back _ xs own i));
 }
 
-pub plan_fulfils : (request : Request) (zone : Zone) (seconds : ℤ) (report : Report) (j k : Journal) (es : List Entry) → Made (past j) es (past k) → IsJournal (past j) → (p : ReachesPlan request zone seconds report (reverse es)) → NothingFailed request.state (dirs_in (plan_by request zone seconds report (reverse es) p)) p.own
+pub plan_fulfils : (request : Request) (zone : Zone) (seconds : ℤ) (report : Report) (j k : Journal) (es : List Entry) → Made (past j) es (past k) → IsJournal (past j) → (p : ReachesPlan request zone seconds report (reverse es)) → NothingFailed request.settings.state (dirs_in (plan_by request zone seconds report (reverse es) p)) p.own
     → MetNothing (dirs_in (plan_by request zone seconds report (reverse es) p)) report.faults → AnewAt (plan_by request zone seconds report (reverse es) p) report.faults (past k) → FulfillsPlan request zone seconds report j k
 plan_fulfils request zone seconds report j k es made journal p none met anew = record {
   entries = es;
@@ -57,22 +57,22 @@ plan_fulfils request zone seconds report j k es made journal p none met anew = r
   fulfilled = f;
 }
   where
-    f : IsFulfilled request.state p.rules.sets p.clock (asking request.force request.mailer) p.run.between p.run.within.looked p.own (reverse es) (past j) (past k)
-    f = fulfilled request.state (asking request.force request.mailer) p.clock p.rules p.own (past j) (past k) es (p.of_clock ++ p.reads) p.acts made journal
+    f : IsFulfilled request.settings.state p.rules.sets p.clock (asking request.settings.force request.settings.mailer) p.run.between p.run.within.looked p.own (reverse es) (past j) (past k)
+    f = fulfilled request.settings.state (asking request.settings.force request.settings.mailer) p.clock p.rules p.own (past j) (past k) es (p.of_clock ++ p.reads) p.acts made journal
         (plan_joined request zone seconds report (reverse es) p) (plan_sights request zone seconds report (reverse es) p) p.run none report.faults met anew
 
-from_entries : (here : Path) (words : List (List ℕ)) (request : Request) (zone : Zone) (seconds : ℤ) (plan : Option Plan) (report : Report) (j k : Journal) → AskFor here words request → request.debug ≡ false → Left (Answered here words zone seconds plan (Done report)) (Some j) (Some k) → FailNothing request.state report.faults → IsJournal (past j)
+from_entries : (here : Path) (words : List (List ℕ)) (request : Request) (zone : Zone) (seconds : ℤ) (plan : Option Plan) (report : Report) (j k : Journal) → AskFor here words request → request.settings.debug ≡ false → Left (Answered here words zone seconds plan (Done report)) (Some j) (Some k) → FailNothing request.settings.state report.faults → IsJournal (past j)
     → MakesDirs request zone seconds report j k → NamesAnew plan report.faults (Some k) → FulfillsPlan request zone seconds report j k
 from_entries here words request zone seconds plan report j k asks dry (is_told {es = es} made a) none journal makes anew =
-    ⊎_elim (λ came. by came.0 came.1) (λ u. absurd (nothing_stopped request.state zone report.faults _ u none.stop_nothing.none_ends none.stop_nothing.no_call)) (call_came request zone seconds report (reverse es) here words plan asks dry a)
+    ⊎_elim (λ came. by came.0 came.1) (λ u. absurd (nothing_stopped request.settings.state zone report.faults _ u none.stop_nothing.none_ends none.stop_nothing.no_call)) (call_came request zone seconds report (reverse es) here words plan asks dry a)
   where
     by : (p : ReachesPlan request zone seconds report (reverse es)) → plan ≡ Some (plan_by request zone seconds report (reverse es) p) → FulfillsPlan request zone seconds report j k
-    by p is = plan_fulfils request zone seconds report j k es made journal p (own_failed request.state report.faults p.meaning.faults p.own (dirs_in (plan_by request zone seconds report (reverse es) p)) p.faults_are none (makes es made p))
+    by p is = plan_fulfils request zone seconds report j k es made journal p (own_failed request.settings.state report.faults p.meaning.faults p.own (dirs_in (plan_by request zone seconds report (reverse es) p)) p.faults_are none (makes es made p))
         (record { no_call = none.stop_nothing.no_call; no_end = none.stop_nothing.no_script; no_copy = none.stop_nothing.no_copy; no_other = makes es made p }) (anew (plan_by request zone seconds report (reverse es) p) is)
 
 -- that a call with these words left its answer
-pub answered_fulfilled : (here : Path) (words : List (List ℕ)) (request : Request) (zone : Zone) (seconds : ℤ) (plan : Option Plan) (outcome : Outcome) (report : Report) (o n : Option Journal) (j k : Journal) → AskFor here words request → request.debug ≡ false → Left (Answered here words zone seconds plan outcome) o n → outcome ≡ Done report
-    → FailNothing request.state report.faults → o ≡ Some j → n ≡ Some k → IsJournal (past j) → MakesDirs request zone seconds report j k → NamesAnew plan report.faults n → FulfillsPlan request zone seconds report j k
+pub answered_fulfilled : (here : Path) (words : List (List ℕ)) (request : Request) (zone : Zone) (seconds : ℤ) (plan : Option Plan) (outcome : Outcome) (report : Report) (o n : Option Journal) (j k : Journal) → AskFor here words request → request.settings.debug ≡ false → Left (Answered here words zone seconds plan outcome) o n → outcome ≡ Done report
+    → FailNothing request.settings.state report.faults → o ≡ Some j → n ≡ Some k → IsJournal (past j) → MakesDirs request zone seconds report j k → NamesAnew plan report.faults n → FulfillsPlan request zone seconds report j k
 answered_fulfilled here words request zone seconds plan outcome report o n j k asks dry left done none told_j told_k journal makes anew =
     from_entries here words request zone seconds plan report j k asks dry
     (subst (λ (m : Option Journal). Left (Answered here words zone seconds plan (Done report)) (Some j) m) told_k

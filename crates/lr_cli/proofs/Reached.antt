@@ -129,7 +129,7 @@ module _ (request : Request) (zone : Zone) (seconds : ℤ) (report : Report) (ts
   ComesTo plan = (p : Plan) × (plan ≡ Some (plan_by request zone seconds report ts p))
 
   -- behind the clock
-  reports_reached : (plan : Option RunPlan) → request.debug ≡ false → (clock : Clock) → Then (ShowsClock zone seconds clock) (Reports request clock plan report.notices report.faults) ts → ComesTo plan ⊎ Unreached request.state zone report.faults (behind_start ts)
+  reports_reached : (plan : Option RunPlan) → request.settings.debug ≡ false → (clock : Clock) → Then (ShowsClock zone seconds clock) (Reports request clock plan report.notices report.faults) ts → ComesTo plan ⊎ Unreached request.settings.state zone report.faults (behind_start ts)
   reports_reached plan dry clock t = ⊎_elim
       (λ i. inl (
         record {
@@ -154,31 +154,31 @@ module _ (request : Request) (zone : Zone) (seconds : ℤ) (report : Report) (ts
         before = r.meaning.faults ++ u.before;
         last = u.last;
         faults_are = r.faults_are ∙ ap (λ fs. r.meaning.faults ++ fs) u.own_are ∙ sym (append_assoc r.meaning.faults u.before (u.last ∷ []));
-        ends = ⊎_elim (λ ends. inl ends) (λ may. inr (inr may.1, λ s. may.2 (subst (SawState request.state) behind s))) u.ends;
+        ends = ⊎_elim (λ ends. inl ends) (λ may. inr (inr may.1, λ s. may.2 (subst (SawState request.settings.state) behind s))) u.ends;
       }))
-      (came_to request.state (asking request.force request.mailer) clock r.rules plan r.own r.entries.back runs)
+      (came_to request.settings.state (asking request.settings.force request.settings.mailer) clock r.rules plan r.own r.entries.back runs)
     where
       r : Reports request clock plan report.notices report.faults t.back
       r = t.second
 
-      runs : Runs request.state (asking request.force request.mailer) clock r.rules plan r.own r.entries.back
-      runs = subst (λ (b : Bool). Leaves b request.state (asking request.force request.mailer) clock r.rules plan r.own r.entries.back) dry r.entries.second
+      runs : Runs request.settings.state (asking request.settings.force request.settings.mailer) clock r.rules plan r.own r.entries.back
+      runs = subst (λ (b : Bool). Leaves b request.settings.state (asking request.settings.force request.settings.mailer) clock r.rules plan r.own r.entries.back) dry r.entries.second
 
       behind : behind_start ts ≡ behind_start r.entries.back
       behind = ap behind_start t.joined ∙ behind_quiet t.front t.back (clock_quiet zone seconds clock t.front t.first)
           ∙ ap behind_start r.entries.joined ∙ behind_quiet r.entries.front r.entries.back (confs_quiet request.confs r.meaning r.entries.front r.entries.first)
 
-  at_reached : (plan : Option RunPlan) → request.debug ≡ false → AnswersAt request zone seconds plan (Done report) ts → ComesTo plan ⊎ Unreached request.state zone report.faults (behind_start ts)
-  at_reached plan dry (no_clock f lost e l) = inr (clock_unreached request.state zone seconds f report ts e l)
+  at_reached : (plan : Option RunPlan) → request.settings.debug ≡ false → AnswersAt request zone seconds plan (Done report) ts → ComesTo plan ⊎ Unreached request.settings.state zone report.faults (behind_start ts)
+  at_reached plan dry (no_clock f lost e l) = inr (clock_unreached request.settings.state zone seconds f report ts e l)
   at_reached plan dry (no_memory lost e l) = absurd (cc)
   at_reached plan dry (called clock t) = reports_reached plan dry clock t
 
-  pub call_came : (here : Path) (words : List (List ℕ)) (plan : Option RunPlan) → AskFor here words request → request.debug ≡ false → Answered here words zone seconds plan (Done report) ts → ComesTo plan ⊎ Unreached request.state zone report.faults (behind_start ts)
+  pub call_came : (here : Path) (words : List (List ℕ)) (plan : Option RunPlan) → AskFor here words request → request.settings.debug ≡ false → Answered here words zone seconds plan (Done report) ts → ComesTo plan ⊎ Unreached request.settings.state zone report.faults (behind_start ts)
   call_came here words plan asks dry (not_read lost (inl e) none) = absurd (cc)
   call_came here words plan asks dry (not_read lost (inr e) none) = absurd (cc)
   call_came here words plan asks dry (read other asked a) = at_reached plan dry (subst (λ (r : Request). AnswersAt r zone seconds plan (Done report) ts) (same_Some other request (sym asked ∙ asks)) a)
 
-  pub call_reached : (here : Path) (words : List (List ℕ)) (plan : Option RunPlan) → AskFor here words request → request.debug ≡ false → Answered here words zone seconds plan (Done report) ts → Plan ⊎ Unreached request.state zone report.faults (behind_start ts)
+  pub call_reached : (here : Path) (words : List (List ℕ)) (plan : Option RunPlan) → AskFor here words request → request.settings.debug ≡ false → Answered here words zone seconds plan (Done report) ts → Plan ⊎ Unreached request.settings.state zone report.faults (behind_start ts)
   call_reached here words plan asks dry a = ⊎_elim (λ p. inl p.0) (λ u. inr u) (call_came here words plan asks dry a)
 
   -- what comes before the run starts none
@@ -188,23 +188,23 @@ module _ (request : Request) (zone : Zone) (seconds : ℤ) (report : Report) (ts
   pub plan_joined : (p : Plan) → ts ≡ (p.of_clock ++ p.reads) ++ p.acts
   plan_joined p = p.joined ∙ sym (append_assoc p.of_clock p.reads p.acts)
 
-  plan_saw : Plan → SawState request.state (behind_start ts)
-  plan_saw p = subst (SawState request.state) (sym (ap behind_start (plan_joined p) ∙ behind_quiet (p.of_clock ++ p.reads) p.acts (plan_quiet p)))
-      (reached_saw request.state (asking request.force request.mailer) p.clock p.rules p.own p.acts p.run)
+  plan_saw : Plan → SawState request.settings.state (behind_start ts)
+  plan_saw p = subst (SawState request.settings.state) (sym (ap behind_start (plan_joined p) ∙ behind_quiet (p.of_clock ++ p.reads) p.acts (plan_quiet p)))
+      (reached_saw request.settings.state (asking request.settings.force request.settings.mailer) p.clock p.rules p.own p.acts p.run)
 
-  plan_none : (q r : Past) → Made q (reverse ts) r → Plan → NoneEnds request.state report.faults
-  plan_none q r made p = subst (NoneEnds request.state) (sym p.faults_are) (none_both request.state p.meaning.faults p.own (means_none request.state request.confs p.meaning p.reads p.read)
-      (reached_none request.state (asking request.force request.mailer) p.clock p.rules p.own c.mid r p.acts c.second p.run))
+  plan_none : (q r : Past) → Made q (reverse ts) r → Plan → NoneEnds request.settings.state report.faults
+  plan_none q r made p = subst (NoneEnds request.settings.state) (sym p.faults_are) (none_both request.settings.state p.meaning.faults p.own (means_none request.settings.state request.confs p.meaning p.reads p.read)
+      (reached_none request.settings.state (asking request.settings.force request.settings.mailer) p.clock p.rules p.own c.mid r p.acts c.second p.run))
     where
       c : Cut q r (reverse p.acts) (reverse (p.of_clock ++ p.reads))
       c = cut_at q r ts (p.of_clock ++ p.reads) p.acts (plan_joined p) made
 
   -- ---- what the report tells
 
-  none_last : (u : Unreached request.state zone report.faults (behind_start ts)) → NoneEnds request.state report.faults → EndsRun request.state u.last → ⊥
-  none_last u none ends = last_ends request.state u.before u.last (subst (NoneEnds request.state) u.faults_are none) ends
+  none_last : (u : Unreached request.settings.state zone report.faults (behind_start ts)) → NoneEnds request.settings.state report.faults → EndsRun request.settings.state u.last → ⊥
+  none_last u none ends = last_ends request.settings.state u.before u.last (subst (NoneEnds request.settings.state) u.faults_are none) ends
 
-  tells : (q r : Past) → Made q (reverse ts) r → Plan ⊎ Unreached request.state zone report.faults (behind_start ts) → TellsOfPlan request zone seconds report ts
+  tells : (q r : Past) → Made q (reverse ts) r → Plan ⊎ Unreached request.settings.state zone report.faults (behind_start ts) → TellsOfPlan request zone seconds report ts
   tells q r made a = record {
     alone = λ plain. (λ p. plan_none q r made p, λ none. ⊎_elim (λ p. p) (λ u. absurd (⊎_elim (λ ends. none_last u none ends) (λ may. plain u.last (last_in u.before u.last report.faults u.faults_are) may.0) u.ends)) a);
     exactly = (λ p. (plan_none q r made p, plan_saw p), λ b. ⊎_elim (λ p. p) (λ u. absurd (⊎_elim (λ ends. none_last u b.0 ends) (λ may. may.1 b.1) u.ends)) a);
@@ -212,9 +212,9 @@ module _ (request : Request) (zone : Zone) (seconds : ℤ) (report : Report) (ts
   }
 
 -- that a call with these words left its answer
-done_tells : (here : Path) (words : List (List ℕ)) (request : Request) (zone : Zone) (seconds : ℤ) (plan : Option RunPlan) (report : Report) {o n : Option Journal} → AskFor here words request → request.debug ≡ false → Left (Answered here words zone seconds plan (Done report)) o n → Left (TellsOfPlan request zone seconds report) o n
+done_tells : (here : Path) (words : List (List ℕ)) (request : Request) (zone : Zone) (seconds : ℤ) (plan : Option RunPlan) (report : Report) {o n : Option Journal} → AskFor here words request → request.settings.debug ≡ false → Left (Answered here words zone seconds plan (Done report)) o n → Left (TellsOfPlan request zone seconds report) o n
 done_tells here words request zone seconds plan report asks dry not_told = not_told
 done_tells here words request zone seconds plan report asks dry (is_told {j = j} {k = k} {es = es} made a) = is_told made (tells request zone seconds report (reverse es) (past j) (past k) (in_order (past j) (past k) es made) (call_reached request zone seconds report (reverse es) here words plan asks dry a))
 
-pub left_tells : (here : Path) (words : List (List ℕ)) (request : Request) (zone : Zone) (seconds : ℤ) (plan : Option RunPlan) (outcome : Outcome) (report : Report) {o n : Option Journal} → AskFor here words request → request.debug ≡ false → outcome ≡ Done report → Left (Answered here words zone seconds plan outcome) o n → Left (TellsOfPlan request zone seconds report) o n
+pub left_tells : (here : Path) (words : List (List ℕ)) (request : Request) (zone : Zone) (seconds : ℤ) (plan : Option RunPlan) (outcome : Outcome) (report : Report) {o n : Option Journal} → AskFor here words request → request.settings.debug ≡ false → outcome ≡ Done report → Left (Answered here words zone seconds plan outcome) o n → Left (TellsOfPlan request zone seconds report) o n
 left_tells here words request zone seconds plan outcome report {o = o} {n = n} asks dry done l = done_tells here words request zone seconds plan report asks dry (subst (λ (a : Outcome). Left (Answered here words zone seconds plan a) o n) done l)

@@ -1,5 +1,5 @@
 -- What the reading of a configuration and the run behind it leave together.
-use Rattle.std.proofs.Common.{◌≡◌, ◌≤◌, ◌+◌, ⊎_elim, Bool, List, [], ◌∷◌, ◌++◌, Option, None, All, Contains, Err, refl, sym, ap, ◌∙◌, subst, append_assoc, arith}
+use Rattle.std.proofs.Common.{◌≡◌, ◌≤◌, ◌+◌, ⊎_elim, List, [], ◌∷◌, ◌++◌, Option, None, All, Contains, Err, refl, sym, ap, ◌∙◌, subst, append_assoc, arith}
 use Rattle.std.specs.List.{AllByRecursion as Every}
 use Rattle.std.proofs.lemmas.List.Elements.{recursion_from_All, Contains-append_cases}
 use Rattle.lr_rules.specs.declared.path.Path.{Path}
@@ -7,7 +7,6 @@ use Rattle.lr_rules.specs.declared.clock.Clock.{Clock}
 use Rattle.lr_rules.specs.declared.fault.CallKind.TheVariants as call
 use Rattle.lr_rules.specs.declared.fault.Fault.{Fault}
 use Rattle.lr_rules.specs.declared.fault.Fault.TheVariants as fault
-use Rattle.lr_rules.specs.declared.rules.Rules.{Rules}
 use Rattle.lr_host.specs.declared.entry.Entry.{Entry}
 use Rattle.lr_host.specs.declared.journal.Journal.{Journal}
 use Rattle.lr_host.specs.Told.{Counts, NoneFell, Left}
@@ -26,7 +25,6 @@ use Rattle.lr_laws_targets.specs.Runs.{IsWholeRunBy}
 use Rattle.lr_laws_targets.proofs.Shapes.{quiet_run_by}
 use Rattle.lr_plan.specs.Asked.{asking}
 use Rattle.lr_plan.specs.declared.plan.Plan.{Plan}
-use Rattle.lr_plan.specs.declared.settings.Settings.{Settings}
 use Rattle.lr_run.specs.Answers.{Leaves, Holds, Lacks, Answers as RunAnswers}
 use Rattle.lr_run.specs.declared.answer.RunStop.{RunStop}
 use Rattle.lr_run.specs.declared.answer.RunStop.TheVariants as stop
@@ -35,60 +33,41 @@ use Rattle.lr_cli.specs.Faults.{answer_of, IsOut, HasNoOut}
 use Rattle.lr_cli.proofs.OutAside.{Contains-only}
 use Rattle.lr_cli.specs.declared.outcome.Outcome.TheVariants.{OutOfMemory}
 use Rattle.lr_cli.specs.Answer.{Answers, Reports, FindsLock, LacksMemory, at_confs, at_run}
-use Rattle.lr_cli.specs.Settled.{AreSettingsOf}
 
 -- ---- what was left
 
--- by the settings of a request, a run leaves what the request asks for
-leaves_by : (request : Request) (settings : Settings) (clock : Clock) (rules : Rules) (plan : Option Plan) (own : List Fault) (ts : List Entry) → AreSettingsOf request settings → Leaves settings.debug settings.state (asking settings.force settings.mailer) clock rules plan own ts → Leaves request.debug request.state (asking request.force request.mailer) clock rules plan own ts
-leaves_by request settings clock rules plan own ts a h =
-    subst (λ (b : Bool). Leaves request.debug request.state (asking b request.mailer) clock rules plan own ts) a.force
-    (subst (λ (x : Path). Leaves request.debug request.state (asking settings.force x) clock rules plan own ts) a.mailer
-    (subst (λ (x : Path). Leaves request.debug x (asking settings.force settings.mailer) clock rules plan own ts) a.state
-    (subst (λ (b : Bool). Leaves b settings.state (asking settings.force settings.mailer) clock rules plan own ts) a.debug h)))
-
-holds_by : (request : Request) (settings : Settings) (ts : List Entry) → AreSettingsOf request settings → Holds settings.debug settings.state ts → Holds request.debug request.state ts
-holds_by request settings ts a h = subst (λ (x : Path). Holds request.debug x ts) a.state (subst (λ (b : Bool). Holds b settings.state ts) a.debug h)
-
-lacks_by : (request : Request) (settings : Settings) (clock : Clock) (rules : Rules) (ts : List Entry) → AreSettingsOf request settings → Lacks settings.debug settings.state (asking settings.force settings.mailer) clock rules ts → Lacks request.debug request.state (asking request.force request.mailer) clock rules ts
-lacks_by request settings clock rules ts a h =
-    subst (λ (b : Bool). Lacks request.debug request.state (asking b request.mailer) clock rules ts) a.force
-    (subst (λ (x : Path). Lacks request.debug request.state (asking settings.force x) clock rules ts) a.mailer
-    (subst (λ (x : Path). Lacks request.debug x (asking settings.force settings.mailer) clock rules ts) a.state
-    (subst (λ (b : Bool). Lacks b settings.state (asking settings.force settings.mailer) clock rules ts) a.debug h)))
-
 -- the report of a reading and of the run behind it
-pub reports : (request : Request) (settings : Settings) (clock : Clock) (plan : Option Plan) (r : Reading) (earlier faults : List Fault) {o m n : Option Journal} → AreSettingsOf request settings → earlier ≡ r.faults
-    → Left (Reads request.confs (meaning_of r)) o m → Left (λ ts. (own : List Fault) × (faults ≡ earlier ++ own) × Leaves settings.debug settings.state (asking settings.force settings.mailer) clock r.rules plan own ts) m n → Left (Reports request clock plan r.notices faults) o n
-reports request settings clock plan r earlier faults at e a b = left_as (left_both a b) (λ ts t. record {
+pub reports : (request : Request) (clock : Clock) (plan : Option Plan) (r : Reading) (earlier faults : List Fault) {o m n : Option Journal} → earlier ≡ r.faults
+    → Left (Reads request.confs (meaning_of r)) o m → Left (λ ts. (own : List Fault) × (faults ≡ earlier ++ own) × Leaves request.settings.debug request.settings.state (asking request.settings.force request.settings.mailer) clock r.rules plan own ts) m n → Left (Reports request clock plan r.notices faults) o n
+reports request clock plan r earlier faults e a b = left_as (left_both a b) (λ ts t. record {
   meaning = meaning_of r;
   rules = r.rules;
   own = t.second.0;
   rules_are = refl;
   notices_are = refl;
   faults_are = t.second.1 ∙ ap (λ fs. fs ++ t.second.0) e;
-  entries = record { front = t.front; back = t.back; joined = t.joined; first = t.first; second = leaves_by request settings clock r.rules plan t.second.0 t.back at t.second.2 };
+  entries = record { front = t.front; back = t.back; joined = t.joined; first = t.first; second = t.second.2 };
 })
 
-finds_lock : (request : Request) (settings : Settings) (r : Reading) {o m n : Option Journal} → AreSettingsOf request settings → Left (Reads request.confs (meaning_of r)) o m → Left (Holds settings.debug settings.state) m n → Left (FindsLock request) o n
-finds_lock request settings r at a b = left_as (left_both a b) (λ ts t. record {
+finds_lock : (request : Request) (r : Reading) {o m n : Option Journal} → Left (Reads request.confs (meaning_of r)) o m → Left (Holds request.settings.debug request.settings.state) m n → Left (FindsLock request) o n
+finds_lock request r a b = left_as (left_both a b) (λ ts t. record {
   meaning = meaning_of r;
-  entries = record { front = t.front; back = t.back; joined = t.joined; first = t.first; second = holds_by request settings t.back at t.second };
+  entries = record { front = t.front; back = t.back; joined = t.joined; first = t.first; second = t.second };
 })
 
 pub lacks_at_confs : (request : Request) (clock : Clock) (confs : List Path) {o n : Option Journal} → confs ≡ request.confs → Left (LacksReading confs) o n → Left (Answers request clock None OutOfMemory) o n
 lacks_at_confs request clock confs e l = left_as l (λ ts h. (refl, at_confs (subst (λ (ps : List Path). LacksReading ps ts) e h)))
 
-lacks_at_run : (request : Request) (settings : Settings) (clock : Clock) (r : Reading) {o m n : Option Journal} → AreSettingsOf request settings
-    → Left (Reads request.confs (meaning_of r)) o m → Left (Lacks settings.debug settings.state (asking settings.force settings.mailer) clock r.rules) m n → Left (LacksMemory request clock) o n
-lacks_at_run request settings clock r at a b = left_as (left_both a b) (λ ts t.
-    at_run (meaning_of r) r.rules refl (record { front = t.front; back = t.back; joined = t.joined; first = t.first; second = lacks_by request settings clock r.rules t.back at t.second }))
+lacks_at_run : (request : Request) (clock : Clock) (r : Reading) {o m n : Option Journal}
+    → Left (Reads request.confs (meaning_of r)) o m → Left (Lacks request.settings.debug request.settings.state (asking request.settings.force request.settings.mailer) clock r.rules) m n → Left (LacksMemory request clock) o n
+lacks_at_run request clock r a b = left_as (left_both a b) (λ ts t.
+    at_run (meaning_of r) r.rules refl (record { front = t.front; back = t.back; joined = t.joined; first = t.first; second = t.second }))
 
 -- what a run that stopped left
-pub stopped : (request : Request) (settings : Settings) (clock : Clock) (r : Reading) (earlier : List Fault) (s : RunStop) {o m n : Option Journal} → AreSettingsOf request settings
-    → Left (Reads request.confs (meaning_of r)) o m → Left (RunAnswers settings.state settings.debug (asking settings.force settings.mailer) clock r.rules earlier (Err s)) m n → Left (Answers request clock None (answer_of (Err s))) o n
-stopped request settings clock r earlier stop.Held at a b = left_as (finds_lock request settings r at a b) (λ ts h. (refl, h))
-stopped request settings clock r earlier stop.Memory at a b = left_as (lacks_at_run request settings clock r at a b) (λ ts h. (refl, h))
+pub stopped : (request : Request) (clock : Clock) (r : Reading) (earlier : List Fault) (s : RunStop) {o m n : Option Journal}
+    → Left (Reads request.confs (meaning_of r)) o m → Left (RunAnswers request.settings.state request.settings.debug (asking request.settings.force request.settings.mailer) clock r.rules earlier (Err s)) m n → Left (Answers request clock None (answer_of (Err s))) o n
+stopped request clock r earlier stop.Held a b = left_as (finds_lock request r a b) (λ ts h. (refl, h))
+stopped request clock r earlier stop.Memory a b = left_as (lacks_at_run request clock r a b) (λ ts h. (refl, h))
 
 -- ---- the faults, and the counts
 

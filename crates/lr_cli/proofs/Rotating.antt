@@ -78,16 +78,16 @@ own_met state all xs own dirs e none clear = record {
 }
 
 -- and then the call came to its plan
-pub came_to_plan : (here : Path) (words : List (List ℕ)) (request : Request) (zone : Zone) (seconds : ℤ) (plan : Option Plan) (report : Report) (ts : List Entry) → AskFor here words request → request.debug ≡ false → Answered here words zone seconds plan (Done report) ts → StopNothing request.state report.faults
+pub came_to_plan : (here : Path) (words : List (List ℕ)) (request : Request) (zone : Zone) (seconds : ℤ) (plan : Option Plan) (report : Report) (ts : List Entry) → AskFor here words request → request.settings.debug ≡ false → Answered here words zone seconds plan (Done report) ts → StopNothing request.settings.state report.faults
     → ReachesPlan request zone seconds report ts
-came_to_plan here words request zone seconds plan report ts asks dry a none = ⊎_elim (λ p. p) (λ u. absurd (nothing_stopped request.state zone report.faults _ u none.none_ends none.no_call)) (call_reached request zone seconds report ts here words plan asks dry a)
+came_to_plan here words request zone seconds plan report ts asks dry a none = ⊎_elim (λ p. p) (λ u. absurd (nothing_stopped request.settings.state zone report.faults _ u none.none_ends none.no_call)) (call_reached request zone seconds report ts here words plan asks dry a)
 
-plan_rotates : (request : Request) (zone : Zone) (seconds : ℤ) (report : Report) (j k : Journal) (es : List Entry) → Made (past j) es (past k) → StopNothing request.state report.faults → IsJournal (past j) → (p : ReachesPlan request zone seconds report (reverse es)) → IsNoOther (dirs_in (plan_by request zone seconds report (reverse es) p)) report.faults → RotatesAll request zone seconds report j k
+plan_rotates : (request : Request) (zone : Zone) (seconds : ℤ) (report : Report) (j k : Journal) (es : List Entry) → Made (past j) es (past k) → StopNothing request.settings.state report.faults → IsJournal (past j) → (p : ReachesPlan request zone seconds report (reverse es)) → IsNoOther (dirs_in (plan_by request zone seconds report (reverse es) p)) report.faults → RotatesAll request zone seconds report j k
 plan_rotates request zone seconds report j k es made none journal p clear = record {
   entries = es;
   made = made;
   plan = p;
-  each = λ x one. run_turned request.state (asking request.force request.mailer) p.clock p.rules p.own (past j) (past k) es (p.of_clock ++ p.reads) p.acts made journal joined quiet p.run met x one;
+  each = λ x one. run_turned request.settings.state (asking request.settings.force request.settings.mailer) p.clock p.rules p.own (past j) (past k) es (p.of_clock ++ p.reads) p.acts made journal joined quiet p.run met x one;
 }
   where
     joined : reverse es ≡ (p.of_clock ++ p.reads) ++ p.acts
@@ -97,16 +97,16 @@ plan_rotates request zone seconds report j k es made none journal p clear = reco
     quiet = plan_quiet request zone seconds report (reverse es) p
 
     met : MetNothing (dirs_in (plan_by request zone seconds report (reverse es) p)) p.own
-    met = own_met request.state report.faults p.meaning.faults p.own (dirs_in (plan_by request zone seconds report (reverse es) p)) p.faults_are none clear
+    met = own_met request.settings.state report.faults p.meaning.faults p.own (dirs_in (plan_by request zone seconds report (reverse es) p)) p.faults_are none clear
 
-from_entries : (here : Path) (words : List (List ℕ)) (request : Request) (zone : Zone) (seconds : ℤ) (plan : Option Plan) (report : Report) (j k : Journal) → AskFor here words request → request.debug ≡ false → Left (Answered here words zone seconds plan (Done report)) (Some j) (Some k) → StopNothing request.state report.faults → IsJournal (past j)
+from_entries : (here : Path) (words : List (List ℕ)) (request : Request) (zone : Zone) (seconds : ℤ) (plan : Option Plan) (report : Report) (j k : Journal) → AskFor here words request → request.settings.debug ≡ false → Left (Answered here words zone seconds plan (Done report)) (Some j) (Some k) → StopNothing request.settings.state report.faults → IsJournal (past j)
     → MakesDirs request zone seconds report j k → RotatesAll request zone seconds report j k
 from_entries here words request zone seconds plan report j k asks dry (is_told {es = es} made a) none journal makes =
     let p = came_to_plan here words request zone seconds plan report (reverse es) asks dry a none in plan_rotates request zone seconds report j k es made none journal p (makes es made p)
 
 -- that a call with these words left its answer
-pub answered_rotated : (here : Path) (words : List (List ℕ)) (request : Request) (zone : Zone) (seconds : ℤ) (plan : Option Plan) (outcome : Outcome) (report : Report) (o n : Option Journal) (j k : Journal) → AskFor here words request → request.debug ≡ false → Left (Answered here words zone seconds plan outcome) o n → outcome ≡ Done report
-    → StopNothing request.state report.faults → o ≡ Some j → n ≡ Some k → IsJournal (past j) → MakesDirs request zone seconds report j k → RotatesAll request zone seconds report j k
+pub answered_rotated : (here : Path) (words : List (List ℕ)) (request : Request) (zone : Zone) (seconds : ℤ) (plan : Option Plan) (outcome : Outcome) (report : Report) (o n : Option Journal) (j k : Journal) → AskFor here words request → request.settings.debug ≡ false → Left (Answered here words zone seconds plan outcome) o n → outcome ≡ Done report
+    → StopNothing request.settings.state report.faults → o ≡ Some j → n ≡ Some k → IsJournal (past j) → MakesDirs request zone seconds report j k → RotatesAll request zone seconds report j k
 answered_rotated here words request zone seconds plan outcome report o n j k asks dry left done none told_j told_k journal makes =
     from_entries here words request zone seconds plan report j k asks dry
     (subst (λ (m : Option Journal). Left (Answered here words zone seconds plan (Done report)) (Some j) m) told_k

@@ -41,7 +41,7 @@ use Rattle.lr_cli.specs.Clock.{ShowsClock, LacksClock, out_of_range, no_text, re
 use Rattle.lr_cli.specs.declared.outcome.Outcome.{Outcome}
 use Rattle.lr_cli.specs.declared.outcome.Outcome.TheVariants.{Done, BadWords, Held, OutOfMemory}
 use Rattle.lr_command.specs.declared.request.Request.{Request}
-use Rattle.lr_cli.specs.Answer.{Answers, LacksMemory, at_first, at_confs, at_run, AnswersAt, no_clock, no_memory, called, Answered, not_read, read}
+use Rattle.lr_cli.specs.Answer.{Answers, LacksMemory, at_confs, at_run, AnswersAt, no_clock, no_memory, called, Answered, not_read, read}
 use Rattle.lr_cli.specs.Still.{IsStill, AreStill, WasShort, all_still, broke_off}
 use Rattle.lr_cli.specs.Asked.{AskFor}
 use Rattle.lr_cli.specs.Zone.{LacksZoneMemory, ShowsZone, LacksText, not_file, too_big, look_failed as text_look_failed, read_failed as text_read_failed, at_first as zone_at_first, at_file}
@@ -149,11 +149,11 @@ same_Some a b e = cc
 module _ (here : Path) (words : List (List ℕ)) (zone : Zone) (seconds : ℤ) where
   -- behind the clock and the reading
   run_short : (request : Request) → AskFor here words request → (clock : Clock) (meaning : Meaning) (rules : Rules) (ts us reads acts : List Entry) (front : List Entry) → rules.sets ≡ meaning.rules → ts ≡ front ++ us → us ≡ reads ++ acts
-      → ShowsClock zone seconds clock front → Reads request.confs meaning reads → RunLacks request.state (asking request.force request.mailer) clock rules acts → WasShort here words zone seconds ts
+      → ShowsClock zone seconds clock front → Reads request.confs meaning reads → RunLacks request.settings.state (asking request.settings.force request.settings.mailer) clock rules acts → WasShort here words zone seconds ts
   run_short request asked clock meaning rules ts us reads acts front same joined parts shown of_confs (run_at_first none) =
       all_still (subst AreStill (sym joined) (each_append IsStill front us (clock_still zone seconds clock front shown) (subst AreStill (sym parts) (each_append IsStill reads acts (confs_still request.confs meaning reads of_confs) (none_still acts none)))))
   run_short request asked clock meaning rules ts us reads acts front same joined parts shown of_confs (in_looks i) =
-      all_still (subst AreStill (sym joined) (each_append IsStill front us (clock_still zone seconds clock front shown) (subst AreStill (sym parts) (each_append IsStill reads acts (confs_still request.confs meaning reads of_confs) (looks_still request.state clock rules acts i)))))
+      all_still (subst AreStill (sym joined) (each_append IsStill front us (clock_still zone seconds clock front shown) (subst AreStill (sym parts) (each_append IsStill reads acts (confs_still request.confs meaning reads of_confs) (looks_still request.settings.state clock rules acts i)))))
   run_short request asked clock meaning rules ts us reads acts front same joined parts shown of_confs (in_acts i) = broke_off (record {
     request = request;
     asked = asked;
@@ -161,22 +161,21 @@ module _ (here : Path) (words : List (List ℕ)) (zone : Zone) (seconds : ℤ) w
     meaning = meaning;
     rules = rules;
     rules_are = same;
-    some_program = λ none. never_broke_off request.state rules.sets clock (asking request.force request.mailer) i.between (subst RunNothing (sym same) none) i.within;
+    some_program = λ none. never_broke_off request.settings.state rules.sets clock (asking request.settings.force request.settings.mailer) i.between (subst RunNothing (sym same) none) i.within;
     entries = record { front = front; back = us; joined = joined; first = shown; second = record { front = reads; back = acts; joined = parts; first = of_confs; second = i } };
   })
 
   -- so it is of a run that is dry, or isn't
   any_short : (request : Request) → AskFor here words request → (clock : Clock) (meaning : Meaning) (rules : Rules) (ts us reads acts : List Entry) (front : List Entry) → rules.sets ≡ meaning.rules → ts ≡ front ++ us → us ≡ reads ++ acts
-      → ShowsClock zone seconds clock front → Reads request.confs meaning reads → Lacks request.debug request.state (asking request.force request.mailer) clock rules acts → WasShort here words zone seconds ts
-  any_short request asked clock meaning rules ts us reads acts front same joined parts shown of_confs l = go request.debug l
+      → ShowsClock zone seconds clock front → Reads request.confs meaning reads → Lacks request.settings.debug request.settings.state (asking request.settings.force request.settings.mailer) clock rules acts → WasShort here words zone seconds ts
+  any_short request asked clock meaning rules ts us reads acts front same joined parts shown of_confs l = go request.settings.debug l
     where
-      go : (b : Bool) → Lacks b request.state (asking request.force request.mailer) clock rules acts → WasShort here words zone seconds ts
+      go : (b : Bool) → Lacks b request.settings.state (asking request.settings.force request.settings.mailer) clock rules acts → WasShort here words zone seconds ts
       go true l = all_still (subst AreStill (sym joined) (each_append IsStill front us (clock_still zone seconds clock front shown) (subst AreStill (sym parts) (each_append IsStill reads acts (confs_still request.confs meaning reads of_confs)
-          (lacks_so IsStill (λ x seen. tt) (λ x names. tt) (λ x place piece short. tt) request.state rules.sets acts l)))))
+          (lacks_so IsStill (λ x seen. tt) (λ x names. tt) (λ x place piece short. tt) request.settings.state rules.sets acts l)))))
       go false l = run_short request asked clock meaning rules ts us reads acts front same joined parts shown of_confs l
 
   lacks_short : (request : Request) → AskFor here words request → (clock : Clock) (ts us front : List Entry) → ts ≡ front ++ us → ShowsClock zone seconds clock front → LacksMemory request clock us → WasShort here words zone seconds ts
-  lacks_short request asked clock ts us front joined shown (at_first none) = all_still (subst AreStill (sym joined) (each_append IsStill front us (clock_still zone seconds clock front shown) (none_still us none)))
   lacks_short request asked clock ts us front joined shown (at_confs l) = all_still (subst AreStill (sym joined) (each_append IsStill front us (clock_still zone seconds clock front shown) (lacking_still request.confs us l)))
   lacks_short request asked clock ts us front joined shown (at_run meaning rules same t) = any_short request asked clock meaning rules ts us t.front t.back front same joined t.joined shown t.first t.second
 
@@ -222,27 +221,26 @@ module _ (here : Path) (words : List (List ℕ)) (zone : Zone) (seconds : ℤ) w
     confs_so : (confs : List Path) (m : Meaning) (ts : List Entry) → Reads confs m ts → Each P ts
     confs_so = all_so P look list (λ x from piece le. reads x from piece)
 
-    answers_dry : (request : Request) (clock : Clock) (plan : Option Plan) (outcome : Outcome) (ts : List Entry) → request.debug ≡ true → Answers request clock plan outcome ts → Each P ts
+    answers_dry : (request : Request) (clock : Clock) (plan : Option Plan) (outcome : Outcome) (ts : List Entry) → request.settings.debug ≡ true → Answers request clock plan outcome ts → Each P ts
     answers_dry request clock plan (Done report) ts dry h = then_so P look reads _ _ ts (λ us r. confs_so request.confs h.meaning us r)
-        (λ us r. tries_so P look list (λ x place piece short. reads x place piece) request.state h.rules.sets clock (asking request.force request.mailer) plan h.own us (subst (λ (b : Bool). Leaves b request.state (asking request.force request.mailer) clock h.rules plan h.own us) dry r)) h.entries
-    answers_dry request clock plan Held ts dry h = then_so P look reads _ _ ts (λ us r. confs_so request.confs h.1.meaning us r) (λ us r. absurd (subst (λ (b : Bool). Holds b request.state us) dry r)) h.1.entries
+        (λ us r. tries_so P look list (λ x place piece short. reads x place piece) request.settings.state h.rules.sets clock (asking request.settings.force request.settings.mailer) plan h.own us (subst (λ (b : Bool). Leaves b request.settings.state (asking request.settings.force request.settings.mailer) clock h.rules plan h.own us) dry r)) h.entries
+    answers_dry request clock plan Held ts dry h = then_so P look reads _ _ ts (λ us r. confs_so request.confs h.1.meaning us r) (λ us r. absurd (subst (λ (b : Bool). Holds b request.settings.state us) dry r)) h.1.entries
     answers_dry request clock plan BadWords ts dry h = absurd h
     answers_dry request clock plan OutOfMemory ts dry h = go h.1
       where
         go : LacksMemory request clock ts → Each P ts
-        go (at_first none) = none_so P look reads ts none
         go (at_confs l) = lacking_so P look list (λ x from piece le. reads x from piece) request.confs ts l
         go (at_run meaning rules same t) = then_so P look reads _ _ ts (λ us r. confs_so request.confs meaning us r)
-            (λ us r. lacks_so P look list (λ x place piece short. reads x place piece) request.state rules.sets us (subst (λ (b : Bool). Lacks b request.state (asking request.force request.mailer) clock rules us) dry r)) t
+            (λ us r. lacks_so P look list (λ x place piece short. reads x place piece) request.settings.state rules.sets us (subst (λ (b : Bool). Lacks b request.settings.state (asking request.settings.force request.settings.mailer) clock rules us) dry r)) t
 
-    at_dry : (request : Request) (plan : Option Plan) (outcome : Outcome) (ts : List Entry) → request.debug ≡ true → AnswersAt request zone seconds plan outcome ts → Each P ts
+    at_dry : (request : Request) (plan : Option Plan) (outcome : Outcome) (ts : List Entry) → request.settings.debug ≡ true → AnswersAt request zone seconds plan outcome ts → Each P ts
     at_dry request plan outcome ts dry (no_clock f lost is l) = lost_clock_so f ts l
     at_dry request plan outcome ts dry (no_memory lost is l) = lost_memory_so ts l
     at_dry request plan outcome ts dry (called clock t) = then_so P look reads _ _ ts (λ us h. zone_so P look reads zone h.text us h.shows) (λ us h. answers_dry request clock plan outcome us dry h) t
 
-    pub answered_dry : (request : Request) (plan : Option Plan) (outcome : Outcome) (ts : List Entry) → AskFor here words request → request.debug ≡ true → Answered here words zone seconds plan outcome ts → Each P ts
+    pub answered_dry : (request : Request) (plan : Option Plan) (outcome : Outcome) (ts : List Entry) → AskFor here words request → request.settings.debug ≡ true → Answered here words zone seconds plan outcome ts → Each P ts
     answered_dry request plan outcome ts asks dry (not_read lost is none) = none_so P look reads ts none
-    answered_dry request plan outcome ts asks dry (read other asked h) = at_dry other plan outcome ts (ap (λ (r : Request). r.debug) (same_Some other request (sym asked ∙ asks)) ∙ dry) h
+    answered_dry request plan outcome ts asks dry (read other asked h) = at_dry other plan outcome ts (ap (λ (r : Request). r.settings.debug) (same_Some other request (sym asked ∙ asks)) ∙ dry) h
 
-pub left_dry : (here : Path) (words : List (List ℕ)) (zone : Zone) (seconds : ℤ) (request : Request) (plan : Option Plan) (outcome : Outcome) {o n : Option Journal} → AskFor here words request → request.debug ≡ true → Left (Answered here words zone seconds plan outcome) o n → Left AreSights o n
+pub left_dry : (here : Path) (words : List (List ℕ)) (zone : Zone) (seconds : ℤ) (request : Request) (plan : Option Plan) (outcome : Outcome) {o n : Option Journal} → AskFor here words request → request.settings.debug ≡ true → Left (Answered here words zone seconds plan outcome) o n → Left AreSights o n
 left_dry here words zone seconds request plan outcome asks dry l = left_as l (λ ts h. answered_dry here words zone seconds IsSight (λ x seen. tt) (λ x names. tt) (λ x place piece. tt) request plan outcome ts asks dry h)

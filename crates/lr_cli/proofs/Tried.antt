@@ -62,10 +62,10 @@ module _ (request : Request) (zone : Zone) (seconds : ℤ) (report : Report) (ts
   Came = TriesPlan request zone seconds report ts
 
   abbrev Why : Type 0
-  Why = SaysWhyDry request.state zone report.faults
+  Why = SaysWhyDry request.settings.state zone report.faults
 
   -- behind the clock
-  reports_tried : (plan : Option Plan) → request.debug ≡ true → (clock : Clock) → Then (ShowsClock zone seconds clock) (Reports request clock plan report.notices report.faults) ts → Came ⊎ Why
+  reports_tried : (plan : Option Plan) → request.settings.debug ≡ true → (clock : Clock) → Then (ShowsClock zone seconds clock) (Reports request clock plan report.notices report.faults) ts → Came ⊎ Why
   reports_tried (Some p) dry clock t =
       let r = t.second in
       inl (record {
@@ -87,13 +87,13 @@ module _ (request : Request) (zone : Zone) (seconds : ℤ) (report : Report) (ts
             back = r.entries.back;
             joined = r.entries.joined;
             first = r.entries.first;
-            second = subst (λ (b : Bool). Leaves b request.state (asking request.force request.mailer) clock r.rules (Some p) r.own r.entries.back) dry r.entries.second;
+            second = subst (λ (b : Bool). Leaves b request.settings.state (asking request.settings.force request.settings.mailer) clock r.rules (Some p) r.own r.entries.back) dry r.entries.second;
           };
         };
       })
   reports_tried None dry clock t =
       let r = t.second in
-      let w = ended_try request.state clock (asking request.force request.mailer) r.rules None r.own r.entries.back (subst (λ (b : Bool). Leaves b request.state (asking request.force request.mailer) clock r.rules None r.own r.entries.back) dry r.entries.second) refl in
+      let w = ended_try request.settings.state clock (asking request.settings.force request.settings.mailer) r.rules None r.own r.entries.back (subst (λ (b : Bool). Leaves b request.settings.state (asking request.settings.force request.settings.mailer) clock r.rules None r.own r.entries.back) dry r.entries.second) refl in
       inr (record {
         before = r.meaning.faults ++ w.before;
         last = w.last;
@@ -101,34 +101,34 @@ module _ (request : Request) (zone : Zone) (seconds : ℤ) (report : Report) (ts
         ends = ⊎_elim (λ ends. inl ends) (λ may. inr (inr may)) w.ends;
       })
 
-  at_tried : (plan : Option Plan) → request.debug ≡ true → AnswersAt request zone seconds plan (Done report) ts → Came ⊎ Why
-  at_tried plan dry (no_clock f lost e l) = inr (clock_untried request.state zone seconds f report ts e l)
+  at_tried : (plan : Option Plan) → request.settings.debug ≡ true → AnswersAt request zone seconds plan (Done report) ts → Came ⊎ Why
+  at_tried plan dry (no_clock f lost e l) = inr (clock_untried request.settings.state zone seconds f report ts e l)
   at_tried plan dry (no_memory lost e l) = absurd (cc)
   at_tried plan dry (called clock t) = reports_tried plan dry clock t
 
-  call_tried : (here : Path) (words : List (List ℕ)) (plan : Option Plan) → AskFor here words request → request.debug ≡ true → Answered here words zone seconds plan (Done report) ts → Came ⊎ Why
+  call_tried : (here : Path) (words : List (List ℕ)) (plan : Option Plan) → AskFor here words request → request.settings.debug ≡ true → Answered here words zone seconds plan (Done report) ts → Came ⊎ Why
   call_tried here words plan asks dry (not_read lost (inl e) none) = absurd (cc)
   call_tried here words plan asks dry (not_read lost (inr e) none) = absurd (cc)
   call_tried here words plan asks dry (read other asked a) = at_tried plan dry (subst (λ (r : Request). AnswersAt r zone seconds plan (Done report) ts) (same_Some other request (sym asked ∙ asks)) a)
 
   -- ---- what the report tells
 
-  plan_none : Came → NoneEndsTry request.state report.faults
+  plan_none : Came → NoneEndsTry request.settings.state report.faults
   plan_none p =
       let e = p.entries.second in
-      subst (NoneEndsTry request.state) (sym p.faults_are) (try_both request.state p.meaning.faults p.own (none_try request.state p.meaning.faults (means_none request.state request.confs p.meaning e.front e.first))
-      (reached_try request.state p.clock (asking request.force request.mailer) p.rules (Some p.plan) p.own e.back e.second (λ h. cc)))
+      subst (NoneEndsTry request.settings.state) (sym p.faults_are) (try_both request.settings.state p.meaning.faults p.own (none_try request.settings.state p.meaning.faults (means_none request.settings.state request.confs p.meaning e.front e.first))
+      (reached_try request.settings.state p.clock (asking request.settings.force request.settings.mailer) p.rules (Some p.plan) p.own e.back e.second (λ h. cc)))
 
   tells : Came ⊎ Why → TellsOfTry request zone seconds report ts
   tells a = record {
-    alone = λ plain. (plan_none, λ none. ⊎_elim (λ p. p) (λ u. absurd (⊎_elim (λ ends. last_tries request.state u.before u.last (subst (NoneEndsTry request.state) u.faults_are none) ends) (λ may. plain u.last (last_in u.before u.last report.faults u.faults_are) may) u.ends)) a);
+    alone = λ plain. (plan_none, λ none. ⊎_elim (λ p. p) (λ u. absurd (⊎_elim (λ ends. last_tries request.settings.state u.before u.last (subst (NoneEndsTry request.settings.state) u.faults_are none) ends) (λ may. plain u.last (last_in u.before u.last report.faults u.faults_are) may) u.ends)) a);
     why = λ h. ⊎_elim (λ p. absurd (h p)) (λ u. u) a;
   }
 
-  pub call_tells : (here : Path) (words : List (List ℕ)) (plan : Option Plan) → AskFor here words request → request.debug ≡ true → Answered here words zone seconds plan (Done report) ts → TellsOfTry request zone seconds report ts
+  pub call_tells : (here : Path) (words : List (List ℕ)) (plan : Option Plan) → AskFor here words request → request.settings.debug ≡ true → Answered here words zone seconds plan (Done report) ts → TellsOfTry request zone seconds report ts
   call_tells here words plan asks dry a = tells (call_tried here words plan asks dry a)
 
 -- that a call with these words left its answer
-pub left_tries : (here : Path) (words : List (List ℕ)) (request : Request) (zone : Zone) (seconds : ℤ) (plan : Option Plan) (outcome : Outcome) (report : Report) {o n : Option Journal} → AskFor here words request → request.debug ≡ true → outcome ≡ Done report → Left (Answered here words zone seconds plan outcome) o n
+pub left_tries : (here : Path) (words : List (List ℕ)) (request : Request) (zone : Zone) (seconds : ℤ) (plan : Option Plan) (outcome : Outcome) (report : Report) {o n : Option Journal} → AskFor here words request → request.settings.debug ≡ true → outcome ≡ Done report → Left (Answered here words zone seconds plan outcome) o n
     → Left (TellsOfTry request zone seconds report) o n
 left_tries here words request zone seconds plan outcome report {o = o} {n = n} asks dry done l = left_as (subst (λ (a : Outcome). Left (Answered here words zone seconds plan a) o n) done l) (λ ts a. call_tells request zone seconds report ts here words plan asks dry a)

@@ -29,18 +29,17 @@ pub record Reports (request : Request) (clock : Clock) (plan : Option Plan) (not
   pub rules_are : rules.sets ≡ meaning.rules
   pub notices_are : notices ≡ meaning.notices
   pub faults_are : faults ≡ meaning.faults ++ own
-  pub entries : Then (Reads request.confs meaning) (Leaves request.debug request.state (asking request.force request.mailer) clock rules plan own) ts
+  pub entries : Then (Reads request.confs meaning) (Leaves request.settings.debug request.settings.state (asking request.settings.force request.settings.mailer) clock rules plan own) ts
 
 -- The configuration was read, and the state's directory was seen; the lock was another's.
 pub record FindsLock (request : Request) (ts : List Entry) : Type 0 where
   pub meaning : Meaning
-  pub entries : Then (Reads request.confs meaning) (Holds request.debug request.state) ts
+  pub entries : Then (Reads request.confs meaning) (Holds request.settings.debug request.settings.state) ts
 
--- Where there was no memory: before the first call, for the configuration's texts or its rules, or in the run, behind a first part of what it sees, or for a program, amid its acts.
+-- Where there was no memory: for the configuration's texts or its rules, or in the run, behind a first part of what it sees, or for a program, amid its acts.
 pub data LacksMemory (request : Request) (clock : Clock) (ts : List Entry) : Type 0 where
-  at_first : ts ≡ [] → LacksMemory request clock ts
   at_confs : LacksReading request.confs ts → LacksMemory request clock ts
-  at_run : (meaning : Meaning) (rules : Rules) → rules.sets ≡ meaning.rules → Then (Reads request.confs meaning) (Lacks request.debug request.state (asking request.force request.mailer) clock rules) ts → LacksMemory request clock ts
+  at_run : (meaning : Meaning) (rules : Rules) → rules.sets ≡ meaning.rules → Then (Reads request.confs meaning) (Lacks request.settings.debug request.settings.state (asking request.settings.force request.settings.mailer) clock rules) ts → LacksMemory request clock ts
 
 -- What a call left that was to run by this request and this clock, and came to this plan, which it did only where it has a report.
 abbrev pub Answers : Request → Clock → Option Plan → Outcome → List Entry → Type 0

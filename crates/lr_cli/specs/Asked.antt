@@ -17,4 +17,4 @@ AskForNone here words = asked here words ≡ None
 -- What is printed of a plan, where the call came to one: what was decided of each log, where that is asked for, and in a dry run the steps too.
 abbrev pub planned_text : Request → Option Plan → List ℕ
 planned_text request None = []
-planned_text request (Some plan) = if request.debug || request.verbose then plan_text request.state request.debug plan else []
+planned_text request (Some plan) = if request.settings.debug || request.settings.verbose then plan_text request.settings.state request.settings.debug plan else []

@@ -27,7 +27,7 @@ pub record FailNothing (state : Path) (faults : List Fault) : Type 0 where
 
 -- the plan that the call came to
 abbrev pub plan_by : (request : Request) (zone : Zone) (seconds : ℤ) (report : Report) (ts : List Entry) → ReachesPlan request zone seconds report ts → Plan
-plan_by request zone seconds report ts p = plan_in request.state p.rules.sets p.run.between p.run.within.looked p.clock (asking request.force request.mailer)
+plan_by request zone seconds report ts p = plan_in request.settings.state p.rules.sets p.run.between p.run.within.looked p.clock (asking request.settings.force request.settings.mailer)
 
 -- None of the faults tells that another kind of thing stood at the path of a directory that the plan was to make, however the call's entries show that plan.
 abbrev pub MakesDirs : Request → Zone → ℤ → Report → Journal → Journal → Type 0
@@ -43,4 +43,4 @@ pub record FulfillsPlan (request : Request) (zone : Zone) (seconds : ℤ) (repor
   -- the faults are those of the configuration, of the looks and of the plan, in this order, and no other
   pub faults : report.faults ≡ plan.meaning.faults ++ (plan.run.within.looked.of_looks ++ (plan_by request zone seconds report (reverse entries) plan).faults)
   -- its acts, what became of each log of the plan and of the state, and that all else was left alone
-  pub fulfilled : IsFulfilled request.state plan.rules.sets plan.clock (asking request.force request.mailer) plan.run.between plan.run.within.looked plan.own (reverse entries) (past before) (past after)
+  pub fulfilled : IsFulfilled request.settings.state plan.rules.sets plan.clock (asking request.settings.force request.settings.mailer) plan.run.between plan.run.within.looked plan.own (reverse entries) (past before) (past after)

@@ -10,7 +10,6 @@ pub mod Reached
 pub mod Rotated
 pub mod Safe
 pub mod Says
-pub mod Settled
 pub mod Smooth
 pub mod State
 pub mod Status

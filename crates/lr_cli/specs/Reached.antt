@@ -39,7 +39,7 @@ pub record ReachesPlan (request : Request) (zone : Zone) (seconds : ℤ) (report
   pub joined : ts ≡ of_clock ++ (reads ++ acts)
   pub shown : ShowsClock zone seconds clock of_clock
   pub read : Reads request.confs meaning reads
-  pub run : IsReached request.state (asking request.force request.mailer) clock rules own acts
+  pub run : IsReached request.settings.state (asking request.settings.force request.settings.mailer) clock rules own acts
 
 -- a look at the zone's file failed, or a read of it
 abbrev pub IsOfZone : Zone → Fault → Type 0
@@ -59,9 +59,9 @@ pub record SaysWhy (state : Path) (zone : Zone) (faults : List Fault) : Type 0 w
 
 -- What the report tells of it. Where none of the faults is such a failed look or read, it tells all: the call came to its plan exactly where none of them ends a run. Where one is, the entries tell besides whether the run saw its state. Where the call didn't come to its plan, the last of the faults is why.
 pub record TellsOfPlan (request : Request) (zone : Zone) (seconds : ℤ) (report : Report) (ts : List Entry) : Type 0 where
-  pub alone : ((f : Fault) → IsIn f report.faults → MayEndCall request.state zone f → ⊥) → ReachesPlan request zone seconds report ts ↔ NoneEnds request.state report.faults
-  pub exactly : ReachesPlan request zone seconds report ts ↔ (NoneEnds request.state report.faults × SawState request.state (behind_start ts))
-  pub why : (ReachesPlan request zone seconds report ts → ⊥) → SaysWhy request.state zone report.faults
+  pub alone : ((f : Fault) → IsIn f report.faults → MayEndCall request.settings.state zone f → ⊥) → ReachesPlan request zone seconds report ts ↔ NoneEnds request.settings.state report.faults
+  pub exactly : ReachesPlan request zone seconds report ts ↔ (NoneEnds request.settings.state report.faults × SawState request.settings.state (behind_start ts))
+  pub why : (ReachesPlan request zone seconds report ts → ⊥) → SaysWhy request.settings.state zone report.faults
 
 -- ---- a dry run
 
@@ -75,7 +75,7 @@ pub record TriesPlan (request : Request) (zone : Zone) (seconds : ℤ) (report :
   pub own : List Fault
   pub faults_are : report.faults ≡ meaning.faults ++ own
   pub plan : Plan
-  pub entries : Then (ShowsClock zone seconds clock) (Then (Reads request.confs meaning) (Tries request.state rules.sets clock (asking request.force request.mailer) (Some plan) own)) ts
+  pub entries : Then (ShowsClock zone seconds clock) (Then (Reads request.confs meaning) (Tries request.settings.state rules.sets clock (asking request.settings.force request.settings.mailer) (Some plan) own)) ts
 
 -- A look or a read failed of the zone's file or of a path of the state, or the state's directory isn't there. Each may be told of a configuration or a log too, and then ended nothing.
 abbrev pub MayEndDry : Path → Zone → Fault → Type 0
@@ -90,5 +90,5 @@ pub record SaysWhyDry (state : Path) (zone : Zone) (faults : List Fault) : Type 
 
 -- What the report tells of it. Where none of the faults is one that may end such a call, it tells all: the call came to its plan exactly where none of them ends it. Where it didn't, the last of them is why.
 pub record TellsOfTry (request : Request) (zone : Zone) (seconds : ℤ) (report : Report) (ts : List Entry) : Type 0 where
-  pub alone : ((f : Fault) → IsIn f report.faults → MayEndDry request.state zone f → ⊥) → TriesPlan request zone seconds report ts ↔ NoneEndsTry request.state report.faults
-  pub why : (TriesPlan request zone seconds report ts → ⊥) → SaysWhyDry request.state zone report.faults
+  pub alone : ((f : Fault) → IsIn f report.faults → MayEndDry request.settings.state zone f → ⊥) → TriesPlan request zone seconds report ts ↔ NoneEndsTry request.settings.state report.faults
+  pub why : (TriesPlan request zone seconds report ts → ⊥) → SaysWhyDry request.settings.state zone report.faults

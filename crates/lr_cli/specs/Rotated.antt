@@ -15,7 +15,7 @@ use Rattle.lr_cli.specs.Reached.{ReachesPlan}
 
 -- the logs that the plan of the call rotates
 abbrev pub rotated_by : (request : Request) (zone : Zone) (seconds : ℤ) (report : Report) (ts : List Entry) → ReachesPlan request zone seconds report ts → List Target
-rotated_by request zone seconds report ts p = rotated_in request.state p.rules.sets p.run.between p.run.within.looked p.clock (asking request.force request.mailer)
+rotated_by request zone seconds report ts p = rotated_in request.settings.state p.rules.sets p.run.between p.run.within.looked p.clock (asking request.settings.force request.settings.mailer)
 
 -- The call came to its plan, and the family of each log that this rotates, by its rename or by a copy, was turned, file by file.
 pub record RotatesAll (request : Request) (zone : Zone) (seconds : ℤ) (report : Report) (before after : Journal) : Type 0 where
@@ -23,4 +23,4 @@ pub record RotatesAll (request : Request) (zone : Zone) (seconds : ℤ) (report 
   pub entries : List Entry
   pub made : Made (past before) entries (past after)
   pub plan : ReachesPlan request zone seconds report (reverse entries)
-  pub each : (t : Target) → IsIn t (rotated_by request zone seconds report (reverse entries) plan) → IsTurnedAmong request.state (rotated_by request zone seconds report (reverse entries) plan) (past before) (past after) t
+  pub each : (t : Target) → IsIn t (rotated_by request zone seconds report (reverse entries) plan) → IsTurnedAmong request.settings.state (rotated_by request zone seconds report (reverse entries) plan) (past before) (past after) t

@@ -35,4 +35,4 @@ pub record Says (here : Path) (words : List (List ℕ)) (zone : Zone) (seconds :
   pub plan : Option Plan
   pub shown : Left (Answered here words zone seconds plan (without_out outcome)) told later
   pub prints : Prints (printed_of (asked_text (asked here words) plan) outcome) outcome before after low high
-  pub taken : (request : Request) (report : Report) → AskFor here words request → request.debug ≡ false → without_out outcome ≡ Done report → TellsTaken request.state plan report.faults told later
+  pub taken : (request : Request) (report : Report) → AskFor here words request → request.settings.debug ≡ false → without_out outcome ≡ Done report → TellsTaken request.settings.state plan report.faults told later

@@ -21,10 +21,10 @@ TellsTaken state plan faults told later = (p : Plan) → plan ≡ Some p → Tak
 
 -- What holds of a call in whose way nothing was: its faults tell of nothing that failed, and it did its plan.
 pub record IsDone (request : Request) (zone : Zone) (seconds : ℤ) (report : Report) (before after : Journal) : Type 0 where
-  pub none : FailNothing request.state report.faults
+  pub none : FailNothing request.settings.state report.faults
   pub plan : FulfillsPlan request zone seconds report before after
 
 -- Nothing was in the way of the call: of its state, and of the logs that its looks kept, as its entries show them.
 abbrev pub IsSmoothCall : Request → Zone → ℤ → Report → Journal → Journal → Type 0
 IsSmoothCall request zone seconds report before after =
-    (es : List Entry) → Made (past before) es (past after) → (p : ReachesPlan request zone seconds report (reverse es)) → IsSmooth request.state p.rules.sets p.run.within.looked.shown.kept (past before) (past after)
+    (es : List Entry) → Made (past before) es (past after) → (p : ReachesPlan request zone seconds report (reverse es)) → IsSmooth request.settings.state p.rules.sets p.run.within.looked.shown.kept (past before) (past after)

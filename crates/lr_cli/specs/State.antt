@@ -18,4 +18,4 @@ pub record IsNewText (request : Request) (zone : Zone) (seconds : ℤ) (ts : Lis
   pub meaning : Meaning
   pub rules : Rules
   pub rules_are : rules.sets ≡ meaning.rules
-  pub entries : Then (ShowsClock zone seconds clock) (Then (Reads request.confs meaning) (λ us. IsTextOfRun request.state clock (asking request.force request.mailer) rules us text)) ts
+  pub entries : Then (ShowsClock zone seconds clock) (Then (Reads request.confs meaning) (λ us. IsTextOfRun request.settings.state clock (asking request.settings.force request.settings.mailer) rules us text)) ts

@@ -37,7 +37,7 @@ pub record BrokeOffAmidActs (here : Path) (words : List (List ℕ)) (zone : Zone
   pub rules : Rules
   pub rules_are : rules.sets ≡ meaning.rules
   pub some_program : RunNothing meaning.rules → ⊥
-  pub entries : Then (ShowsClock zone seconds clock) (Then (Reads request.confs meaning) (Inside request.state clock rules (BrokeOff request.state rules.sets clock (asking request.force request.mailer)))) ts
+  pub entries : Then (ShowsClock zone seconds clock) (Then (Reads request.confs meaning) (Inside request.settings.state clock rules (BrokeOff request.settings.state rules.sets clock (asking request.settings.force request.settings.mailer)))) ts
 
 -- Where there was no memory the call changed nothing and started no program; or it broke off amid the acts of a run, just before a program, which it can only where a rule has a script or mails.
 pub data WasShort (here : Path) (words : List (List ℕ)) (zone : Zone) (seconds : ℤ) (ts : List Entry) : Type 0 where

@@ -89,10 +89,10 @@ fn report_with_out(notices: Listed<Notice>, faults: Vec<Fault>) -> Outcome
 
 // Puts the text of a plan, so far as the request asks for it.
 fn put_plan<K: Sink>(request: &Request, plan: &Plan, out: &mut K) -> Result<(), SinkFault>
-    ensures { Puts (if request.now.debug || request.now.verbose then plan_text request.now.state request.now.debug plan.now else []) result (K.taken out.old) (K.taken out.new) (K.faults out.old) (K.faults out.new) }
+    ensures { Puts (if request.now.settings.debug || request.now.settings.verbose then plan_text request.now.settings.state request.now.settings.debug plan.now else []) result (K.taken out.old) (K.taken out.new) (K.faults out.old) (K.faults out.new) }
 {
-    if request.debug || request.verbose {
-        print(plan, &request.state, request.debug, out)
+    if request.settings.debug || request.settings.verbose {
+        print(plan, &request.settings.state, request.settings.debug, out)
     } else {
         Ok(())
     }

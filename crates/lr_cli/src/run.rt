@@ -1,45 +1,39 @@
 // One run over the configuration of some paths.
-ghost use Rattle.std.specs.Prelude.{◌≡◌, ◌≤◌, ◌+◌, [], None, true, false, Err, IfOk, vec_len, vec_capacity};
+ghost use Rattle.std.specs.Prelude.{◌≡◌, ◌≤◌, ◌+◌, [], None, false, Err, IfOk, vec_len, vec_capacity};
 ghost use Rattle.lr_host.specs.Opening.{IsJournal};
 ghost use Rattle.lr_host.specs.Told.{Left, Onward, Rose, WhereTold};
 ghost use Rattle.lr_host.specs.Counted.{AreCounted};
 ghost use Rattle.lr_laws_targets.specs.Runs.{IsWholeRunBy};
 ghost use Rattle.lr_run.specs.Anew.{NamesAnew};
 ghost use Rattle.lr_cli.specs.Internal.{TurnsByClock};
-ghost use Rattle.lr_rules.specs.StatePath.{can_be_state};
 ghost use Rattle.lr_cli.specs.Answer.{Answers, AnswersAt};
 ghost use Rattle.lr_cli.specs.Clock.{IsClocked};
 ghost use Rattle.lr_cli.specs.Faults.{AreReported, answer_of, clock_answer, plan_told};
-ghost use Rattle.lr_cli.specs.Settled.{AreSettingsOf};
 ghost use Rattle.lr_cli.specs.Smooth.{TellsTaken};
 
 use crate::clock::{ClockStop, clock_in};
-use crate::settings::settings_of;
 use crate::told::Told;
 use lr_command::Request;
 use lr_due::Zone;
 use lr_host::Host;
 use lr_include::{Reading, read_all};
-use lr_plan::Settings;
 use lr_rules::{Clock, Fault, Listed};
 use lr_run::{RunStop, run};
 use std::alloc::Global;
 
-/// Reads the configuration of a request, and makes a run over its rules, by the settings of the request. All memory but that
-/// of programs is taken before the first change.
+/// Reads the configuration of a request, and makes a run over its rules, by its settings. All memory but that of programs is
+/// taken before the first change.
 pub fn run_confs<H: Host>(
     alloc: Global,
     host: &mut H,
     request: &Request,
-    settings: &Settings,
     clock: &Clock,
 ) -> Result<Told, RunStop>
-    requires settled { AreSettingsOf request.now settings.now }
     requires disk { WhereTold (H.told host.old) IsJournal }
     ensures told { Left (Answers request.now clock.entry.now (plan_told result) (answer_of result)) (H.told host.old) (H.told host.new) }
     ensures shape { Left (IsWholeRunBy clock.entry.now) (H.told host.old) (H.told host.new) }
-    ensures taken { request.now.debug ≡ false → IfOk result (λ told. TellsTaken request.now.state told.plan told.faults.items (H.told host.old) (H.told host.new)) }
-    ensures anew { request.now.debug ≡ false → IfOk result (λ told. NamesAnew told.plan told.faults.items (H.told host.new)) }
+    ensures taken { request.now.settings.debug ≡ false → IfOk result (λ told. TellsTaken request.now.settings.state told.plan told.faults.items (H.told host.old) (H.told host.new)) }
+    ensures anew { request.now.settings.debug ≡ false → IfOk result (λ told. NamesAnew told.plan told.faults.items (H.told host.new)) }
     ensures counted { IfOk result (λ told. AreCounted told.faults.items (H.counts host.old) (H.counts host.new)) }
     ensures room { IfOk result (λ told. vec_len told.faults + 1 ≤ vec_capacity told.faults) }
     ensures held { result ≡ Err RunStop.Held → Rose (H.counts host.old).held (H.counts host.new).held }
@@ -53,7 +47,14 @@ pub fn run_confs<H: Host>(
         notices,
         faults,
     } = reading;
-    match run(alloc, &rules, settings, clock, faults.into_vec(), host) {
+    match run(
+        alloc,
+        &rules,
+        &request.settings,
+        clock,
+        faults.into_vec(),
+        host,
+    ) {
         Ok(ran) => Ok(Told {
             plan: ran.plan,
             notices,
@@ -61,30 +62,6 @@ pub fn run_confs<H: Host>(
         }),
         Err(stop) => Err(stop),
     }
-}
-
-/// The same, by settings that are made of the request.
-pub fn run_by<H: Host>(
-    alloc: Global,
-    host: &mut H,
-    request: &Request,
-    clock: &Clock,
-) -> Result<Told, RunStop>
-    requires disk { WhereTold (H.told host.old) IsJournal }
-    requires fits { can_be_state request.now.state ≡ true }
-    ensures told { Left (Answers request.now clock.entry.now (plan_told result) (answer_of result)) (H.told host.old) (H.told host.new) }
-    ensures shape { Left (IsWholeRunBy clock.entry.now) (H.told host.old) (H.told host.new) }
-    ensures taken { request.now.debug ≡ false → IfOk result (λ told. TellsTaken request.now.state told.plan told.faults.items (H.told host.old) (H.told host.new)) }
-    ensures anew { request.now.debug ≡ false → IfOk result (λ told. NamesAnew told.plan told.faults.items (H.told host.new)) }
-    ensures counted { IfOk result (λ told. AreCounted told.faults.items (H.counts host.old) (H.counts host.new)) }
-    ensures room { IfOk result (λ told. vec_len told.faults + 1 ≤ vec_capacity told.faults) }
-    ensures held { result ≡ Err RunStop.Held → Rose (H.counts host.old).held (H.counts host.new).held }
-    ensures counts { Onward (H.counts host.old) (H.counts host.new) }
-{
-    let Ok(settings) = settings_of(alloc, request) else {
-        return Err(RunStop::Memory);
-    };
-    run_confs(alloc, host, request, &settings, clock)
 }
 
 // What is told where there is no clock, in a list that has room for it and one more.
@@ -118,12 +95,11 @@ pub fn run_at<H: Host>(
     seconds: i64,
 ) -> Result<Told, RunStop>
     requires disk { WhereTold (H.told host.old) IsJournal }
-    requires fits { can_be_state request.now.state ≡ true }
     ensures told { Left (AnswersAt request.now zone.now seconds (plan_told result) (answer_of result)) (H.told host.old) (H.told host.new) }
     ensures clock { IfOk result (λ told. IsClocked zone.now seconds told.notices told.faults.items) }
     ensures shape { TurnsByClock zone.now seconds (H.told host.old) (H.told host.new) }
-    ensures taken { request.now.debug ≡ false → IfOk result (λ told. TellsTaken request.now.state told.plan told.faults.items (H.told host.old) (H.told host.new)) }
-    ensures anew { request.now.debug ≡ false → IfOk result (λ told. NamesAnew told.plan told.faults.items (H.told host.new)) }
+    ensures taken { request.now.settings.debug ≡ false → IfOk result (λ told. TellsTaken request.now.settings.state told.plan told.faults.items (H.told host.old) (H.told host.new)) }
+    ensures anew { request.now.settings.debug ≡ false → IfOk result (λ told. NamesAnew told.plan told.faults.items (H.told host.new)) }
     ensures counted { IfOk result (λ told. AreReported told.faults.items (H.counts host.old) (H.counts host.new)) }
     ensures room { IfOk result (λ told. vec_len told.faults + 1 ≤ vec_capacity told.faults) }
     ensures held { result ≡ Err RunStop.Held → Rose (H.counts host.old).held (H.counts host.new).held }
@@ -133,7 +109,7 @@ pub fn run_at<H: Host>(
         return Err(RunStop::Memory);
     };
     match clock_in(alloc, host, zone, seconds) {
-        Ok(clock) => run_by(alloc, host, request, &clock),
+        Ok(clock) => run_confs(alloc, host, request, &clock),
         Err(stop) => without_clock(alloc, stop, faults),
     }
 }

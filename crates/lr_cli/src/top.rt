@@ -60,7 +60,7 @@ pub fn logrotate<H: Host, K: Sink>(
     // that the machine may make then; and where it is the new one, all changes of names that the run made before are applied.
     // So it is where the old one was settled as the call began, and writers spare it: whatever failed, and wherever the run
     // stopped. Where the words ask for nothing, nothing is called.
-    ensures state { (request : Request) → AskFor here.now words.now request → KeepsWhole request.state (IsNewText request zone.now now) (H.told host.old) (H.told host.new) }
+    ensures state { (request : Request) → AskFor here.now words.now request → KeepsWhole request.settings.state (IsNewText request zone.now now) (H.told host.old) (H.told host.new) }
     ensures nothing { AskForNone here.now words.now → H.told host.new ≡ H.told host.old }
 
     // Just before a log is emptied, which only a rule with copytruncate asks for, its copy has the newest member's path, with all
@@ -76,18 +76,18 @@ pub fn logrotate<H: Host, K: Sink>(
     // by a copy, file by file, where no writer was attached to a member; each that is made anew is named; the state tells of all
     // of them, where no writer was attached to its paths; and all else was left alone. Faults of the configuration, of the looks
     // and of the plan may stand there, and no others do.
-    ensures fulfilled { (request : Request) (report : Report) (before after : Journal) → AskFor here.now words.now request → request.debug ≡ false → without_out result ≡ Outcome.Done report → FailNothing request.state report.faults
+    ensures fulfilled { (request : Request) (report : Report) (before after : Journal) → AskFor here.now words.now request → request.settings.debug ≡ false → without_out result ≡ Outcome.Done report → FailNothing request.settings.state report.faults
         → H.told host.old ≡ Some before → H.told host.new ≡ Some after → IsJournal (past before) → MakesDirs request zone.now now report before after → FulfillsPlan request zone.now now report before after }
 
     // Where none of its faults ends a run, neither count of failures rose, and nothing was in its way, its faults tell of nothing
     // that failed, and it did its plan. Nothing is in its way where writers spared the files that it writes first and the
     // directories of the logs, nothing but a file stood at the part file's path of a log that is copied, none of these was too
     // long for it, and no dated name ends as a part file's does.
-    ensures smooth { (request : Request) (report : Report) (before after : Journal) → AskFor here.now words.now request → request.debug ≡ false → without_out result ≡ Outcome.Done report → NoneEnds request.state report.faults → NoneRose (H.counts host.old) (H.counts host.new)
+    ensures smooth { (request : Request) (report : Report) (before after : Journal) → AskFor here.now words.now request → request.settings.debug ≡ false → without_out result ≡ Outcome.Done report → NoneEnds request.settings.state report.faults → NoneRose (H.counts host.old) (H.counts host.new)
         → H.told host.old ≡ Some before → H.told host.new ≡ Some after → IsJournal (past before) → IsSmoothCall request zone.now now report before after → IsDone request zone.now now report before after }
 
     // A dry run only looks, lists and reads: it takes no lock, changes nothing, and starts no program.
-    ensures dry { (request : Request) → AskFor here.now words.now request → request.debug ≡ true → Left AreSights (H.told host.old) (H.told host.new) }
+    ensures dry { (request : Request) → AskFor here.now words.now request → request.settings.debug ≡ true → Left AreSights (H.told host.old) (H.told host.new) }
 
     // For want of memory nothing was changed and no program was started; or a run broke off amid its acts, where a program
     // found none, which only comes where one of the rules has a script or mails.
@@ -97,15 +97,15 @@ pub fn logrotate<H: Host, K: Sink>(
     // tells: exactly where none of the faults is one that ends a run before anything is rotated. Where one is a failed look or
     // read of the zone's file or of a path of the state, as a configuration or a log there may have too, the entries tell which
     // it was. A call that didn't come to its plan says why by its last fault.
-    ensures reached { (request : Request) (report : Report) → AskFor here.now words.now request → request.debug ≡ false → without_out result ≡ Outcome.Done report → Left (TellsOfPlan request zone.now now report) (H.told host.old) (H.told host.new) }
+    ensures reached { (request : Request) (report : Report) → AskFor here.now words.now request → request.settings.debug ≡ false → without_out result ≡ Outcome.Done report → Left (TellsOfPlan request zone.now now report) (H.told host.old) (H.told host.new) }
 
     // Of a dry run the report tells it too, where no fault may be one of the zone or the state and of a log as well.
-    ensures tried { (request : Request) (report : Report) → AskFor here.now words.now request → request.debug ≡ true → without_out result ≡ Outcome.Done report → Left (TellsOfTry request zone.now now report) (H.told host.old) (H.told host.new) }
+    ensures tried { (request : Request) (report : Report) → AskFor here.now words.now request → request.settings.debug ≡ true → without_out result ≡ Outcome.Done report → Left (TellsOfTry request zone.now now report) (H.told host.old) (H.told host.new) }
 
     // Where none ends a run, and none tells of a call that failed, of a program that ended badly, of a copy that broke off, or
     // of what stood where the plan was to make a directory, the family of each log of the plan was turned, by its rename or by a
     // copy, file by file, whatever else is told: of other logs that aren't there, say.
-    ensures rotated { (request : Request) (report : Report) (before after : Journal) → AskFor here.now words.now request → request.debug ≡ false → without_out result ≡ Outcome.Done report → StopNothing request.state report.faults
+    ensures rotated { (request : Request) (report : Report) (before after : Journal) → AskFor here.now words.now request → request.settings.debug ≡ false → without_out result ≡ Outcome.Done report → StopNothing request.settings.state report.faults
         → H.told host.old ≡ Some before → H.told host.new ≡ Some after → IsJournal (past before) → MakesDirs request zone.now now report before after → RotatesAll request zone.now now report before after }
 
     // `Out` comes only where a put failed.

@@ -1,9 +1,10 @@
 -- What the words of the command line ask for.
-use Rattle.std.specs.Prelude.{ℕ, Bool, true, ◌&&◌, List, map, length, nat_le, Option, Some, None, is_none, codes, if◌then◌else◌}
+use Rattle.std.specs.Prelude.{◌≡◌, refl, ℕ, Bool, true, ◌&&◌, List, map, Option, Some, None, is_none, codes, if◌then◌else◌}
 use Rattle.std.specs.List.{list_all}
 use Rattle.clap.specs.Words.{Row}
 use Rattle.lr_rules.specs.declared.path.Path.{Path}
-use Rattle.lr_rules.specs.Path.{cleaned, last_of, word_fault}
+use Rattle.lr_rules.specs.declared.settings.Settings.{Settings}
+use Rattle.lr_rules.specs.Path.{cleaned, word_fault}
 use Rattle.lr_rules.specs.StatePath.{can_be_state}
 use Rattle.lr_command.specs.declared.request.Request.{Request}
 use Rattle.lr_command.specs.Command.{are_taken, found_in, has_flag, value_of, words_of}
@@ -47,20 +48,33 @@ has_mailer here found = may_be_path here (value_of (codes "mail") found)
 abbrev pub has_confs : Path → List Row → Bool
 has_confs here found = list_all (is_path here) (words_of (codes "conf") found)
 
--- the request of what was found
-abbrev pub request_in : Path → List Row → Request
-request_in here found = record {
-  state = state_in here found;
-  mailer = mailer_in here found;
+-- each word that was found where a path is asked for names one
+abbrev pub are_paths : Path → List Row → Bool
+are_paths here found = may_be_path here (value_of (codes "state") found) && (has_mailer here found && has_confs here found)
+
+-- the settings with these paths and with the flags that were found
+abbrev pub settings_with : (state mailer : Path) → List Row → can_be_state state ≡ true → Settings
+settings_with state mailer found fits = record {
+  state = state;
+  mailer = mailer;
   force = has_flag (codes "force") found;
   debug = has_flag (codes "debug") found;
   verbose = has_flag (codes "verbose") found;
-  confs = confs_in here found;
+  state_fits = fits;
 }
+
+-- the request of what was found, where the state file can have its path
+abbrev pub request_in : (here : Path) (found : List Row) → can_be_state (state_in here found) ≡ true → Request
+request_in here found fits = record { settings = settings_with (state_in here found) (mailer_in here found) found fits; confs = confs_in here found }
+
+-- the same by whether it can, and whether each path is one
+abbrev pub request_if : (here : Path) (found : List Row) (fits paths : Bool) → can_be_state (state_in here found) ≡ fits → Option Request
+request_if here found true true is = Some (request_in here found is)
+request_if here found _ _ is = None
 
 -- it, where each path is one and the state file can have its own
 abbrev pub request_where : Path → List Row → Option Request
-request_where here found = if has_state here found && (has_mailer here found && has_confs here found) then Some (request_in here found) else None
+request_where here found = request_if here found (can_be_state (state_in here found)) (are_paths here found) refl
 
 -- The request that the words ask for, from the directory `here` on: `clap` takes them, each path that they name is one, and the state file can have its own. Else they ask for none.
 unfoldable pub asked : Path → List (List ℕ) → Option Request

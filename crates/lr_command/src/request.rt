@@ -1,29 +1,20 @@
 // The request of the command line.
-ghost use Rattle.std.specs.Prelude.{◌≡◌, ◌&&◌, IfOk, Some, None, true, false, codes};
+ghost use Rattle.std.specs.Prelude.{◌≡◌, ◌&&◌, IfOk, Some, None, true, false};
 ghost use Rattle.clap.specs.Words.{found_of, rows_of};
 ghost use Rattle.lr_command.specs.Command.{has_flag};
-ghost use Rattle.lr_command.specs.Words.{asked, confs_in, has_confs, has_mailer, has_state, mailer_in, request_in, request_where, state_in};
+ghost use Rattle.lr_command.specs.Words.{asked, confs_in, has_confs, has_mailer, has_state, mailer_in, request_in, request_where, settings_with, state_in};
 ghost use Rattle.lr_rules.specs.StatePath.{can_be_state};
 
 use crate::found::{find, has_flag, texts_of, value_of};
 use crate::paths::{path_or, paths_of};
 use clap::ArgMatches;
-use lr_rules::{Listed, Path, Text};
+use lr_rules::{Listed, Path, Settings, Text};
 use std::alloc::Global;
 
 /// What the words ask for.
 #[derive(Drop)]
 pub struct Request {
-    /// The state file; of at most 4,000 bytes, with a last part.
-    pub state: Path,
-    /// The program that mails files.
-    pub mailer: Path,
-    /// Whether each log is rotated that isn't empty or young where its rule spares such.
-    pub force: bool,
-    /// Whether the run only tells what it would do.
-    pub debug: bool,
-    /// Whether the run tells what it decided of each log.
-    pub verbose: bool,
+    pub settings: Settings,
     /// The configurations, in order of reading.
     pub confs: Listed<Path>,
 }
@@ -47,6 +38,7 @@ fn can_be_state(path: &Path) -> bool
 fn state_of(alloc: Global, here: &Path, found: &ArgMatches<'_>) -> Result<Path, WordsFault>
     ensures state { IfOk result (λ path. path ≡ state_in here.now (rows_of (found_of found.now))) }
     ensures has_state { IfOk result (λ path. has_state here.now (rows_of (found_of found.now)) ≡ true) }
+    ensures fits { IfOk result (λ path. can_be_state path ≡ true) }
     ensures refused { result ≡ Err WordsFault.Refused → has_state here.now (rows_of (found_of found.now)) ≡ false }
 {
     let path = path_or(
@@ -80,24 +72,17 @@ fn confs_of(alloc: Global, here: &Path, found: &ArgMatches<'_>) -> Result<Listed
     paths_of(alloc, here, found.get_strs("conf").unwrap_or(&[]))
 }
 
-// The request of these paths, and of the flags that were found.
-fn with_flags(found: &ArgMatches<'_>, state: Path, mailer: Path, confs: Listed<Path>) -> Request
-    ensures { result ≡ record {
-      state = state;
-      mailer = mailer;
-      force = has_flag (codes "force") (rows_of (found_of found.now));
-      debug = has_flag (codes "debug") (rows_of (found_of found.now));
-      verbose = has_flag (codes "verbose") (rows_of (found_of found.now));
-      confs = confs;
-    } }
+// The settings with these paths, and with the flags that were found.
+fn settings_of(found: &ArgMatches<'_>, state: Path, mailer: Path) -> Settings
+    requires { can_be_state state ≡ true }
+    ensures { (fits : can_be_state state ≡ true) × (result ≡ settings_with state mailer (rows_of (found_of found.now)) fits) }
 {
-    Request {
+    Settings {
         state,
         mailer,
         force: has_flag(found, "force"),
         debug: has_flag(found, "debug"),
         verbose: has_flag(found, "verbose"),
-        confs,
     }
 }
 
@@ -108,17 +93,22 @@ fn request_with(
     found: &ArgMatches<'_>,
     state: Path,
 ) -> Result<Request, WordsFault>
-    requires { state ≡ state_in here.now (rows_of (found_of found.now)) }
-    ensures request { IfOk result (λ request. request ≡ request_in here.now (rows_of (found_of found.now))) }
+    requires state { state ≡ state_in here.now (rows_of (found_of found.now)) }
+    requires fits { can_be_state state ≡ true }
+    ensures request { IfOk result (λ request. (fits : can_be_state (state_in here.now (rows_of (found_of found.now))) ≡ true) × (request ≡ request_in here.now (rows_of (found_of found.now)) fits)) }
     ensures has_mailer { IfOk result (λ request. has_mailer here.now (rows_of (found_of found.now)) ≡ true) }
     ensures has_confs { IfOk result (λ request. has_confs here.now (rows_of (found_of found.now)) ≡ true) }
     ensures refused { result ≡ Err WordsFault.Refused → (has_mailer here.now (rows_of (found_of found.now)) && has_confs here.now (rows_of (found_of found.now))) ≡ false }
 {
     let mailer = mailer_of(alloc, here, found)?;
     let confs = confs_of(alloc, here, found)?;
-    Ok(with_flags(found, state, mailer, confs))
+    Ok(Request {
+        settings: settings_of(found, state, mailer),
+        confs,
+    })
 }
 
+#[tactic(auto, using(crate::proofs::Asked::asks, crate::proofs::Asked::asks_none, crate::proofs::Asked::asks_no_path))]
 // The request of what was found.
 fn request_of_found(
     alloc: Global,
@@ -126,7 +116,6 @@ fn request_of_found(
     found: &ArgMatches<'_>,
 ) -> Result<Request, WordsFault>
     ensures request { IfOk result (λ request. request_where here.now (rows_of (found_of found.now)) ≡ Some request) }
-    ensures fits { IfOk result (λ request. can_be_state request.state ≡ true) }
     ensures refused { result ≡ Err WordsFault.Refused → request_where here.now (rows_of (found_of found.now)) ≡ None }
 {
     let state = state_of(alloc, here, found)?;
@@ -138,9 +127,6 @@ fn request_of_found(
 pub fn request_of(alloc: Global, words: &[Text], here: &Path) -> Result<Request, WordsFault>
     ensures request { IfOk result (λ request. asked here.now words.now ≡ Some request) }
     ensures refused { result ≡ Err WordsFault.Refused → asked here.now words.now ≡ None }
-
-    // The path of a state file has at most 4,000 bytes and a last part.
-    ensures fits { IfOk result (λ request. can_be_state request.state ≡ true) }
 {
     let texts = texts_of(alloc, words)?;
     let found = find(alloc, texts.as_slice())?;

@@ -70,7 +70,7 @@ rules_same a b e = go a.sets b.sets a.limits b.limits e
 read_none : (request : Request) (clock : Clock) (plan : Option Plan) (notices : List Notice) (faults : List Fault) (ts : List Entry) (p : Reports request clock plan notices faults ts) → calls_in faults ≡ 0 → calls_in p.meaning.faults ≡ 0
 read_none request clock plan notices faults ts p c = none_before faults p.meaning.faults p.own p.faults_are c
 
-module _ (request : Request) (dry : request.debug ≡ false) (clock : Clock) (plan another : Option Plan) (notices others : List Notice) (faults more : List Fault) (ts us : List Entry) (same : ts ≡ us) (p : Reports request clock plan notices faults ts) (q : Reports request clock another others more us) (c : calls_in faults ≡ 0) (d : calls_in more ≡ 0) where
+module _ (request : Request) (dry : request.settings.debug ≡ false) (clock : Clock) (plan another : Option Plan) (notices others : List Notice) (faults more : List Fault) (ts us : List Entry) (same : ts ≡ us) (p : Reports request clock plan notices faults ts) (q : Reports request clock another others more us) (c : calls_in faults ≡ 0) (d : calls_in more ≡ 0) where
   both_read : (p.meaning ≡ q.meaning) × (p.entries.front ≡ q.entries.front) × (p.entries.back ≡ q.entries.back)
   both_read = readings_one request.confs p.meaning q.meaning p.entries.front q.entries.front p.entries.back q.entries.back p.entries.first q.entries.first
       (read_none request clock plan notices faults ts p c) (read_none request clock another others more us q d)
@@ -86,15 +86,15 @@ module _ (request : Request) (dry : request.debug ≡ false) (clock : Clock) (pl
   rules_is = rules_same p.rules q.rules (p.rules_are ∙ (ap (λ (m : Meaning). m.rules) meaning_is ∙ sym q.rules_are))
 
   -- the one run, and the other, over the rules and the entries of the one
-  one_run : Runs request.state (asking request.force request.mailer) clock p.rules plan p.own p.entries.back
-  one_run = subst (λ (b : Bool). Leaves b request.state (asking request.force request.mailer) clock p.rules plan p.own p.entries.back) dry p.entries.second
+  one_run : Runs request.settings.state (asking request.settings.force request.settings.mailer) clock p.rules plan p.own p.entries.back
+  one_run = subst (λ (b : Bool). Leaves b request.settings.state (asking request.settings.force request.settings.mailer) clock p.rules plan p.own p.entries.back) dry p.entries.second
 
-  as_run : Runs request.state (asking request.force request.mailer) clock p.rules another q.own p.entries.back
-  as_run = subst (λ (r : Rules). Runs request.state (asking request.force request.mailer) clock r another q.own p.entries.back) (sym rules_is) (subst (λ vs. Runs request.state (asking request.force request.mailer) clock q.rules another q.own vs) (sym back_is)
-      (subst (λ (b : Bool). Leaves b request.state (asking request.force request.mailer) clock q.rules another q.own q.entries.back) dry q.entries.second))
+  as_run : Runs request.settings.state (asking request.settings.force request.settings.mailer) clock p.rules another q.own p.entries.back
+  as_run = subst (λ (r : Rules). Runs request.settings.state (asking request.settings.force request.settings.mailer) clock r another q.own p.entries.back) (sym rules_is) (subst (λ vs. Runs request.settings.state (asking request.settings.force request.settings.mailer) clock q.rules another q.own vs) (sym back_is)
+      (subst (λ (b : Bool). Leaves b request.settings.state (asking request.settings.force request.settings.mailer) clock q.rules another q.own q.entries.back) dry q.entries.second))
 
   own_is : p.own ≡ q.own
-  own_is = runs_one request.state (asking request.force request.mailer) clock p.rules plan another p.own q.own p.entries.back one_run as_run
+  own_is = runs_one request.settings.state (asking request.settings.force request.settings.mailer) clock p.rules plan another p.own q.own p.entries.back one_run as_run
       (none_behind faults p.meaning.faults p.own p.faults_are c) (none_behind more q.meaning.faults q.own q.faults_are d)
 
   told_one : (notices ≡ others) × (faults ≡ more)
@@ -105,9 +105,9 @@ module _ (request : Request) (dry : request.debug ≡ false) (clock : Clock) (pl
 
 -- ---- a report has entries
 
-reports_some : (request : Request) → request.debug ≡ false → (clock : Clock) (plan : Option Plan) (notices : List Notice) (faults : List Fault) (ts : List Entry) → Reports request clock plan notices faults ts → calls_in faults ≡ 0 → ts ≡ [] → ⊥
+reports_some : (request : Request) → request.settings.debug ≡ false → (clock : Clock) (plan : Option Plan) (notices : List Notice) (faults : List Fault) (ts : List Entry) → Reports request clock plan notices faults ts → calls_in faults ≡ 0 → ts ≡ [] → ⊥
 reports_some request dry clock plan notices faults ts p c none =
-    let l = run_look request.state (asking request.force request.mailer) clock p.rules plan p.own p.entries.back (subst (λ (b : Bool). Leaves b request.state (asking request.force request.mailer) clock p.rules plan p.own p.entries.back) dry p.entries.second) (none_behind faults p.meaning.faults p.own p.faults_are c) in
+    let l = run_look request.settings.state (asking request.settings.force request.settings.mailer) clock p.rules plan p.own p.entries.back (subst (λ (b : Bool). Leaves b request.settings.state (asking request.settings.force request.settings.mailer) clock p.rules plan p.own p.entries.back) dry p.entries.second) (none_behind faults p.meaning.faults p.own p.faults_are c) in
     let n : length ts ≡ 0 = ap (λ (l : List Entry). length l) none in
     let j : length ts ≡ length (p.entries.front ++ p.entries.back) = ap (λ (l : List Entry). length l) p.entries.joined in
     let m : length (p.entries.front ++ p.entries.back) ≡ length p.entries.front + length p.entries.back = length-append p.entries.front p.entries.back in
@@ -179,7 +179,7 @@ text_or_not zone f text ts us vs ws (look_failed path z e none) n h same = no_ca
 text_or_not zone f text ts us vs ws (read_failed path z e t) n h same = no_call f _ e refl n
 
 -- where there is no clock, no report comes behind
-clocked_or_not : (request : Request) → request.debug ≡ false → (zone : Zone) (seconds : ℤ) (clock : Clock) (plan : Option Plan) (notices : List Notice) (faults : List Fault) (f : Fault) (ts : List Entry) → Then (ShowsClock zone seconds clock) (Reports request clock plan notices faults) ts → calls_in faults ≡ 0
+clocked_or_not : (request : Request) → request.settings.debug ≡ false → (zone : Zone) (seconds : ℤ) (clock : Clock) (plan : Option Plan) (notices : List Notice) (faults : List Fault) (f : Fault) (ts : List Entry) → Then (ShowsClock zone seconds clock) (Reports request clock plan notices faults) ts → calls_in faults ≡ 0
     → LacksClock zone seconds f ts → call_in f ≡ 0 → ⊥
 clocked_or_not request dry zone seconds clock plan notices faults f ts t c (out_of_range out e none) n = out t.first.in_range
 clocked_or_not request dry zone seconds clock plan notices faults f ts t c (no_text range l) n = text_or_not zone f t.first.text ts t.front [] t.back l n t.first.shows (append-nil ts ∙ t.joined)
@@ -224,7 +224,7 @@ alone_faults a f e = ap (λ (r : Report). r.faults) (report_same a (alone f) e)
 both_same : (a b : Report) → a ≡ b → (a.notices ≡ b.notices) × (a.faults ≡ b.faults)
 both_same a b e = (ap (λ (r : Report). r.notices) e, ap (λ (r : Report). r.faults) e)
 
-both_clocked : (request : Request) → request.debug ≡ false → (zone : Zone) (seconds : ℤ) (clock other : Clock) (plan another : Option Plan) (one two : Report) (ts : List Entry) → Then (ShowsClock zone seconds clock) (Reports request clock plan one.notices one.faults) ts
+both_clocked : (request : Request) → request.settings.debug ≡ false → (zone : Zone) (seconds : ℤ) (clock other : Clock) (plan another : Option Plan) (one two : Report) (ts : List Entry) → Then (ShowsClock zone seconds clock) (Reports request clock plan one.notices one.faults) ts
     → Then (ShowsClock zone seconds other) (Reports request other another two.notices two.faults) ts → calls_in one.faults ≡ 0 → calls_in two.faults ≡ 0 → (one.notices ≡ two.notices) × (one.faults ≡ two.faults)
 both_clocked request dry zone seconds clock other plan another one two ts t u c d =
     told_one request dry clock plan another one.notices two.notices one.faults two.faults t.back u.back same.rest_is t.second (subst (λ (k : Clock). Reports request k another two.notices two.faults u.back) (sym clock_is) u.second) c d
@@ -236,7 +236,7 @@ both_clocked request dry zone seconds clock other plan another one two ts t u c 
     clock_is : clock ≡ other
     clock_is = one_clock t.first.text seconds clock other t.first.clock_is (subst (λ (x : ZoneText). IsClockIn x seconds other) (sym same.text_is) u.first.clock_is)
 
-at_one : (request : Request) → request.debug ≡ false → (zone : Zone) (seconds : ℤ) (plan another : Option Plan) (one other : Report) (ts : List Entry) → AnswersAt request zone seconds plan (Done one) ts → AnswersAt request zone seconds another (Done other) ts → calls_in one.faults ≡ 0 → calls_in other.faults ≡ 0
+at_one : (request : Request) → request.settings.debug ≡ false → (zone : Zone) (seconds : ℤ) (plan another : Option Plan) (one other : Report) (ts : List Entry) → AnswersAt request zone seconds plan (Done one) ts → AnswersAt request zone seconds another (Done other) ts → calls_in one.faults ≡ 0 → calls_in other.faults ≡ 0
     → (one.notices ≡ other.notices) × (one.faults ≡ other.faults)
 at_one request dry zone seconds plan another one other ts (no_memory lost e none) b c d = absurd (cc)
 at_one request dry zone seconds plan another one other ts (no_clock f lost e l) (no_memory gone h none) c d = absurd (cc)
@@ -250,7 +250,7 @@ at_one request dry zone seconds plan another one other ts (called clock t) (call
 
 -- ---- the words
 
-pub answers_one : (here : Path) (words : List (List ℕ)) (request : Request) (zone : Zone) (seconds : ℤ) (plan another : Option Plan) (one other : Report) (ts : List Entry) → AskFor here words request → request.debug ≡ false → Answered here words zone seconds plan (Done one) ts → Answered here words zone seconds another (Done other) ts → calls_in one.faults ≡ 0 → calls_in other.faults ≡ 0
+pub answers_one : (here : Path) (words : List (List ℕ)) (request : Request) (zone : Zone) (seconds : ℤ) (plan another : Option Plan) (one other : Report) (ts : List Entry) → AskFor here words request → request.settings.debug ≡ false → Answered here words zone seconds plan (Done one) ts → Answered here words zone seconds another (Done other) ts → calls_in one.faults ≡ 0 → calls_in other.faults ≡ 0
     → (one.notices ≡ other.notices) × (one.faults ≡ other.faults)
 answers_one here words request zone seconds plan another one other ts asks dry (not_read lost (inl e) none) b c d = absurd (cc)
 answers_one here words request zone seconds plan another one other ts asks dry (not_read lost (inr e) none) b c d = absurd (cc)

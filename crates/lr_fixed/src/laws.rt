@@ -54,7 +54,7 @@ pub fn faults_are_fixed()
 /// Entries fix the report of a call that isn't a dry run: where the same entries are shown as those of two reports, and no
 /// failed call is told by either, the reports are the same.
 pub fn reports_are_fixed()
-    ensures { (here : Path) (words : List (List ℕ)) (request : Request) (zone : Zone) (seconds : ℤ) (plan another : Option Plan) (one other : Report) (ts : List Entry) → AskFor here words request → request.debug ≡ false
+    ensures { (here : Path) (words : List (List ℕ)) (request : Request) (zone : Zone) (seconds : ℤ) (plan another : Option Plan) (one other : Report) (ts : List Entry) → AskFor here words request → request.settings.debug ≡ false
         → Answered here words zone seconds plan (Done one) ts → Answered here words zone seconds another (Done other) ts
         → calls_in one.faults ≡ 0 → calls_in other.faults ≡ 0 → (one.notices ≡ other.notices) × (one.faults ≡ other.faults) }
 {}

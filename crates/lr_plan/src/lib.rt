@@ -9,12 +9,10 @@
 mod looks;
 mod mark;
 mod plan;
-mod settings;
 mod step;
 
 pub use looks::{LogLook, Looks, SetLooks};
 pub use lr_copy::Job;
 pub use mark::Mark;
 pub use plan::{LogPlan, Plan, SetPlan};
-pub use settings::Settings;
 pub use step::{SetSteps, Step};

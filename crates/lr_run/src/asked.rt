@@ -21,8 +21,7 @@ use crate::answer::{Ran, RunStop};
 use crate::dry::dry_run;
 use crate::whole::real_run;
 use lr_host::Host;
-use lr_plan::Settings;
-use lr_rules::{Clock, Fault, Rules};
+use lr_rules::{Clock, Fault, Rules, Settings};
 use std::alloc::Global;
 
 /// Makes one run: looks at the state's directory, takes the lock, reads the state, looks at the logs that the rules ask

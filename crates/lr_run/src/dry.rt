@@ -22,10 +22,10 @@ use crate::looking::look_at_logs;
 use crate::ready::{add_all, bring_up_to};
 use crate::work::add_too_big;
 use lr_host::Host;
-use lr_plan::{Looks, Plan, Settings};
+use lr_plan::{Looks, Plan};
 use lr_planning::plan;
 use lr_reading::part_path;
-use lr_rules::{Civil, Clock, Fault, Memory, Path, Rules};
+use lr_rules::{Civil, Clock, Fault, Memory, Path, Rules, Settings};
 use lr_state::State;
 use std::alloc::Global;
 

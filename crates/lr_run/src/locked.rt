@@ -18,8 +18,8 @@ use crate::answer::RunStop;
 use crate::work::work;
 use lr_acts::Progress;
 use lr_host::Host;
-use lr_plan::{Plan, Settings};
-use lr_rules::{CallKind, Clock, Fault, Memory, Path, Rules};
+use lr_plan::Plan;
+use lr_rules::{CallKind, Clock, Fault, Memory, Path, Rules, Settings};
 use std::alloc::Global;
 
 // The work, and the end of the run.

@@ -23,8 +23,8 @@ use crate::directory::{DirStop, dir_fault, look_for_dir};
 use crate::locked::begin_to_end;
 use lr_acts::Progress;
 use lr_host::Host;
-use lr_plan::{Plan, Settings};
-use lr_rules::{Clock, Fault, Memory, Path, Rules};
+use lr_plan::Plan;
+use lr_rules::{Clock, Fault, Memory, Path, Rules, Settings};
 use std::alloc::Global;
 
 // The paths that faults of the beginning tell: the state's directory, and the state.

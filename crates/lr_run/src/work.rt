@@ -21,10 +21,10 @@ use crate::looking::look_at_logs;
 use crate::ready::make_ready;
 use lr_acts::Progress;
 use lr_host::Host;
-use lr_plan::{Looks, Plan, Settings};
+use lr_plan::{Looks, Plan};
 use lr_planning::plan;
 use lr_reading::{Remembered, part_path};
-use lr_rules::{Clock, Fault, Memory, Path, Rules, StateKind};
+use lr_rules::{Clock, Fault, Memory, Path, Rules, Settings, StateKind};
 use std::alloc::Global;
 
 /// Adds the fault of a text that could become too big to be written.

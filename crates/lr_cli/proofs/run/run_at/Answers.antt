@@ -14,20 +14,20 @@ returns-in_default-clause-told g c = at_none c.args.request.now c.args.zone.now 
 pub returns-in_default-clause-shape : goal.returns-in_default-clause-shape
 returns-in_default-clause-shape g c = only_looked (left_first AreQuiet _ tt)
 
-pub run_by-requires-clause-disk : goal.run_by-requires-clause-disk
-run_by-requires-clause-disk g c = disk_on c.in-Ok-clock_in.ensures.told c.requires.disk
+pub run_confs-requires : goal.run_confs-requires
+run_confs-requires g c = record { disk = disk_on c.in-Ok-clock_in.ensures.told c.requires.disk }
 
 pub returns-in-Ok-clock_in-clause-told : goal.returns-in-Ok-clock_in-clause-told
-returns-in-Ok-clock_in-clause-told g c = at_clock c.args.request.now c.args.zone.now _ c.args.seconds c.in-Ok-clock_in.clock (plan_told c.run_by.result) (answer_of c.run_by.result) (own_seconds c.args.seconds c.ranges.seconds.sfits) c.in-Ok-clock_in.ensures.told c.run_by.ensures.told
+returns-in-Ok-clock_in-clause-told g c = at_clock c.args.request.now c.args.zone.now _ c.args.seconds c.in-Ok-clock_in.clock (plan_told c.run_confs.result) (answer_of c.run_confs.result) (own_seconds c.args.seconds c.ranges.seconds.sfits) c.in-Ok-clock_in.ensures.told c.run_confs.ensures.told
 
 pub returns-in-Ok-clock_in-clause-clock : goal.returns-in-Ok-clock_in-clause-clock
-returns-in-Ok-clock_in-clause-clock g c = clock_clocked c.args.zone.now _ c.args.seconds c.in-Ok-clock_in.clock c.run_by.result _ _ (own_seconds c.args.seconds c.ranges.seconds.sfits) c.in-Ok-clock_in.ensures.clock c.run_by.ensures.counted
+returns-in-Ok-clock_in-clause-clock g c = clock_clocked c.args.zone.now _ c.args.seconds c.in-Ok-clock_in.clock c.run_confs.result _ _ (own_seconds c.args.seconds c.ranges.seconds.sfits) c.in-Ok-clock_in.ensures.clock c.run_confs.ensures.counted
 
 pub returns-in-Ok-clock_in-clause-counted : goal.returns-in-Ok-clock_in-clause-counted
-returns-in-Ok-clock_in-clause-counted g c = clock_reported c.run_by.result _ _ _ c.in-Ok-clock_in.ensures.counts.0 c.run_by.ensures.counted
+returns-in-Ok-clock_in-clause-counted g c = clock_reported c.run_confs.result _ _ _ c.in-Ok-clock_in.ensures.counts.0 c.run_confs.ensures.counted
 
 pub returns-in-Ok-clock_in-clause-shape : goal.returns-in-Ok-clock_in-clause-shape
-returns-in-Ok-clock_in-clause-shape g c = clock_shape c.args.zone.now _ c.args.seconds c.in-Ok-clock_in.clock (own_seconds c.args.seconds c.ranges.seconds.sfits) c.in-Ok-clock_in.ensures.told c.run_by.ensures.shape
+returns-in-Ok-clock_in-clause-shape g c = clock_shape c.args.zone.now _ c.args.seconds c.in-Ok-clock_in.clock (own_seconds c.args.seconds c.ranges.seconds.sfits) c.in-Ok-clock_in.ensures.told c.run_confs.ensures.shape
 
 pub returns-in-Err-clause-told : goal.returns-in-Err-clause-told
 returns-in-Err-clause-told g c = at_stop c.args.request.now c.args.zone.now _ c.args.seconds c.in-Err.stop (plan_told c.without_clock.result) (answer_of c.without_clock.result) (own_seconds c.args.seconds c.ranges.seconds.sfits) c.without_clock.ensures.plan c.without_clock.ensures.answer c.in-Err.ensures.stopped
@@ -39,7 +39,7 @@ pub returns-in-Err-clause-shape : goal.returns-in-Err-clause-shape
 returns-in-Err-clause-shape g c = stop_shape c.args.zone.now _ c.args.seconds c.in-Err.stop c.in-Err.ensures.stopped
 
 pub returns-in-Ok-clock_in-clause-taken : goal.returns-in-Ok-clock_in-clause-taken
-returns-in-Ok-clock_in-clause-taken g c = clock_taken c.args.request.now c.run_by.result _ c.in-Ok-clock_in.ensures.told c.run_by.ensures.taken
+returns-in-Ok-clock_in-clause-taken g c = clock_taken c.args.request.now c.run_confs.result _ c.in-Ok-clock_in.ensures.told c.run_confs.ensures.taken
 
 pub returns-in-Err-clause-taken : goal.returns-in-Err-clause-taken
 returns-in-Err-clause-taken g c = none_told c.args.request.now c.without_clock.result _ _ c.without_clock.ensures.plan

@@ -72,7 +72,7 @@ pub returns-clause-told : goal.returns-clause-told
 returns-clause-told g c = says_so c.args.here.now c.args.words.now c.args.zone.now c.args.now c.in-Ok.request (plan_told c.run_at-run.result) _ _ _ _ _ _ _ c.in-Ok.ensures.request
     (answered c.args.here.now c.args.words.now c.args.zone.now _ c.args.now c.in-Ok.request (plan_told c.run_at-run.result) _ (answer_of c.run_at-run.result) _ _ (own_seconds c.args.now c.ranges.now.sfits) c.finish.ensures.answer c.in-Ok.ensures.request c.run_at-run.ensures.told)
     c.finish.ensures.prints
-    (λ request report asks acts done. has_taken request.state c.run_at-run.result _ report _ _ c.finish.ensures.answer done (taken_of c.args.here.now c.args.words.now c.in-Ok.request request c.run_at-run.result _ _ c.in-Ok.ensures.request asks c.run_at-run.ensures.taken acts))
+    (λ request report asks acts done. has_taken request.settings.state c.run_at-run.result _ report _ _ c.finish.ensures.answer done (taken_of c.args.here.now c.args.words.now c.in-Ok.request request c.run_at-run.result _ _ c.in-Ok.ensures.request asks c.run_at-run.ensures.taken acts))
 
 pub returns-clause-counted : goal.returns-clause-counted
 returns-clause-counted g c = has_counted c.run_at-run.result _ _ _ c.finish.ensures.answer c.run_at-run.ensures.counted
@@ -113,6 +113,6 @@ returns-clause-smooth g c = λ request report before after asks dry done none_en
     answered_smooth c.args.here.now c.args.words.now request c.args.zone.now c.args.now (plan_told c.run_at-run.result) _ report _ _ before after _ _ asks dry
     (answered c.args.here.now c.args.words.now c.args.zone.now _ c.args.now c.in-Ok.request (plan_told c.run_at-run.result) _ (answer_of c.run_at-run.result) _ _ (own_seconds c.args.now c.ranges.now.sfits) c.finish.ensures.answer c.in-Ok.ensures.request c.run_at-run.ensures.told)
     done none_ends (returns-clause-counted g c) none_rose
-    (has_taken request.state c.run_at-run.result _ report _ _ c.finish.ensures.answer done (taken_of c.args.here.now c.args.words.now c.in-Ok.request request c.run_at-run.result _ _ c.in-Ok.ensures.request asks c.run_at-run.ensures.taken dry))
+    (has_taken request.settings.state c.run_at-run.result _ report _ _ c.finish.ensures.answer done (taken_of c.args.here.now c.args.words.now c.in-Ok.request request c.run_at-run.result _ _ c.in-Ok.ensures.request asks c.run_at-run.ensures.taken dry))
     (has_anew c.run_at-run.result _ report _ c.finish.ensures.answer done (anew_of c.args.here.now c.args.words.now c.in-Ok.request request c.run_at-run.result _ c.in-Ok.ensures.request asks c.run_at-run.ensures.anew dry))
     told_before told_after journal smooth

@@ -2,7 +2,7 @@
 ghost use Rattle.std.specs.Prelude.{◌≡◌, true};
 ghost use Rattle.lr_rules.specs.StatePath.{can_be_state};
 
-use lr_rules::Path;
+use crate::Path;
 
 /// What a call asks for besides its configuration. The path of the state file has at most 4,000 bytes and a last part.
 #[derive(Drop)]
