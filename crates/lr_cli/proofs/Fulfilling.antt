@@ -22,6 +22,8 @@ use Rattle.lr_run.specs.Met.{IsNoOther, MetNothing}
 use Rattle.lr_run.specs.Runs.{dirs_in}
 use Rattle.lr_run.specs.Dry.{IsSight, AreSights}
 use Rattle.lr_fulfilled.specs.Fulfilled.{NothingFailed, IsFulfilled}
+use Rattle.lr_run.proofs.Called.{nothing_stops}
+use Rattle.lr_fulfilled.proofs.Failing.{worked_met_nothing}
 use Rattle.lr_fulfilled.proofs.Fulfilled.{fulfilled}
 use Rattle.lr_command.specs.declared.request.Request.{Request}
 use Rattle.lr_cli.specs.declared.outcome.Outcome.{Outcome}
@@ -59,7 +61,9 @@ plan_fulfils request zone seconds report j k es made journal p none met anew = r
   where
     f : IsFulfilled request.settings.state p.rules.sets p.clock (asking request.settings.force request.settings.mailer) p.run.between p.run.within.looked p.own (reverse es) (past j) (past k)
     f = fulfilled request.settings.state (asking request.settings.force request.settings.mailer) p.clock p.rules p.own (past j) (past k) es (p.of_clock ++ p.reads) p.acts made journal
-        (plan_joined request zone seconds report (reverse es) p) (plan_sights request zone seconds report (reverse es) p) p.run none report.faults met anew
+        (plan_joined request zone seconds report (reverse es) p) (plan_sights request zone seconds report (reverse es) p) p.run
+        (worked_met_nothing request.settings.state p.rules.sets p.clock (asking request.settings.force request.settings.mailer) p.own p.run.between p.run.within none)
+        (λ x one. ⊎_elim (λ there. there) (λ s. absurd (nothing_stops p.rules.sets p.run.within.looked.sets p.run.within.looked.remembered.table p.clock (asking request.settings.force request.settings.mailer) report.faults s.0 x met s.1 s.2)) (anew x one))
 
 from_entries : (here : Path) (words : List (List ℕ)) (request : Request) (zone : Zone) (seconds : ℤ) (plan : Option Plan) (report : Report) (j k : Journal) → AskFor here words request → request.settings.debug ≡ false → Left (Answered here words zone seconds plan (Done report)) (Some j) (Some k) → FailNothing request.settings.state report.faults → IsJournal (past j)
     → MakesDirs request zone seconds report j k → NamesAnew plan report.faults (Some k) → FulfillsPlan request zone seconds report j k

@@ -21,6 +21,7 @@ use Rattle.lr_plan.specs.declared.plan.Plan.{Plan}
 use Rattle.lr_run.specs.Copied.{NoneOfCopy}
 use Rattle.lr_run.specs.Met.{IsNoOther, MetNothing}
 use Rattle.lr_run.specs.Runs.{dirs_in}
+use Rattle.lr_run.proofs.Called.{worked_met_none}
 use Rattle.lr_run.proofs.Turning.{run_turned}
 use Rattle.lr_reached.specs.Ending.{NoneEnds}
 use Rattle.lr_reached.proofs.Ends.{last_ends}
@@ -87,7 +88,7 @@ plan_rotates request zone seconds report j k es made none journal p clear = reco
   entries = es;
   made = made;
   plan = p;
-  each = λ x one. run_turned request.settings.state (asking request.settings.force request.settings.mailer) p.clock p.rules p.own (past j) (past k) es (p.of_clock ++ p.reads) p.acts made journal joined quiet p.run met x one;
+  each = λ x one. run_turned request.settings.state (asking request.settings.force request.settings.mailer) p.clock p.rules p.own (past j) (past k) es (p.of_clock ++ p.reads) p.acts made journal joined quiet p.run met_none x one;
 }
   where
     joined : reverse es ≡ (p.of_clock ++ p.reads) ++ p.acts
@@ -98,6 +99,9 @@ plan_rotates request zone seconds report j k es made none journal p clear = reco
 
     met : MetNothing (dirs_in (plan_by request zone seconds report (reverse es) p)) p.own
     met = own_met request.settings.state report.faults p.meaning.faults p.own (dirs_in (plan_by request zone seconds report (reverse es) p)) p.faults_are none clear
+
+    met_none : p.run.within.acted.entries.of_plan ≡ []
+    met_none = worked_met_none request.settings.state p.rules.sets p.clock (asking request.settings.force request.settings.mailer) p.own p.run.between p.run.within met
 
 from_entries : (here : Path) (words : List (List ℕ)) (request : Request) (zone : Zone) (seconds : ℤ) (plan : Option Plan) (report : Report) (j k : Journal) → AskFor here words request → request.settings.debug ≡ false → Left (Answered here words zone seconds plan (Done report)) (Some j) (Some k) → StopNothing request.settings.state report.faults → IsJournal (past j)
     → MakesDirs request zone seconds report j k → RotatesAll request zone seconds report j k

@@ -21,7 +21,8 @@ use Rattle.lr_plan.specs.Done.{ActsDone}
 use Rattle.lr_plan.specs.Outcomes.{Fails}
 use Rattle.lr_plan.specs.Steps.{step_if, state_steps}
 use Rattle.lr_run.specs.Runs.{Worked, plan_in, dirs_in, state_text}
-use Rattle.lr_run.proofs.Called.{none_behind, worked_met_none}
+use Rattle.lr_run.specs.Met.{MetNothing}
+use Rattle.lr_run.proofs.Called.{none_behind, met_before, acts_met, acts_met_none}
 use Rattle.lr_fulfilled.specs.Fulfilled.{NothingFailed}
 
 -- ---- the writing of the state
@@ -90,18 +91,19 @@ course_none part (s ∷ ss) ms fs ts tell (inr g) no_call free = course_none par
 
 -- ---- all acts
 
-pub worked_met_nothing : (state : Path) (rules : List Rule) (clock : Clock) (asked : Asked) (own : List Fault) (ts : List Entry) → (w : Worked state rules clock asked own ts) → NothingFailed state (dirs_in (plan_in state rules ts w.looked clock asked)) own → w.acted.of_acts ≡ []
-worked_met_nothing state rules clock asked own ts w n = a.faults_are ∙ (ap (λ fs. fs ++ a.of_state) (worked_met_none state rules clock asked own ts w n.met) ∙ wrote)
-  where
-    a : ActsDone (plan_in state rules ts w.looked clock asked) state w.looked.remembered.stale (λ made. w.acted.dirs) (state_text state rules ts w.looked clock) w.acted.marks w.acted.of_acts w.looked.acts
-    a = w.acted.entries
+module _ (state : Path) (rules : List Rule) (clock : Clock) (asked : Asked) (own : List Fault) (ts : List Entry) (w : Worked state rules clock asked own ts) where
+  abbrev a : ActsDone (plan_in state rules ts w.looked clock asked) state w.looked.remembered.stale (λ made. w.acted.dirs) (state_text state rules ts w.looked clock) w.acted.marks w.acted.of_acts w.looked.acts
+  a = w.acted.entries
 
-    acts_called : calls_in w.acted.of_acts ≡ 0
-    acts_called = none_behind _ (plan_in state rules ts w.looked clock asked).faults w.acted.of_acts refl (none_behind own w.looked.of_looks _ w.acted.faults_are n.met.no_call)
+  -- the acts met no fault, where their faults tell of nothing that was met, nor that the part file's path was named
+  pub acts_met_nothing : MetNothing (dirs_in (plan_in state rules ts w.looked clock asked)) w.acted.of_acts → (IsIn (fault.Taken (state_part state)) w.acted.of_acts → ⊥) → w.acted.of_acts ≡ []
+  acts_met_nothing met free = a.faults_are ∙ (ap (λ fs. fs ++ a.of_state) (acts_met_none rules w.looked.sets w.looked.remembered.table clock asked w.acted.marks a.of_plan a.entries.front a.entries.first (met_before _ w.acted.of_acts a.of_plan a.of_state a.faults_are met)) ∙ wrote)
+    where
+      wrote : a.of_state ≡ []
+      wrote = course_none (state_part state) _ [] a.of_state a.entries.back (state_tells state w.looked.remembered.stale w.acted.dirs _) a.entries.second (none_behind w.acted.of_acts a.of_plan a.of_state a.faults_are met.no_call)
+          (λ i. free (subst (IsIn (fault.Taken (state_part state))) (sym a.faults_are) (in_back _ a.of_plan a.of_state i)))
 
-    in_own : IsIn (fault.Taken (state_part state)) a.of_state → IsIn (fault.Taken (state_part state)) own
-    in_own i = subst (IsIn (fault.Taken (state_part state))) (sym w.acted.faults_are)
-        (in_back _ w.looked.of_looks _ (in_back _ (plan_in state rules ts w.looked clock asked).faults w.acted.of_acts (subst (IsIn (fault.Taken (state_part state))) (sym a.faults_are) (in_back _ a.of_plan a.of_state i))))
-
-    wrote : a.of_state ≡ []
-    wrote = course_none (state_part state) _ [] a.of_state a.entries.back (state_tells state w.looked.remembered.stale w.acted.dirs _) a.entries.second (none_behind w.acted.of_acts a.of_plan a.of_state a.faults_are acts_called) (λ i. n.not_taken (in_own i))
+  -- so it is where those of the run do
+  pub worked_met_nothing : NothingFailed state (dirs_in (plan_in state rules ts w.looked clock asked)) own → w.acted.of_acts ≡ []
+  worked_met_nothing n = acts_met_nothing (acts_met state rules clock asked own ts w n.met)
+      (λ i. n.not_taken (subst (IsIn (fault.Taken (state_part state))) (sym w.acted.faults_are) (in_back _ w.looked.of_looks _ (in_back _ (plan_in state rules ts w.looked clock asked).faults w.acted.of_acts i))))

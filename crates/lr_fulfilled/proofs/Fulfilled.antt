@@ -1,5 +1,5 @@
 -- A run of which nothing failed fulfils its plan.
-use Rattle.std.proofs.Common.{◌≡◌, ◌≢◌, inl, inr, ⊎_elim, ℕ, false, refl, sym, ◌∙◌, ap, subst, List, [], ◌∷◌, ◌++◌, map, reverse, append_assoc, append-nil}
+use Rattle.std.proofs.Common.{◌≡◌, ◌≢◌, inl, inr, ℕ, false, refl, sym, ◌∙◌, ap, subst, List, [], ◌∷◌, ◌++◌, map, reverse, append_assoc, append-nil}
 use Rattle.std.specs.Prelude.{filter}
 use Rattle.std.proofs.lemmas.List.Elements.{filter-append}
 use Rattle.lr_rules.specs.declared.clock.Clock.{Clock}
@@ -12,24 +12,27 @@ use Rattle.lr_rules.specs.StatePath.{state_part}
 use Rattle.lr_due.specs.declared.answer.Due.{Due}
 use Rattle.lr_host.specs.declared.entry.Entry.{Entry}
 use Rattle.lr_host.specs.declared.entry.Entry.TheVariants as entry
+use Rattle.lr_host.specs.declared.thing.Thing.TheVariants as thing
 use Rattle.lr_host.specs.Lists.{IsIn}
 use Rattle.lr_host.specs.Looks.{IsDir}
 use Rattle.lr_host.specs.Opening.{IsJournal}
 use Rattle.lr_host.specs.Quiet.{is_disk_change, IsQuiet, AreQuiet, AttachedOnlySince}
 use Rattle.lr_host.specs.Steps.{is_change}
 use Rattle.lr_host.specs.Told.{Each, Made}
-use Rattle.lr_host.specs.World.{Past}
+use Rattle.lr_host.specs.World.{Past, world, names}
 use Rattle.lr_host.proofs.Lists.{in_front, in_back}
 use Rattle.lr_host.proofs.Each.{each_append, each_as, none_pass}
 use Rattle.lr_host.proofs.Quiet.{quiet_both, quiet_changes}
 use Rattle.lr_durable.specs.Renewing.{IsAsideOf, MayRenew, left_alone, renewed, HasText}
 use Rattle.lr_durable.proofs.Behind.{renewed_text}
+use Rattle.lr_acts.specs.Making.{all_of_sets}
+use Rattle.lr_acts.specs.Named.{OneCreates}
 use Rattle.lr_plan.specs.Asked.{Asked}
 use Rattle.lr_plan.specs.declared.looks.LogLook.{LogLook}
 use Rattle.lr_plan.specs.Course.{Course}
 use Rattle.lr_plan.specs.Done.{ActsDone, rotated_logs}
 use Rattle.lr_plan.specs.Planned.{decision}
-use Rattle.lr_plan.specs.Steps.{state_steps, steps_of_set}
+use Rattle.lr_plan.specs.Steps.{state_steps, steps_of_plan, steps_of_set}
 use Rattle.lr_laws_targets.specs.AllTurns.{IsOfSome, IsOfState}
 use Rattle.lr_laws_targets.specs.Target.{Target}
 use Rattle.lr_laws_targets.specs.Apart.{HaveNames}
@@ -44,24 +47,20 @@ use Rattle.lr_seen.proofs.Ready.{plans_have_logs}
 use Rattle.lr_seen.proofs.Seen.{targets_have_names}
 use Rattle.lr_writing.specs.Named.{IsNamed}
 use Rattle.lr_writing.proofs.Named.{named_whole}
-use Rattle.lr_run.specs.Anew.{AnewAt}
 use Rattle.lr_run.specs.Dry.{IsSight, AreSights}
-use Rattle.lr_run.specs.Met.{MetNothing}
 use Rattle.lr_run.specs.Runs.{Inside, Looked, Worked, plan_in, logs_in, dirs_in, state_text}
-use Rattle.lr_run.proofs.Called.{nothing_stops}
 use Rattle.lr_run.proofs.Made.{are_made}
 use Rattle.lr_run.proofs.Renewing.{behind_quiet, between_made, worked_may}
 use Rattle.lr_run.proofs.Turning.{run_turned}
 use Rattle.lr_run.proofs.Seeing.{seen_so}
 use Rattle.lr_run.proofs.Shape.{sees_quiet, seen_quiet, looked_parts, in_parts, all_of_state}
 use Rattle.lr_fulfilled.specs.Acts.{is_act, AreActsOf}
-use Rattle.lr_fulfilled.specs.Fulfilled.{NothingFailed, steps_in, IsElsewhere, IsFulfilled}
+use Rattle.lr_fulfilled.specs.Fulfilled.{steps_in, IsElsewhere, IsFulfilled}
 use Rattle.lr_fulfilled.specs.Left.{IsLeftAlone}
 use Rattle.lr_fulfilled.proofs.Elsewhere.{IsOfRun, elsewhere_left, kept_elsewhere, behind_start}
 use Rattle.lr_writing.specs.Directories.{AreDirectoriesOf}
 use Rattle.lr_synced.specs.Synced.{all_changed_of}
 use Rattle.lr_synced.proofs.Laws.{all_synced}
-use Rattle.lr_fulfilled.proofs.Failing.{worked_met_nothing}
 use Rattle.lr_fulfilled.proofs.Planned.{dirs_planned, logs_planned, acts_planned}
 
 -- ---- looks, listings and reads
@@ -90,8 +89,8 @@ behind_sights xs ys a = filter-append is_act xs ys ∙ ap (λ (zs : List Entry).
 
 -- ---- the run
 
-module _ (state : Path) (asked : Asked) (clock : Clock) (rules : Rules) (own : List Fault) (p q : Past) (es reads acts : List Entry) (made : Made p es q) (journal : IsJournal p) (joined : reverse es ≡ reads ++ acts) (sights : AreSights reads) (i : Inside state clock rules (Worked state rules.sets clock asked own) acts) (nothing : NothingFailed state (dirs_in (plan_in state rules.sets i.between i.within.looked clock asked)) own)
-    (told : List Fault) (met : MetNothing (dirs_in (plan_in state rules.sets i.between i.within.looked clock asked)) told) (anew_at : AnewAt (plan_in state rules.sets i.between i.within.looked clock asked) told q) where
+module _ (state : Path) (asked : Asked) (clock : Clock) (rules : Rules) (own : List Fault) (p q : Past) (es reads acts : List Entry) (made : Made p es q) (journal : IsJournal p) (joined : reverse es ≡ reads ++ acts) (sights : AreSights reads) (i : Inside state clock rules (Worked state rules.sets clock asked own) acts) (none : i.within.acted.of_acts ≡ [])
+    (made_anew : (x : Path) → OneCreates x (all_of_sets (steps_of_plan (plan_in state rules.sets i.between i.within.looked clock asked))) → names (world q) x ≢ thing.Nothing) where
   abbrev w : Worked state rules.sets clock asked own i.between
   w = i.within
 
@@ -103,9 +102,6 @@ module _ (state : Path) (asked : Asked) (clock : Clock) (rules : Rules) (own : L
 
   abbrev targets : List Target
   targets = all_targets clock decide rules.sets l.sets
-
-  none : w.acted.of_acts ≡ []
-  none = worked_met_nothing state rules.sets clock asked own i.between w nothing
 
   done : ActsDone (plan_in state rules.sets i.between l clock asked) state l.remembered.stale (λ marks. w.acted.dirs) (state_text state rules.sets i.between l clock) w.acted.marks [] l.acts
   done = subst (λ (fs : List Fault). ActsDone (plan_in state rules.sets i.between l clock asked) state l.remembered.stale (λ marks. w.acted.dirs) (state_text state rules.sets i.between l clock) w.acted.marks fs l.acts) none w.acted.entries
@@ -218,8 +214,8 @@ module _ (state : Path) (asked : Asked) (clock : Clock) (rules : Rules) (own : L
     dirs = w.acted.dirs;
     dirs_are = dirs_synced;
     acts = run_acts;
-    rotated = λ t one. run_turned state asked clock rules own p q es reads acts made journal joined (sights_quiet reads sights) i nothing.met t one;
-    anew = λ x one. ⊎_elim (λ there. there) (λ s. absurd (nothing_stops rules.sets l.sets l.remembered.table clock asked told s.0 x met s.1 s.2)) (anew_at x one);
+    rotated = λ t one. run_turned state asked clock rules own p q es reads acts made journal joined (sights_quiet reads sights) i (nil_split w.acted.of_acts w.acted.entries.of_plan w.acted.entries.of_state w.acted.entries.faults_are none).0 t one;
+    anew = made_anew;
     written = written;
     kept = λ f kept free x is. others_left x (kept_elsewhere state rules.sets l.sets l.of_looks l.looks clock decide f x l.shown kept free is);
     others = others_left;

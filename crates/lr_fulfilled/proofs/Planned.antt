@@ -1,13 +1,21 @@
 -- The acts of a plan without a fault.
-use Rattle.std.proofs.Common.{◌≡◌, ℕ, Bool, refl, sym, ◌∙◌, ap, subst, List, [], ◌++◌}
+use Rattle.std.proofs.Common.{◌≡◌, ℕ, Bool, inl, inr, refl, sym, ◌∙◌, ap, subst, List, [], ◌∷◌, ◌++◌}
+use Rattle.std.specs.List.{flat_map}
 use Rattle.std.specs.Prelude.{filter}
 use Rattle.std.proofs.lemmas.List.Elements.{filter-append}
 use Rattle.lr_rules.specs.declared.path.Path.{Path}
 use Rattle.lr_host.specs.declared.entry.Entry.{Entry}
+use Rattle.lr_host.specs.Lists.{IsIn}
+use Rattle.lr_host.proofs.Lists.{in_front, in_back}
 use Rattle.lr_acts.specs.Making.{all_of_sets}
+use Rattle.lr_acts.specs.Named.{CreatesAt, OneCreates}
 use Rattle.lr_plan.specs.declared.mark.Mark.{Mark}
+use Rattle.lr_plan.specs.declared.mark.Mark.TheVariants as mark
 use Rattle.lr_plan.specs.declared.plan.Plan.{Plan}
+use Rattle.lr_plan.specs.declared.step.Step.{Step}
+use Rattle.lr_plan.specs.declared.step.Step.TheVariants.{Creates}
 use Rattle.lr_plan.specs.Done.{ActsDone, rotated_logs}
+use Rattle.lr_plan.specs.Outcomes.{marks_of}
 use Rattle.lr_plan.specs.Steps.{steps_of_plan, state_steps}
 use Rattle.lr_synced.specs.Synced.{made_in, all_to_make_of}
 use Rattle.lr_synced.proofs.Telling.{plan_dirs}
@@ -16,6 +24,15 @@ use Rattle.lr_fulfilled.specs.Acts.{is_act, AreActsOf}
 use Rattle.lr_fulfilled.proofs.Acts.{acts_both, Went, course_went, sets_went}
 use Rattle.lr_fulfilled.proofs.Logs.{plan_logs, sets_stand}
 use Rattle.lr_weave.proofs.Whole.{nil_split}
+
+created_told : (x : Path) (steps : List Step) → OneCreates x steps → IsIn (mark.Created x) (flat_map marks_of steps)
+created_told x [] one = absurd one
+created_told x (s ∷ ss) (inl here) = in_front (mark.Created x) (marks_of s) (flat_map marks_of ss) (by s here)
+  where
+    by : (step : Step) → CreatesAt x step → IsIn (mark.Created x) (marks_of step)
+    by (Creates new mode) same = inl (ap (λ (y : Path). mark.Created y) same)
+    by _ none = absurd none
+created_told x (s ∷ ss) (inr later) = in_back (mark.Created x) (marks_of s) (flat_map marks_of ss) (created_told x ss later)
 
 module _ (plan : Plan) (state : Path) (stale : Bool) (dirs : List Mark → List Path) (text : List Path → List ℕ) (marks : List Mark) (ts : List Entry) (d : ActsDone plan state stale dirs text marks [] ts) where
   parts : (d.of_plan ≡ []) × (d.of_state ≡ [])
@@ -30,6 +47,10 @@ module _ (plan : Plan) (state : Path) (stale : Bool) (dirs : List Mark → List 
   -- each directory that was to be made was
   pub dirs_planned : made_in marks ≡ all_to_make_of plan.sets
   dirs_planned = ap made_in went.marks_are ∙ plan_dirs plan.sets
+
+  -- each log that a step makes anew is told by a mark
+  pub anew_planned : (x : Path) → OneCreates x (all_of_sets (steps_of_plan plan)) → IsIn (mark.Created x) marks
+  anew_planned x one = subst (IsIn (mark.Created x)) (sym went.marks_are) (created_told x (all_of_sets (steps_of_plan plan)) one)
 
   wrote : AreActsOf (state_steps state stale (dirs marks) (text (rotated_logs marks))) (filter is_act d.entries.back)
   wrote = (course_went (state_steps state stale (dirs marks) (text (rotated_logs marks))) [] d.of_state d.entries.back parts.1 d.entries.second).acts

@@ -1,5 +1,5 @@
 // What a run of which nothing failed makes of its plan.
-ghost use Rattle.std.specs.Prelude.{◌≡◌, ℕ, Bool, List, [], ◌∷◌, ◌++◌, filter, reverse};
+ghost use Rattle.std.specs.Prelude.{◌≡◌, ◌≢◌, ℕ, Bool, List, [], ◌∷◌, ◌++◌, filter, reverse};
 ghost use Rattle.lr_rules.specs.declared.clock.Clock.{Clock};
 ghost use Rattle.lr_rules.specs.declared.fault.Fault.{Fault};
 ghost use Rattle.lr_rules.specs.declared.path.Path.{Path};
@@ -13,8 +13,10 @@ ghost use Rattle.lr_host.specs.Lists.{IsIn};
 ghost use Rattle.lr_host.specs.Opening.{IsJournal};
 ghost use Rattle.lr_host.specs.Quiet.{AreQuiet};
 ghost use Rattle.lr_host.specs.Told.{Made};
-ghost use Rattle.lr_host.specs.World.{Past};
+ghost use Rattle.lr_host.specs.declared.thing.Thing.TheVariants as thing;
+ghost use Rattle.lr_host.specs.World.{Past, world, names};
 ghost use Rattle.lr_acts.specs.Making.{all_of_sets};
+ghost use Rattle.lr_acts.specs.Named.{OneCreates};
 ghost use Rattle.lr_looks.specs.Found.{FoundLog};
 ghost use Rattle.lr_looks.specs.Shown.{ShowsLooks};
 ghost use Rattle.lr_plan.specs.Asked.{Asked};
@@ -25,9 +27,7 @@ ghost use Rattle.lr_plan.specs.declared.plan.Plan.{Plan};
 ghost use Rattle.lr_plan.specs.Done.{ActsDone, rotated_logs};
 ghost use Rattle.lr_plan.specs.Steps.{steps_of_plan, state_steps};
 ghost use Rattle.lr_laws_targets.specs.Runs.{AllTurnsBy};
-ghost use Rattle.lr_run.specs.Anew.{AnewAt};
 ghost use Rattle.lr_run.specs.Dry.{AreSights};
-ghost use Rattle.lr_run.specs.Met.{MetNothing};
 ghost use Rattle.lr_run.specs.Runs.{Inside, Worked, logs_in, dirs_in, plan_in};
 ghost use Rattle.lr_seen.specs.Free.{reserved_by};
 ghost use Rattle.lr_seen.specs.Targets.{all_targets};
@@ -36,15 +36,15 @@ ghost use Rattle.lr_fulfilled.specs.Fulfilled.{NothingFailed, IsElsewhere, HasNo
 ghost use Rattle.lr_fulfilled.specs.Left.{IsLeftAlone};
 ghost use Rattle.lr_fulfilled.specs.Truth.{LooksAreTrue};
 
-/// A run that came to its plan, behind looks, listings and reads, and whose own faults tell of nothing that failed, fulfilled
-/// it: its acts are those of the plan, whatever writers did meanwhile; each log of the plan was rotated, where no writer is
-/// attached to a member of it; each that is made anew is named, as the run's contract tells by faults of which none tells of
-/// anything that was met; the state tells of the logs, where none is attached to its paths; and all else was left alone.
+/// A run that came to its plan, behind looks, listings and reads, and of which no act failed, fulfilled it, whatever else it
+/// tells: its acts are those of the plan, whatever writers did meanwhile; each log of the plan was rotated, where no writer is
+/// attached to a member of it; each that is made anew is named, as the run's contract tells; the state tells of the logs, where
+/// none is attached to its paths; and all else was left alone.
 pub fn run_is_fulfilled()
     ensures { (state : Path) (asked : Asked) (clock : Clock) (rules : Rules) (own : List Fault) (p q : Past) (es reads acts : List Entry)
         → Made p es q → IsJournal p → reverse es ≡ reads ++ acts → AreSights reads → (i : Inside state clock rules (Worked state rules.sets clock asked own) acts)
-        → NothingFailed state (dirs_in (plan_in state rules.sets i.between i.within.looked clock asked)) own
-        → (told : List Fault) → MetNothing (dirs_in (plan_in state rules.sets i.between i.within.looked clock asked)) told → AnewAt (plan_in state rules.sets i.between i.within.looked clock asked) told q
+        → i.within.acted.of_acts ≡ []
+        → ((x : Path) → OneCreates x (all_of_sets (steps_of_plan (plan_in state rules.sets i.between i.within.looked clock asked))) → names (world q) x ≢ thing.Nothing)
         → IsFulfilled state rules.sets clock asked i.between i.within.looked own (reverse es) p q }
 {}
 
@@ -57,7 +57,7 @@ pub fn acts_are_planned()
         → rotated_logs marks ≡ logs_in plan }
 {}
 
-/// Where a run tells of nothing that failed, its acts met no fault.
+/// Where a run tells of nothing that failed, none of its acts did.
 pub fn run_meets_no_fault()
     ensures { (state : Path) (rules : List Rule) (clock : Clock) (asked : Asked) (own : List Fault) (ts : List Entry) → (w : Worked state rules clock asked own ts) → NothingFailed state (dirs_in (plan_in state rules ts w.looked clock asked)) own → w.acted.of_acts ≡ [] }
 {}

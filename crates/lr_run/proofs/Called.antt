@@ -156,7 +156,7 @@ each_step dirs [] h g = tt
 each_step dirs (s ∷ ss) h g = ((h.0, g.0), each_step dirs ss h.1 g.1)
 
 -- the acts of the plan, by whose faults nothing was met, have none
-acts_met_none : (rules : List Rule) (sets : List SetLooks) (table : List Row) (clock : Clock) (asked : Asked) (ms : List Mark) (fs : List Fault) (ts : List Entry) → PlanDone (plan_of rules sets table clock asked) ms fs ts → MetNothing (all_to_make_of (plan_of rules sets table clock asked).sets) fs → fs ≡ []
+pub acts_met_none : (rules : List Rule) (sets : List SetLooks) (table : List Row) (clock : Clock) (asked : Asked) (ms : List Mark) (fs : List Fault) (ts : List Entry) → PlanDone (plan_of rules sets table clock asked) ms fs ts → MetNothing (all_to_make_of (plan_of rules sets table clock asked).sets) fs → fs ≡ []
 acts_met_none rules sets table clock asked ms fs ts h n =
     none_stopped dirs fs (acts_fold (IsStep dirs) (λ gs us. AreStops dirs gs) (stopped_folds dirs) (steps_of_plan (plan_of rules sets table clock asked)) ms fs ts
     (each_step dirs (all_of_sets (steps_of_plan (plan_of rules sets table clock asked))) (steps_simple rules sets table clock asked) (plan_among (plan_of rules sets table clock asked).sets)) h) n
@@ -164,27 +164,35 @@ acts_met_none rules sets table clock asked ms fs ts h n =
     dirs : List Path
     dirs = all_to_make_of (plan_of rules sets table clock asked).sets
 
--- so do those of a run that tells none of these
+-- a first part of faults that tell of nothing that was met, and what is added to some
+pub met_before : (dirs : List Path) (all xs ys : List Fault) → all ≡ xs ++ ys → MetNothing dirs all → MetNothing dirs xs
+met_before dirs all xs ys e n = record {
+  no_call = none_before all xs ys e n.no_call;
+  no_end = no_end_before all xs ys e n.no_end;
+  no_copy = none_copied_before xs ys (subst NoneOfCopy e n.no_copy);
+  no_other = none_other_before dirs all xs ys e n.no_other;
+}
+
+met_behind : (dirs : List Path) (all xs ys : List Fault) → all ≡ xs ++ ys → MetNothing dirs all → MetNothing dirs ys
+met_behind dirs all xs ys e n = record {
+  no_call = none_behind all xs ys e n.no_call;
+  no_end = no_end_behind all xs ys e n.no_end;
+  no_copy = none_copied_behind xs ys (subst NoneOfCopy e n.no_copy);
+  no_other = none_other_behind dirs all xs ys e n.no_other;
+}
+
+-- the acts of a run that tells none of these tell none
+pub acts_met : (state : Path) (rules : List Rule) (clock : Clock) (asked : Asked) (own : List Fault) (ts : List Entry) → (w : Worked state rules clock asked own ts) → MetNothing (dirs_in (plan_in state rules ts w.looked clock asked)) own → MetNothing (dirs_in (plan_in state rules ts w.looked clock asked)) w.acted.of_acts
+acts_met state rules clock asked own ts w n = met_behind dirs _ (plan_in state rules ts w.looked clock asked).faults w.acted.of_acts refl (met_behind dirs own w.looked.of_looks _ w.acted.faults_are n)
+  where
+    dirs : List Path
+    dirs = dirs_in (plan_in state rules ts w.looked clock asked)
+
+-- so the steps of its logs met no fault
 pub worked_met_none : (state : Path) (rules : List Rule) (clock : Clock) (asked : Asked) (own : List Fault) (ts : List Entry) → (w : Worked state rules clock asked own ts) → MetNothing (dirs_in (plan_in state rules ts w.looked clock asked)) own → w.acted.entries.of_plan ≡ []
 worked_met_none state rules clock asked own ts w n =
-    acts_met_none rules w.looked.sets w.looked.remembered.table clock asked w.acted.marks w.acted.entries.of_plan w.acted.entries.entries.front w.acted.entries.entries.first (record {
-      no_call = none_before of_acts of_plan w.acted.entries.of_state w.acted.entries.faults_are (none_behind _ plan.faults of_acts refl (none_behind own w.looked.of_looks _ w.acted.faults_are n.no_call));
-      no_end = no_end_before of_acts of_plan w.acted.entries.of_state w.acted.entries.faults_are (no_end_behind _ plan.faults of_acts refl (no_end_behind own w.looked.of_looks _ w.acted.faults_are n.no_end));
-      no_copy = none_copied_before of_plan w.acted.entries.of_state (subst NoneOfCopy w.acted.entries.faults_are (none_copied_behind plan.faults of_acts (none_copied_behind w.looked.of_looks _ (subst NoneOfCopy w.acted.faults_are n.no_copy))));
-      no_other = none_other_before dirs of_acts of_plan w.acted.entries.of_state w.acted.entries.faults_are (none_other_behind dirs _ plan.faults of_acts refl (none_other_behind dirs own w.looked.of_looks _ w.acted.faults_are n.no_other));
-    })
-  where
-    plan : Plan
-    plan = plan_in state rules ts w.looked clock asked
-
-    dirs : List Path
-    dirs = all_to_make_of plan.sets
-
-    of_acts : List Fault
-    of_acts = w.acted.of_acts
-
-    of_plan : List Fault
-    of_plan = w.acted.entries.of_plan
+    acts_met_none rules w.looked.sets w.looked.remembered.table clock asked w.acted.marks w.acted.entries.of_plan w.acted.entries.entries.front w.acted.entries.entries.first
+    (met_before _ w.acted.of_acts w.acted.entries.of_plan w.acted.entries.of_state w.acted.entries.faults_are (acts_met state rules clock asked own ts w n))
 
 -- ---- what stops the making of a log
 

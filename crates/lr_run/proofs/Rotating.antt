@@ -1,4 +1,4 @@
--- A run of which no call failed, no program ended badly and no copy broke off rotated each log of its plan whole: what is known of one of them.
+-- A run of which no step of the logs failed rotated each log of its plan whole: what is known of one of them.
 use Rattle.std.proofs.Common.{◌≡◌, ◌≢◌, inl, inr, ⊎_elim, ℕ, Option, Some, None, List, [], ◌∷◌, ◌++◌, reverse, refl, sym, ap, ◌∙◌, subst, append_assoc}
 use Rattle.std.specs.Prelude.{codes}
 use Rattle.lr_rules.specs.declared.clock.Clock.{Clock}
@@ -46,9 +46,7 @@ use Rattle.lr_seen.proofs.Apart.{targets_apart, targets_dont_meet}
 use Rattle.lr_seen.proofs.Free.{targets_free}
 use Rattle.lr_seen.proofs.Ready.{plans_have_logs}
 use Rattle.lr_seen.proofs.Seen.{targets_seen, targets_have_names}
-use Rattle.lr_run.specs.Met.{MetNothing}
-use Rattle.lr_run.specs.Runs.{Inside, Looked, Worked, plan_in, dirs_in}
-use Rattle.lr_run.proofs.Called.{worked_met_none}
+use Rattle.lr_run.specs.Runs.{Inside, Looked, Worked, plan_in}
 use Rattle.lr_run.proofs.Shape.{sees_quiet, ended_whole, written_whole, seen_later, seen_quiet, in_parts, all_of_state}
 
 -- ---- one of the logs
@@ -97,7 +95,7 @@ worked_whole state rules clock asked own ts w none =
     (subst (λ (fs : List Fault). PlanDone (plan_in state rules.sets ts w.looked clock asked) w.acted.marks fs w.acted.entries.entries.front) none w.acted.entries.entries.first)
 
 module _ (state : Path) (asked : Asked) (clock : Clock) (rules : Rules) (own : List Fault) (p q : Past) (es reads acts : List Entry) (made : Made p es q) (journal : IsJournal p) (joined : reverse es ≡ reads ++ acts) (quiet : AreQuiet reads)
-    (i : Inside state clock rules (Worked state rules.sets clock asked own) acts) (met : MetNothing (dirs_in (plan_in state rules.sets i.between i.within.looked clock asked)) own) (t : Target) (one : IsIn t (rotated_in state rules.sets i.between i.within.looked clock asked)) where
+    (i : Inside state clock rules (Worked state rules.sets clock asked own) acts) (met_none : i.within.acted.entries.of_plan ≡ []) (t : Target) (one : IsIn t (rotated_in state rules.sets i.between i.within.looked clock asked)) where
   abbrev w : Worked state rules.sets clock asked own i.between
   w = i.within
 
@@ -121,9 +119,6 @@ module _ (state : Path) (asked : Asked) (clock : Clock) (rules : Rules) (own : L
 
   no_part : IsName t.log t.naming (state ++ codes ".tmp") → ⊥
   no_part = free (state ++ codes ".tmp") (inr (inl refl))
-
-  pub met_none : w.acted.entries.of_plan ≡ []
-  met_none = worked_met_none state rules.sets clock asked own i.between w met
 
   -- what stands between the begin and the end
   abbrev pub work : List Entry

@@ -1,4 +1,4 @@
--- A run of which no call failed, no program ended badly and no copy broke off turns the family of each log of its plan.
+-- A run of which no step of the logs failed turns the family of each log of its plan.
 use Rattle.std.proofs.Common.{◌≡◌, ◌≢◌, inl, inr, Option, Some, None, List, [], ◌∷◌, ◌++◌, reverse, refl, sym, ap, ◌∙◌, subst}
 use Rattle.lr_rules.specs.declared.clock.Clock.{Clock}
 use Rattle.lr_rules.specs.declared.fault.Fault.{Fault}
@@ -28,8 +28,7 @@ use Rattle.lr_turned.proofs.Stands.{stands_first, plan_stands, plan_empties}
 use Rattle.lr_seen.specs.Targets.{groups_of}
 use Rattle.lr_seen.proofs.Apart.{targets_apart}
 use Rattle.lr_seen.proofs.Ready.{plans_have_logs}
-use Rattle.lr_run.specs.Met.{MetNothing}
-use Rattle.lr_run.specs.Runs.{Inside, Worked, plan_in, dirs_in}
+use Rattle.lr_run.specs.Runs.{Inside, Worked, plan_in}
 use Rattle.lr_run.proofs.Members.{HasMembers, job_part, has_members}
 use Rattle.lr_run.proofs.Rotating as rotating
 use Rattle.lr_laws_family.specs.Made.{HasJob, AreOutside, RotatesAmong}
@@ -43,12 +42,12 @@ use Rattle.lr_turned.proofs.Rotates.{copied_among}
 use Rattle.lr_run.specs.Rotated.{rotated_in, IsTurnedAmong}
 
 module _ (state : Path) (asked : Asked) (clock : Clock) (rules : Rules) (own : List Fault) (p q : Past) (es reads acts : List Entry) (made : Made p es q) (journal : IsJournal p) (joined : reverse es ≡ reads ++ acts) (quiet : AreQuiet reads)
-    (i : Inside state clock rules (Worked state rules.sets clock asked own) acts) (met : MetNothing (dirs_in (plan_in state rules.sets i.between i.within.looked clock asked)) own) (t : Target) (one : IsIn t (rotated_in state rules.sets i.between i.within.looked clock asked)) where
+    (i : Inside state clock rules (Worked state rules.sets clock asked own) acts) (met_none : i.within.acted.entries.of_plan ≡ []) (t : Target) (one : IsIn t (rotated_in state rules.sets i.between i.within.looked clock asked)) where
   abbrev all : AllTurnedBy state clock rules ((((i.within.looked.reads ++ i.within.looked.looks) ++ i.within.acted.entries.entries.front) ++ i.within.acted.entries.entries.back) ++ entry.Ends ∷ [])
-  all = rotating.turned state asked clock rules own p q es reads acts made journal joined quiet i met t one
+  all = rotating.turned state asked clock rules own p q es reads acts made journal joined quiet i met_none t one
 
   abbrev seen : IsLogSeen rules clock all.turns.looks t
-  seen = rotating.seen state asked clock rules own p q es reads acts made journal joined quiet i met t one
+  seen = rotating.seen state asked clock rules own p q es reads acts made journal joined quiet i met_none t one
 
   abbrev w : Worked state rules.sets clock asked own i.between
   w = i.within
@@ -60,7 +59,7 @@ module _ (state : Path) (asked : Asked) (clock : Clock) (rules : Rules) (own : L
   r = rotation_by t
 
   members : HasMembers t
-  members = has_members t (rotating.names_any state asked clock rules own p q es reads acts made journal joined quiet i met t one)
+  members = has_members t (rotating.names_any state asked clock rules own p q es reads acts made journal joined quiet i met_none t one)
 
   log_is : t.ready.log ≡ t.log
   log_is = members.log
@@ -78,10 +77,10 @@ module _ (state : Path) (asked : Asked) (clock : Clock) (rules : Rules) (own : L
   module _ (none : t.job ≡ None) where
     renamed_outside : AreOutside (part_paths (by_of t.job) ++ others) t.naming r
     renamed_outside = subst (λ (j : Option Job). (x : Path) → IsIn x (part_paths (by_of j) ++ others) → (IsIn x (way_of r (by_of j)) → ⊥) × IsNoMember t.naming x) (sym none)
-        (λ x j. let o = rotating.paths_out state asked clock rules own p q es reads acts made journal joined quiet i met t one x j in (none_of_way x o.0, o.1))
+        (λ x j. let o = rotating.paths_out state asked clock rules own p q es reads acts made journal joined quiet i met_none t one x j in (none_of_way x o.0, o.1))
 
     renamed : RotatesAmong others t.naming r (reverse es)
-    renamed = subst (RotatesAmong others t.naming r) (sym (rotating.whole_run state asked clock rules own p q es reads acts made journal joined quiet i met t one)) (rotates state clock rules (reads ++ i.before) _ all t (rotating.quiet_first state asked clock rules own p q es reads acts made journal joined quiet i met t one) one none)
+    renamed = subst (RotatesAmong others t.naming r) (sym (rotating.whole_run state asked clock rules own p q es reads acts made journal joined quiet i met_none t one)) (rotates state clock rules (reads ++ i.before) _ all t (rotating.quiet_first state asked clock rules own p q es reads acts made journal joined quiet i met_none t one) one none)
 
     pub rename_turned : IsTurnedAmong state (rotated_in state rules.sets i.between i.within.looked clock asked) p q t
     rename_turned = λ spared. family_turned others t.naming r p q es (record {
@@ -89,7 +88,7 @@ module _ (state : Path) (asked : Asked) (clock : Clock) (rules : Rules) (own : L
       journal = journal;
       family = seen.family;
       no_source = no_source;
-      rotation = rotating.is_one state asked clock rules own p q es reads acts made journal joined quiet i met t one;
+      rotation = rotating.is_one state asked clock rules own p q es reads acts made journal joined quiet i met_none t one;
       job = subst (λ (j : Option Job). HasJob (by_of j) r) (sym none) tt;
       attached = spared;
       outside = renamed_outside;
@@ -106,9 +105,9 @@ module _ (state : Path) (asked : Asked) (clock : Clock) (rules : Rules) (own : L
     paths = log_paths rules clock all.turns.looks t seen job job_is
 
     done : PlanDone (plan_in state rules.sets i.between w.looked clock asked) w.acted.marks [] w.acted.entries.entries.front
-    done = subst (λ (fs : List Fault). PlanDone (plan_in state rules.sets i.between w.looked clock asked) w.acted.marks fs w.acted.entries.entries.front) (rotating.met_none state asked clock rules own p q es reads acts made journal joined quiet i met t one) w.acted.entries.entries.first
+    done = subst (λ (fs : List Fault). PlanDone (plan_in state rules.sets i.between w.looked clock asked) w.acted.marks fs w.acted.entries.entries.front) met_none w.acted.entries.entries.first
 
-    logs : HaveLogs (groups_of clock (rotating.decide state asked clock rules own p q es reads acts made journal joined quiet i met t one) rules.sets w.looked.sets) (plan_in state rules.sets i.between w.looked clock asked).sets
+    logs : HaveLogs (groups_of clock (rotating.decide state asked clock rules own p q es reads acts made journal joined quiet i met_none t one) rules.sets w.looked.sets) (plan_in state rules.sets i.between w.looked clock asked).sets
     logs = plans_have_logs rules.sets w.looked.sets w.looked.of_looks w.looked.looks clock asked.mailer _ w.looked.shown
 
     apart : AreApart (rotated_in state rules.sets i.between i.within.looked clock asked)
@@ -131,7 +130,7 @@ module _ (state : Path) (asked : Asked) (clock : Clock) (rules : Rules) (own : L
 
     outside : (y : Path) → IsIn y (job.part ∷ others) → (y ≢ t.log) × IsNoMember t.naming y
     outside y (inl same) = ((λ e. paths.part_apart (same ∙ (e ∙ sym is_job.from_is))), subst (IsNoMember t.naming) same part_out)
-    outside y (inr j) = rotating.paths_out state asked clock rules own p q es reads acts made journal joined quiet i met t one y j
+    outside y (inr j) = rotating.paths_out state asked clock rules own p q es reads acts made journal joined quiet i met_none t one y j
 
     by_is : by_of t.job ≡ Copy job
     by_is = ap by_of job_is
@@ -141,8 +140,8 @@ module _ (state : Path) (asked : Asked) (clock : Clock) (rules : Rules) (own : L
         (λ x j. let o = outside x j in (none_of_way x o.0, o.1))
 
     copied : RotatesAmong others t.naming r (reverse es)
-    copied = subst (RotatesAmong others t.naming r) (sym (rotating.whole_run state asked clock rules own p q es reads acts made journal joined quiet i met t one))
-        (copied_among state clock rules (reads ++ i.before) _ all t job (rotating.quiet_first state asked clock rules own p q es reads acts made journal joined quiet i met t one) one job_is (rotating.is_one state asked clock rules own p q es reads acts made journal joined quiet i met t one).members (λ y j. (outside y j).1) stands copies)
+    copied = subst (RotatesAmong others t.naming r) (sym (rotating.whole_run state asked clock rules own p q es reads acts made journal joined quiet i met_none t one))
+        (copied_among state clock rules (reads ++ i.before) _ all t job (rotating.quiet_first state asked clock rules own p q es reads acts made journal joined quiet i met_none t one) one job_is (rotating.is_one state asked clock rules own p q es reads acts made journal joined quiet i met_none t one).members (λ y j. (outside y j).1) stands copies)
 
     pub copy_turned : IsTurnedAmong state (rotated_in state rules.sets i.between i.within.looked clock asked) p q t
     copy_turned = λ spared. family_turned others t.naming r p q es (record {
@@ -150,7 +149,7 @@ module _ (state : Path) (asked : Asked) (clock : Clock) (rules : Rules) (own : L
       journal = journal;
       family = seen.family;
       no_source = no_source;
-      rotation = rotating.is_one state asked clock rules own p q es reads acts made journal joined quiet i met t one;
+      rotation = rotating.is_one state asked clock rules own p q es reads acts made journal joined quiet i met_none t one;
       job = subst (λ (by : By). HasJob by r) (sym by_is) (record { from_is = is_job.from_is ∙ sym log_is; to_is = is_job.to_is; paths = paths });
       attached = spared;
       outside = copy_outside;

@@ -1,6 +1,5 @@
-// What a run of which no call failed, no program ended badly, no copy broke off and each directory could be made makes of its
-// logs.
-ghost use Rattle.std.specs.Prelude.{◌≡◌, List, ◌++◌, reverse};
+// What a run of which no step of the logs failed makes of its logs.
+ghost use Rattle.std.specs.Prelude.{◌≡◌, List, [], ◌++◌, reverse};
 ghost use Rattle.lr_rules.specs.declared.path.Path.{Path};
 ghost use Rattle.lr_rules.specs.declared.clock.Clock.{Clock};
 ghost use Rattle.lr_rules.specs.declared.fault.Fault.{Fault};
@@ -13,18 +12,17 @@ ghost use Rattle.lr_host.specs.Quiet.{AreQuiet};
 ghost use Rattle.lr_host.specs.Told.{Made};
 ghost use Rattle.lr_laws_targets.specs.Target.{Target};
 ghost use Rattle.lr_plan.specs.Asked.{Asked};
-ghost use Rattle.lr_run.specs.Met.{MetNothing};
 ghost use Rattle.lr_run.specs.Rotated.{rotated_in, IsTurnedAmong};
-ghost use Rattle.lr_run.specs.Runs.{Inside, Worked, dirs_in, plan_in};
+ghost use Rattle.lr_run.specs.Runs.{Inside, Worked};
 
-/// A run that came to its plan and tells no failed call, no program that ended badly, no copy that broke off and no directory
-/// that couldn't be made, behind reads that change nothing, turns whole the family of each log of its plan to whose members, and
-/// to whose copy's part file, no writer is attached, whatever else it tells: of a log that isn't there, or that meets another,
-/// say. A log with numbers goes to the first of them, one with dates to the clock's stamp, by its rename, or by a copy with all
-/// bytes that it had as it was last read; each member is where the rotation takes it.
+/// A run that came to its plan and of which no step of a log failed, behind reads that change nothing, turns whole the family of
+/// each log of its plan to whose members, and to whose copy's part file, no writer is attached, whatever else it tells: of a
+/// log that isn't there, or that meets another, say. A log with numbers goes to the first of them, one with dates to the
+/// clock's stamp, by its rename, or by a copy with all bytes that it had as it was last read; each member is where the rotation
+/// takes it.
 pub fn run_rotates_all()
     ensures { (state : Path) (asked : Asked) (clock : Clock) (rules : Rules) (own : List Fault) (p q : Past) (es reads acts : List Entry)
-        → Made p es q → IsJournal p → reverse es ≡ reads ++ acts → AreQuiet reads → (i : Inside state clock rules (Worked state rules.sets clock asked own) acts) → MetNothing (dirs_in (plan_in state rules.sets i.between i.within.looked clock asked)) own
+        → Made p es q → IsJournal p → reverse es ≡ reads ++ acts → AreQuiet reads → (i : Inside state clock rules (Worked state rules.sets clock asked own) acts) → i.within.acted.entries.of_plan ≡ []
         → (t : Target) → IsIn t (rotated_in state rules.sets i.between i.within.looked clock asked)
         → IsTurnedAmong state (rotated_in state rules.sets i.between i.within.looked clock asked) p q t }
 {}
