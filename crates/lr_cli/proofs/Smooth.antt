@@ -131,10 +131,14 @@ module _ (request : Request) (zone : Zone) (seconds : ℤ) (report : Report) (pl
       t : TakenBy request.settings.state (plan_by request zone seconds report (reverse es) p) report.faults (Some j) (Some k)
       t = taken (plan_by request zone seconds report (reverse es) p) is
 
+      -- those of the acts are faults of the run
+      of_acts : (f : Fault) → IsIn f p.run.within.acted.of_acts → IsIn f p.own
+      of_acts f i = subst (IsIn f) (sym p.run.within.acted.faults_are) (in_back f p.run.within.looked.of_looks _ (in_back f (plan_by request zone seconds report (reverse es) p).faults p.run.within.acted.of_acts i))
+
       own : NothingFailed request.settings.state (dirs_in (plan_by request zone seconds report (reverse es) p)) p.own
       own = nothing_fails request.settings.state (asking request.settings.force request.settings.mailer) p.clock p.rules p.own j k es (p.of_clock ++ p.reads) p.acts made journal
-          (plan_joined request zone seconds report (reverse es) p) (plan_quiet request zone seconds report (reverse es) p) p.run (smooth es made p)
-          (record { stale = t.stale; dirs = t.dirs; text = t.text; taken = λ path last i. t.taken path last (subst (IsIn (fault.Taken path)) (sym p.faults_are) (in_back (fault.Taken path) p.meaning.faults p.own i)) })
+          (plan_joined request zone seconds report (reverse es) p) (plan_quiet request zone seconds report (reverse es) p) p.run (smooth es made p).0 (smooth es made p).1
+          (λ path last i. t.taken path (last t.stale t.dirs t.text) (subst (IsIn (fault.Taken path)) (sym p.faults_are) (in_back (fault.Taken path) p.meaning.faults p.own (of_acts (fault.Taken path) i))))
           (own_calls p.meaning.faults p.own (sym (ap calls_in p.faults_are) ∙ no_call)) (own_ends p.meaning.faults p.own (sym (ap scripts_in p.faults_are) ∙ no_end))
 
       -- a fault of a copy is one of a new file

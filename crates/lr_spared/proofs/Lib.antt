@@ -1,6 +1,7 @@
 pub mod Clearing
 pub mod Dirs
 pub mod Hindering
+pub mod Jobs
 pub mod Long
 pub mod Making
 pub mod Naming

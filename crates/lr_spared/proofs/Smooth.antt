@@ -8,7 +8,6 @@ use Rattle.lr_rules.specs.declared.fault.Fault.{Fault}
 use Rattle.lr_rules.specs.declared.fault.Fault.TheVariants as fault
 use Rattle.lr_rules.specs.declared.fault.Phase.{Phase}
 use Rattle.lr_rules.specs.declared.path.Path.{Path}
-use Rattle.lr_rules.specs.declared.rule.Naming.{Naming}
 use Rattle.lr_rules.specs.declared.rule.Rule.{Rule}
 use Rattle.lr_rules.specs.declared.rules.Rules.{Rules}
 use Rattle.lr_rules.specs.Match.{part_end, EndsWith}
@@ -29,7 +28,7 @@ use Rattle.lr_host.specs.Looks.{IsDir}
 use Rattle.lr_host.specs.Opening.{IsJournal}
 use Rattle.lr_host.specs.Quiet.{IsQuiet, AreQuiet, ChangeNothing}
 use Rattle.lr_host.specs.Steps.{is_change}
-use Rattle.lr_host.specs.Told.{Counts, Each, Made, by_tool, Rose}
+use Rattle.lr_host.specs.Told.{Each, Made, by_tool, Rose}
 use Rattle.lr_host.specs.World.{Past, ◌▸◌, past, World, world, names}
 use Rattle.lr_host.proofs.Each.{each_append, each_as, each_in_order}
 use Rattle.lr_host.proofs.Lists.{in_front, in_back, in_append, in_reverse, from_reverse}
@@ -39,6 +38,7 @@ use Rattle.lr_host.proofs.More.{file_more}
 use Rattle.lr_host.proofs.Quiet.{IsAny, Moment as Look, moment, made_quiet, quiet_both, quiet_more, quiet_same, quiet_still, since_any, since_as, since_before, still_both, still_reverse}
 use Rattle.lr_scripts.specs.declared.command.Command.{Command}
 use Rattle.lr_copy.specs.declared.job.Job.{Job}
+use Rattle.lr_emptied.specs.Jobs.{jobs_of}
 use Rattle.lr_plan.specs.Asked.{Asked}
 use Rattle.lr_plan.specs.declared.looks.LogLook.{LogLook}
 use Rattle.lr_plan.specs.declared.mark.Mark.{Mark}
@@ -52,7 +52,6 @@ use Rattle.lr_plan.specs.Planned.{decision}
 use Rattle.lr_plan.specs.Steps.{steps_of_plan, steps_of_set, state_steps}
 use Rattle.lr_acts.specs.Making.{all_of_sets}
 use Rattle.lr_acts.specs.Taken.{OneTakes}
-use Rattle.lr_looks.specs.Found.{FoundLog}
 use Rattle.lr_reading.specs.Sights.{entries_of}
 use Rattle.lr_laws_targets.specs.AllTurns.{IsOfSome, IsOfState}
 use Rattle.lr_laws_targets.specs.Target.{Target, IsMissingDir, IsDirSeenBy}
@@ -74,13 +73,13 @@ use Rattle.lr_seen.proofs.Seen.{targets_have_names, targets_seen}
 use Rattle.lr_stood.specs.True.{AreTrue}
 use Rattle.lr_run.specs.Copied.{IsOfCopy}
 use Rattle.lr_run.specs.Runs.{Inside, Looked, Worked, dirs_in, plan_in, state_text}
-use Rattle.lr_run.specs.Taken.{TakenBy}
 use Rattle.lr_run.proofs.Hindered.{taken_member}
 use Rattle.lr_run.proofs.Shape.{sees_quiet, seen_quiet, looked_parts, all_of_state}
 use Rattle.lr_run.proofs.Taken.{IsOfNew, looks_none}
 use Rattle.lr_fulfilled.specs.Fulfilled.{NothingFailed}
+use Rattle.lr_fulfilled.proofs.Failing.{acts_met_nothing}
 use Rattle.lr_fulfilled.proofs.Truth.{Looking, looking, looks_stand}
-use Rattle.lr_spared.specs.Smooth.{NoneRose, IsCopied, IsPartOfOne, IsDirOfOne, IsWrittenFirst, IsSmooth}
+use Rattle.lr_spared.specs.Smooth.{AreToldApart, IsSmooth, WereTaken}
 use Rattle.lr_spared.proofs.Clearing.{ClearsFirst, clears_on, clears_log, course_clears}
 use Rattle.lr_run.proofs.Courses.{OfLog, sets_done, either, sets_so, all_sets}
 use Rattle.lr_spared.proofs.Dirs.{IsMadeBy, made_by_one, dir_apart, some_give, state_gives, calm_gives, of_changes, course_saw}
@@ -91,7 +90,8 @@ use Rattle.lr_run.proofs.Members.{HaveMembers, seen_members, part_own, all_ready
 use Rattle.lr_spared.proofs.Naming.{Avoids, Spared}
 use Rattle.lr_spared.proofs.Once.{each_ready, logs_aside, logs_at_most, sets_aside, sets_once}
 use Rattle.lr_spared.proofs.Sighted.{looks_saw}
-use Rattle.lr_spared.proofs.Stale.{IsKeptAs, kept_as, is_copied, job_limit, part_of_one, part_seen, part_known}
+use Rattle.lr_spared.proofs.Jobs.{job_in_logs, job_in_sets}
+use Rattle.lr_spared.proofs.Stale.{part_seen, part_known}
 use Rattle.lr_spared.proofs.Steps.{OnceNamed, once_first, once_last, once_later, one_split, Tells, course_tells, sets_tell, tells_on}
 use Rattle.lr_spared.proofs.Taken.{never_taken}
 use Rattle.lr_spared.proofs.Writing.{state_none, state_clears, state_takes, state_once, state_fits, log_takes}
@@ -120,7 +120,8 @@ same_path x y = go (bytes_eq x y) refl
 -- ---- the run
 
 module _ (state : Path) (asked : Asked) (clock : Clock) (rules : Rules) (own : List Fault) (j k : Journal) (es reads acts : List Entry) (made : Made (past j) es (past k)) (journal : IsJournal (past j)) (joined : reverse es ≡ reads ++ acts) (quiet : AreQuiet reads)
-    (i : Inside state clock rules (Worked state rules.sets clock asked own) acts) (smooth : IsSmooth state rules.sets i.within.looked.shown.kept (past j) (past k)) where
+    (i : Inside state clock rules (Worked state rules.sets clock asked own) acts)
+    (smooth : IsSmooth state (jobs_of (plan_in state rules.sets i.between i.within.looked clock asked).sets) (dirs_in (plan_in state rules.sets i.between i.within.looked clock asked)) (past j) (past k)) where
   abbrev p : Past
   p = past j
 
@@ -211,9 +212,17 @@ module _ (state : Path) (asked : Asked) (clock : Clock) (rules : Rules) (own : L
 
   -- ---- what the looks saw
 
-  -- no writer was attached to such a path, nor to that of such a directory
-  spared_at : (x : Path) → ((y : Path) → (IsWrittenFirst state rules.sets l.shown.kept y → ⊥) × (IsDirOfOne l.shown.kept y → ⊥) → y ≡ x → ⊥) → Spared x p q
-  spared_at x other = since_as (λ y. (IsWrittenFirst state rules.sets l.shown.kept y → ⊥) × (IsDirOfOne l.shown.kept y → ⊥)) (λ y. y ≢ x) p q other smooth.spared
+  -- the path is that of no file that is written first, and of no directory that is made
+  abbrev IsBeside : Path → Type 0
+  IsBeside y = (y ≢ state_part state) × (((job : Job) → IsIn job (jobs_of plan.sets) → job.part ≢ y) × (IsIn y (dirs_in plan) → ⊥))
+
+  -- no writer was attached to another
+  spared_at : (x : Path) → ((y : Path) → IsBeside y → y ≡ x → ⊥) → Spared x p q
+  spared_at x other = since_as IsBeside (λ y. y ≢ x) p q other smooth.spared
+
+  -- the copy of a log of the plan is one of the plan's
+  planned : (t : Target) → IsIn t targets → (job : Job) → t.job ≡ Some job → IsIn job (jobs_of plan.sets)
+  planned t one job is = job_in_sets plan.sets job (job_in_logs targets (flat_map (λ (set : SetPlan). set.logs) plan.sets) ready t one job is)
 
   -- so a look at it saw what stood there at first
   seen_at_first : (x : Path) (o : Option Seen) → Spared x p q → IsIn (entry.Look x o) seen → (w : World) × Sees w (names (world p) x) o
@@ -233,7 +242,7 @@ module _ (state : Path) (asked : Asked) (clock : Clock) (rules : Rules) (own : L
   seen_stale t one job is file = part_seen rules.sets l.sets l.of_looks l.looks l.shown t (comes t one) (at.at ▸ start) at.looked are_true (members t one) job is (file_stands job.part file)
 
   state_spared : Spared (state_part state) p q
-  state_spared = spared_at (state_part state) (λ y free same. free.0 (inl same))
+  state_spared = spared_at (state_part state) (λ y beside same. beside.0 same)
 
   state_stale : (names (world p) (state_part state) ≡ thing.Nothing) ⊎ (l.remembered.stale ≡ true)
   state_stale = ⊎_elim (λ stale. inr stale) (λ none. inl (nothing none)) (part_known state l.remembered l.sights l.known)
@@ -259,15 +268,6 @@ module _ (state : Path) (asked : Asked) (clock : Clock) (rules : Rules) (own : L
 
   abbrev a : ActsDone plan state l.remembered.stale (λ made. w.acted.dirs) (state_text state rules.sets i.between l clock) w.acted.marks w.acted.of_acts l.acts
   a = w.acted.entries
-
-  -- faults of new files are those of the plan and the acts
-  of_plan_or_acts : (f : Fault) → IsOfNew f → IsIn f own → IsIn f plan.faults ⊎ IsIn f w.acted.of_acts
-  of_plan_or_acts f new h = ⊎_elim (λ b. absurd (looks_none (reserved_by state) rules.sets l.sets l.of_looks l.looks l.shown f new b)) (λ b. in_append f plan.faults w.acted.of_acts b)
-      (in_append f l.of_looks (plan.faults ++ w.acted.of_acts) (subst (IsIn f) w.acted.faults_are h))
-
-  -- those of the acts are faults of the run
-  in_own : (f : Fault) → IsIn f w.acted.of_acts → IsIn f own
-  in_own f h = subst (IsIn f) (sym w.acted.faults_are) (in_back f l.of_looks (plan.faults ++ w.acted.of_acts) (in_back f plan.faults w.acted.of_acts h))
 
   tells : (x : Path) → Tells x (all_of_sets (steps_of_plan plan) ++ state_steps state l.remembered.stale w.acted.dirs text) w.acted.of_acts l.acts
   tells x = tells_on x (all_of_sets (steps_of_plan plan)) (state_steps state l.remembered.stale w.acted.dirs text) w.acted.of_acts a.of_plan a.of_state l.acts a.entries.front a.entries.back a.faults_are a.entries.joined
@@ -313,14 +313,14 @@ module _ (state : Path) (asked : Asked) (clock : Clock) (rules : Rules) (own : L
 
   -- ---- no path was taken
 
-  module _ (taken : TakenBy state plan own (Some j) (Some k)) where
+  module _ (taken : WereTaken state plan w.acted.of_acts j k) where
     -- nothing stood there, or what stood was unlinked; and the path is named once
     not_so : (x : Path) → Spared x p q → ((stale : Bool) (dirs : List Path) (bytes : List ℕ) → OnceNamed x (all_of_sets (steps_of_plan plan) ++ state_steps state stale dirs bytes))
         → (names (world p) x ≡ thing.Nothing) ⊎ IsIn (entry.Unlinks x) l.acts → IsIn (fault.Taken x) w.acted.of_acts → ⊥
     not_so x spared once at_first h = never_taken x j k es made spared
         (all_are (Avoids x) (quiet_avoids x) tt tt ((tells x).once (once l.remembered.stale w.acted.dirs text) h))
         (⊎_elim (λ nothing. inl nothing) (λ gone. inr (in_all (entry.Unlinks x) gone)) at_first)
-        (taken.taken x (once_last x _ (once taken.stale taken.dirs taken.text)) (in_own (fault.Taken x) h))
+        (taken x (λ stale dirs bytes. once_last x _ (once stale dirs bytes)) h)
 
     state_not : IsIn (fault.Taken (state_part state)) w.acted.of_acts → ⊥
     state_not h = not_so (state_part state) state_spared
@@ -335,41 +335,28 @@ module _ (state : Path) (asked : Asked) (clock : Clock) (rules : Rules) (own : L
         (λ stale dirs bytes. once_first x (all_of_sets (steps_of_plan plan)) (state_steps state stale dirs bytes)
         (sets_once x plan.sets (logs_at_most x targets _ ready members apart o.target o.one o.job o.is o.part))
         (state_none state stale dirs bytes x (no_state o.target o.one x (inl mine)) (no_part o.target o.one x (inl mine))))
-        (⊎_elim (λ nothing. inl nothing) (λ file. inr (cleared x (λ t one job is same. seen_stale t one job is (subst (IsFileAt (names (world p))) (sym same) file)) (λ same. absurd (no_part o.target o.one x (inl mine) same)) h))
-        (smooth.free x part)) h
+        (⊎_elim (λ nothing. inl (subst (λ (y : Path). names (world p) y ≡ thing.Nothing) o.part nothing))
+        (λ file. inr (cleared x (λ t one job is same. seen_stale t one job is (subst (IsFileAt (names (world p))) (o.part ∙ sym same) file)) (λ same. absurd (no_part o.target o.one x (inl mine) same)) h))
+        (smooth.free o.job (planned o.target o.one o.job o.is))) h
       where
         mine : IsOwnName o.target.log o.target.naming x
         mine = subst (IsOwnName o.target.log o.target.naming) o.part (part_own o.target (members o.target o.one) o.job o.is)
 
-        part : IsPartOfOne rules.sets l.shown.kept x
-        part = subst (IsPartOfOne rules.sets l.shown.kept) o.part (part_of_one rules.sets l.sets l.of_looks l.looks l.shown o.target (comes o.target o.one) (members o.target o.one) o.job o.is)
-
         spared : Spared x p q
-        spared = spared_at x (λ y free same. free.0 (inr (subst (IsPartOfOne rules.sets l.shown.kept) (sym same) part)))
+        spared = spared_at x (λ y beside same. beside.1.0 o.job (planned o.target o.one o.job o.is) (o.part ∙ sym same))
 
     -- by the acts
     acts_take_none : (x : Path) → IsIn (fault.Taken x) w.acted.of_acts → ⊥
     acts_take_none x h = ⊎_elim (λ same. state_not (subst (λ (y : Path). IsIn (fault.Taken y) w.acted.of_acts) (sym same) h)) (λ o. part_not x o h) (needed x ((tells x).planned h))
 
-    -- what the plan tells so is a dated member of a log that is kept
-    no_part_taken : (x : Path) → EndsWith x part_end → IsIn (fault.Taken x) own → ⊥
-    no_part_taken x end h = ⊎_elim (λ b. let f = (taken_member state rules l.sets l.of_looks l.looks clock decide l.shown x b).0 in smooth.told_apart f.0 f.1 x f.2 end) (λ b. acts_take_none x b) (of_plan_or_acts (fault.Taken x) tt h)
-
-    -- and no path that the run reserves for itself
-    state_not_taken : IsIn (fault.Taken (state_part state)) own → ⊥
-    state_not_taken h = ⊎_elim (λ b. (taken_member state rules l.sets l.of_looks l.looks clock decide l.shown (state_part state) b).1 (state_part state) (inr (inl refl)) refl) (λ b. acts_take_none (state_part state) b) (of_plan_or_acts (fault.Taken (state_part state)) tt h)
-
   -- ---- no file was too long
 
-  -- the file is a log that is kept and copied, and the limit of its copy is this
+  -- a copy of the plan is of this file, with this limit
   abbrev IsLimited : Path → ℕ → Type 0
-  IsLimited from limit = (limit ≡ 1_099_511_627_776) × ((f : FoundLog) × IsIn f l.shown.kept × IsCopied rules.sets f × (f.log.path ≡ from))
+  IsLimited from limit = (job : Job) × IsIn job (jobs_of plan.sets) × (job.from ≡ from) × (job.limit ≡ limit)
 
-  limited : (t : Target) (one : IsIn t targets) (job : Job) → t.job ≡ Some job → IsLimited job.from job.limit
-  limited t one job is = (job_limit rules.sets l.sets l.of_looks l.looks l.shown t (comes t one) job is, (f.found, f.among, is_copied rules.sets l.sets l.of_looks l.looks l.shown t (comes t one) job is, f.path ∙ sym ((members t one).job job is).from_is))
-    where
-      f : IsKeptAs l.shown.kept t (comes t one).place
-      f = kept_as rules.sets l.sets l.of_looks l.looks l.shown t (comes t one)
+  limited : (t : Target) → IsIn t targets → (job : Job) → t.job ≡ Some job → IsLimited job.from job.limit
+  limited t one job is = (job, planned t one job is, refl, refl)
 
   read_over : (x : Path) → IsIn (fault.TooLong x) w.acted.of_acts → ReadsOver IsLimited x l.acts
   read_over x h = either (FitCopies IsLimited) (fault.TooLong x) (ReadsOver IsLimited x) (over_in IsLimited x) (over_back IsLimited x) (course_over IsLimited x) w.acted.of_acts a.of_plan a.of_state l.acts a.entries.front a.entries.back a.faults_are a.entries.joined
@@ -380,94 +367,109 @@ module _ (state : Path) (asked : Asked) (clock : Clock) (rules : Rules) (own : L
       (course_over IsLimited x (state_steps state l.remembered.stale w.acted.dirs text) [] a.of_state a.entries.back (state_fits state l.remembered.stale w.acted.dirs text IsLimited) a.entries.second)
       h
 
-  not_long : (x : Path) → IsIn (fault.TooLong x) own → ⊥
+  not_long : (x : Path) → IsIn (fault.TooLong x) w.acted.of_acts → ⊥
   not_long x h = never_over IsLimited x p q es made
       (record { limit = r.limit; fits = r.fits; place = r.place; piece = r.piece; some = r.some; over = r.over; read = in_all (entry.Reads x r.place r.piece) r.read })
-      (λ limit c m old new first second g is. subst (λ (n : ℕ). length ((world m).files g).bytes ≤ n) (sym c.0) (smooth.short c.1.0 c.1.1 c.1.2 m (made_behind p m old first) (made_behind m q new second) g (subst (λ (y : Path). names (world m) y ≡ thing.File g) (sym c.1.3) is)))
+      (λ limit c m old new first second g is. subst (λ (n : ℕ). length ((world m).files g).bytes ≤ n) c.3 (smooth.short c.0 c.1 m (made_behind p m old first) (made_behind m q new second) g (subst (λ (y : Path). names (world m) y ≡ thing.File g) (sym c.2) is)))
     where
       r : ReadsOver IsLimited x l.acts
-      r = read_over x (⊎_elim (λ b. absurd (plan_hinders (fault.TooLong x) clock decide rules.sets l.sets b)) (λ b. b) (of_plan_or_acts (fault.TooLong x) tt h))
+      r = read_over x h
 
   -- ---- nothing else stood at the path of a directory that is made
 
-  no_other : (dir : Path) → IsIn dir (dirs_in plan) → IsIn (fault.NotFile dir) own → ⊥
-  no_other dir making told = ⊎_elim by_looks (λ b. ⊎_elim (λ c. plan_hinders (fault.NotFile dir) clock decide rules.sets l.sets c) by_acts (in_append (fault.NotFile dir) plan.faults w.acted.of_acts b))
-      (in_append (fault.NotFile dir) l.of_looks (plan.faults ++ w.acted.of_acts) (subst (IsIn (fault.NotFile dir)) w.acted.faults_are told))
-    where
-      -- it is that of a log that is kept, and the looks saw nothing there
-      m : IsMadeBy targets dir
-      m = made_by_one targets plan.sets dir ready making
+  module _ (dir : Path) (making : IsIn dir (dirs_in plan)) where
+    -- the looks saw nothing there
+    abbrev m : IsMadeBy targets dir
+    m = made_by_one targets plan.sets dir ready making
 
-      t : Target
-      t = m.target
+    abbrev t : Target
+    t = m.target
 
-      missing : IsMissingDir t.log t.naming t.stand.members t.job l.looks dir
-      missing = subst (λ (d : Option (Path × Option ℕ)). IsDirSeenBy d t.log t.naming t.stand.members t.job l.looks) m.its.1 (log_among rules clock l.looks targets logs_seen t m.one).dir
+    missing : IsMissingDir t.log t.naming t.stand.members t.job l.looks dir
+    missing = subst (λ (d : Option (Path × Option ℕ)). IsDirSeenBy d t.log t.naming t.stand.members t.job l.looks) m.its.1 (log_among rules clock l.looks targets logs_seen t m.one).dir
 
-      kept : IsKeptAs l.shown.kept t (comes t m.one).place
-      kept = kept_as rules.sets l.sets l.of_looks l.looks l.shown t (comes t m.one)
+    spared : Spared dir p q
+    spared = spared_at dir (λ y beside same. beside.1.1 (subst (λ (z : Path). IsIn z (dirs_in plan)) (sym same) making))
 
-      of_one : IsDirOfOne l.shown.kept dir
-      of_one = record { found = kept.found; among = kept.among; dir = ap (λ (n : Naming). n.dir) kept.naming ∙ sym missing.dir_is }
+    nothing : names (world p) dir ≡ thing.Nothing
+    nothing = none_at_first dir spared (in_back (entry.Look dir None) l.reads l.looks missing.gone)
 
-      spared : Spared dir p q
-      spared = spared_at dir (λ y free same. free.1 (subst (IsDirOfOne l.shown.kept) (sym same) of_one))
+    -- none of the acts gives it a file
+    no_own : (u : Target) → IsIn u targets → IsOwnName u.log u.naming dir → ⊥
+    no_own u one = dir_apart targets apart t u dir m.one one (members t m.one).dir m.its
 
-      nothing : names (world p) dir ≡ thing.Nothing
-      nothing = none_at_first dir spared (in_back (entry.Look dir None) l.reads l.looks missing.gone)
+    of_plan : Each (GivesNoFile dir) a.entries.front
+    of_plan = of_changes dir a.entries.front (each_as (IsOfSome targets) (GivesNoFile dir) (filter is_change a.entries.front)
+        (some_give dir targets (targets_have_names rules l.sets l.of_looks l.looks clock decide l.shown) members no_own)
+        (done_some targets (map steps_of_set plan.sets) w.acted.marks a.of_plan a.entries.front
+        (ready_planned (groups_of clock decide rules.sets l.sets) plan.sets (plans_have_logs rules.sets l.sets l.of_looks l.looks clock asked.mailer decide l.shown) (targets_apart rules.sets l.sets l.of_looks l.looks clock decide l.shown)) a.entries.first))
 
-      -- so no look saw something there
-      by_looks : IsIn (fault.NotFile dir) l.of_looks → ⊥
-      by_looks b =
-          let saw : (seen : Seen) × IsIn (entry.Look dir (Some seen)) l.looks = looks_saw dir rules.sets l.sets l.of_looks l.looks l.shown b in
-          let s = seen_at_first dir (Some saw.0) spared (in_back (entry.Look dir (Some saw.0)) l.reads l.looks saw.1) in
-          let clash : Some saw.0 ≡ None = subst (λ (there : Thing). Sees s.0 there (Some saw.0)) nothing s.1 in cc
+    of_writing : Each (GivesNoFile dir) a.entries.back
+    of_writing = of_changes dir a.entries.back (each_as (IsOfState state) (GivesNoFile dir) (filter is_change a.entries.back)
+        (state_gives dir state (no_state t m.one dir (inr missing.dir_is)) (no_part t m.one dir (inr missing.dir_is)))
+        (all_of_state state rules.sets clock asked own i.between w))
 
-      -- none of the acts gives it a file
-      no_own : (u : Target) → IsIn u targets → IsOwnName u.log u.naming dir → ⊥
-      no_own u one = dir_apart targets apart t u dir m.one one (members t m.one).dir m.its
+    given : Each (GivesNoFile dir) es
+    given = all_are (GivesNoFile dir) (λ e quiet. calm_gives dir e quiet.1) tt tt (subst (Each (GivesNoFile dir)) (sym a.entries.joined) (each_append (GivesNoFile dir) a.entries.front a.entries.back of_plan of_writing))
 
-      of_plan : Each (GivesNoFile dir) a.entries.front
-      of_plan = of_changes dir a.entries.front (each_as (IsOfSome targets) (GivesNoFile dir) (filter is_change a.entries.front)
-          (some_give dir targets (targets_have_names rules l.sets l.of_looks l.looks clock decide l.shown) members no_own)
-          (done_some targets (map steps_of_set plan.sets) w.acted.marks a.of_plan a.entries.front
-          (ready_planned (groups_of clock decide rules.sets l.sets) plan.sets (plans_have_logs rules.sets l.sets l.of_looks l.looks clock asked.mailer decide l.shown) (targets_apart rules.sets l.sets l.of_looks l.looks clock decide l.shown)) a.entries.first))
+    -- so none of the looks of the acts saw another kind of thing there
+    abbrev Any : List Step → Type 0
+    Any steps = Unit {0}
 
-      of_writing : Each (GivesNoFile dir) a.entries.back
-      of_writing = of_changes dir a.entries.back (each_as (IsOfState state) (GivesNoFile dir) (filter is_change a.entries.back)
-          (state_gives dir state (no_state t m.one dir (inr missing.dir_is)) (no_part t m.one dir (inr missing.dir_is)))
-          (all_of_state state rules.sets clock asked own i.between w))
+    course : (steps : List Step) (ms : List Mark) (fs : List Fault) (ts : List Entry) → Any steps → Course steps ms fs ts → IsIn (fault.NotFile dir) fs → SawOther dir ts
+    course steps ms fs ts any c = course_saw dir steps ms fs ts c
 
-      given : Each (GivesNoFile dir) es
-      given = all_are (GivesNoFile dir) (λ e quiet. calm_gives dir e quiet.1) tt tt (subst (Each (GivesNoFile dir)) (sym a.entries.joined) (each_append (GivesNoFile dir) a.entries.front a.entries.back of_plan of_writing))
-
-      -- so none of the looks of the acts saw another kind of thing there
-      Any : List Step → Type 0
-      Any steps = Unit {0}
-
-      course : (steps : List Step) (ms : List Mark) (fs : List Fault) (ts : List Entry) → Any steps → Course steps ms fs ts → IsIn (fault.NotFile dir) fs → SawOther dir ts
-      course steps ms fs ts any c = course_saw dir steps ms fs ts c
-
-      by_acts : IsIn (fault.NotFile dir) w.acted.of_acts → ⊥
-      by_acts b = never_other dir p q es made spared given nothing (record { seen = s.seen; other = s.other; look = in_all (entry.Look dir (Some s.seen)) s.look })
-        where
-          s : SawOther dir l.acts
-          s = either Any (fault.NotFile dir) (SawOther dir) (other_front dir) (other_back dir) course w.acted.of_acts a.of_plan a.of_state l.acts a.entries.front a.entries.back a.faults_are a.entries.joined
-              (sets_done Any (fault.NotFile dir) (SawOther dir) (other_front dir) (other_back dir) course (steps_of_plan plan) w.acted.marks a.of_plan a.entries.front
-              (sets_so Any tt (λ xs ys h k. tt) (λ phase about c. tt) plan.sets (each_ready (OfLog Any tt (λ xs ys h k. tt) (λ phase about c. tt)) targets plan.sets ready (λ u log one r. (tt, tt))))
-              a.entries.first)
-              (course_saw dir (state_steps state l.remembered.stale w.acted.dirs text) [] a.of_state a.entries.back a.entries.second)
-              b
+    by_acts : IsIn (fault.NotFile dir) w.acted.of_acts → ⊥
+    by_acts b = never_other dir p q es made spared given nothing (record { seen = s.seen; other = s.other; look = in_all (entry.Look dir (Some s.seen)) s.look })
+      where
+        s : SawOther dir l.acts
+        s = either Any (fault.NotFile dir) (SawOther dir) (other_front dir) (other_back dir) course w.acted.of_acts a.of_plan a.of_state l.acts a.entries.front a.entries.back a.faults_are a.entries.joined
+            (sets_done Any (fault.NotFile dir) (SawOther dir) (other_front dir) (other_back dir) course (steps_of_plan plan) w.acted.marks a.of_plan a.entries.front
+            (sets_so Any tt (λ xs ys h k. tt) (λ phase about c. tt) plan.sets (each_ready (OfLog Any tt (λ xs ys h k. tt) (λ phase about c. tt)) targets plan.sets ready (λ u log one r. (tt, tt))))
+            a.entries.first)
+            (course_saw dir (state_steps state l.remembered.stale w.acted.dirs text) [] a.of_state a.entries.back a.entries.second)
+            b
 
   -- ---- nothing failed
 
-  pub nothing_fails : TakenBy state plan own (Some j) (Some k) → calls_in own ≡ 0 → scripts_in own ≡ 0 → NothingFailed state (dirs_in plan) own
-  nothing_fails taken no_call no_end = record { met = record { no_call = no_call; no_end = no_end; no_copy = each_in (λ f. IsOfCopy f → ⊥) own no_copy; no_other = no_other }; not_taken = state_not_taken taken }
+  pub acts_fail_nothing : WereTaken state plan w.acted.of_acts j k → calls_in w.acted.of_acts ≡ 0 → scripts_in w.acted.of_acts ≡ 0 → w.acted.of_acts ≡ []
+  acts_fail_nothing taken no_call no_end = acts_met_nothing state rules.sets clock asked own i.between w
+      (record { no_call = no_call; no_end = no_end; no_copy = each_in (λ f. IsOfCopy f → ⊥) w.acted.of_acts no_copy; no_other = λ dir making told. by_acts dir making told }) (acts_take_none taken (state_part state))
     where
-      no_copy : (f : Fault) → IsIn f own → IsOfCopy f → ⊥
+      no_copy : (f : Fault) → IsIn f w.acted.of_acts → IsOfCopy f → ⊥
       no_copy (fault.TooLong x) h c = not_long x h
-      no_copy (fault.Taken x) h c = no_part_taken taken x c h
+      no_copy (fault.Taken x) h c = acts_take_none taken x h
       no_copy _ h c = c
 
-  pub smooth_fails_nothing : TakenBy state plan own (Some j) (Some k) → (counted counts : Counts) → RoseBy (calls_in own) counted.faults counts.faults → RoseBy (scripts_in own) counted.bad_ends counts.bad_ends → NoneRose counted counts → NothingFailed state (dirs_in plan) own
-  smooth_fails_nothing taken counted counts calls scripts none = nothing_fails taken (none_rose (calls_in own) counted.faults counts.faults calls none.0) (none_rose (scripts_in own) counted.bad_ends counts.bad_ends scripts none.1)
+  -- ---- what the run tells then
+
+  -- faults of new files are those of the plan and the acts
+  of_plan_or_acts : (f : Fault) → IsOfNew f → IsIn f own → IsIn f plan.faults ⊎ IsIn f w.acted.of_acts
+  of_plan_or_acts f new h = ⊎_elim (λ b. absurd (looks_none (reserved_by state) rules.sets l.sets l.of_looks l.looks l.shown f new b)) (λ b. in_append f plan.faults w.acted.of_acts b)
+      (in_append f l.of_looks (plan.faults ++ w.acted.of_acts) (subst (IsIn f) w.acted.faults_are h))
+
+  -- no look saw something at the path of a directory that is made
+  looks_saw_none : (dir : Path) → IsIn dir (dirs_in plan) → IsIn (fault.NotFile dir) l.of_looks → ⊥
+  looks_saw_none dir making b =
+      let saw : (seen : Seen) × IsIn (entry.Look dir (Some seen)) l.looks = looks_saw dir rules.sets l.sets l.of_looks l.looks l.shown b in
+      let s = seen_at_first dir (Some saw.0) (spared dir making) (in_back (entry.Look dir (Some saw.0)) l.reads l.looks saw.1) in
+      let clash : Some saw.0 ≡ None = subst (λ (there : Thing). Sees s.0 there (Some saw.0)) (nothing dir making) s.1 in cc
+
+  -- nothing that failed, where what the plan tells as taken, a dated member, isn't told in the words of a copy
+  pub nothing_fails : AreToldApart l.shown.kept → WereTaken state plan w.acted.of_acts j k → calls_in own ≡ 0 → scripts_in own ≡ 0 → NothingFailed state (dirs_in plan) own
+  nothing_fails apart taken no_call no_end = record { met = record { no_call = no_call; no_end = no_end; no_copy = each_in (λ f. IsOfCopy f → ⊥) own no_copy; no_other = no_other }; not_taken = state_not_taken }
+    where
+      no_part_taken : (x : Path) → EndsWith x part_end → IsIn (fault.Taken x) own → ⊥
+      no_part_taken x end h = ⊎_elim (λ b. let f = (taken_member state rules l.sets l.of_looks l.looks clock decide l.shown x b).0 in apart f.0 f.1 x f.2 end) (λ b. acts_take_none taken x b) (of_plan_or_acts (fault.Taken x) tt h)
+
+      state_not_taken : IsIn (fault.Taken (state_part state)) own → ⊥
+      state_not_taken h = ⊎_elim (λ b. (taken_member state rules l.sets l.of_looks l.looks clock decide l.shown (state_part state) b).1 (state_part state) (inr (inl refl)) refl) (λ b. acts_take_none taken (state_part state) b) (of_plan_or_acts (fault.Taken (state_part state)) tt h)
+
+      no_copy : (f : Fault) → IsIn f own → IsOfCopy f → ⊥
+      no_copy (fault.TooLong x) h c = ⊎_elim (λ b. plan_hinders (fault.TooLong x) clock decide rules.sets l.sets b) (λ b. not_long x b) (of_plan_or_acts (fault.TooLong x) tt h)
+      no_copy (fault.Taken x) h c = no_part_taken x c h
+      no_copy _ h c = c
+
+      no_other : (dir : Path) → IsIn dir (dirs_in plan) → IsIn (fault.NotFile dir) own → ⊥
+      no_other dir making told = ⊎_elim (looks_saw_none dir making) (λ b. ⊎_elim (λ c. plan_hinders (fault.NotFile dir) clock decide rules.sets l.sets c) (by_acts dir making) (in_append (fault.NotFile dir) plan.faults w.acted.of_acts b))
+          (in_append (fault.NotFile dir) l.of_looks (plan.faults ++ w.acted.of_acts) (subst (IsIn (fault.NotFile dir)) w.acted.faults_are told))

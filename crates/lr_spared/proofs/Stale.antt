@@ -1,6 +1,6 @@
 -- An old part file that stands as the run begins is seen.
-use Rattle.std.proofs.Common.{◌≡◌, ◌⊎◌, inl, inr, ⊎_elim, ◌+◌, ℕ, Bool, true, false, not, if◌then◌else◌, bytes_eq, arith, refl, sym, ap, ◌∙◌, subst, List, [], ◌∷◌, Some, None, Result, Ok, Err}
-use Rattle.std.specs.Prelude.{◌||◌, slice_get}
+use Rattle.std.proofs.Common.{◌≡◌, ◌⊎◌, inl, inr, ⊎_elim, ◌+◌, ℕ, Bool, true, false, not, if◌then◌else◌, bytes_eq, refl, sym, ap, ◌∙◌, subst, List, [], ◌∷◌, Some, None, Result, Ok, Err}
+use Rattle.std.specs.Prelude.{◌||◌}
 use Rattle.std.specs.List.{list_any}
 use Rattle.std.proofs.lemmas.Bool.{and_parts, not-true}
 use Rattle.std.proofs.lemmas.Slice.Eq.{bytes_eq-Decides}
@@ -9,9 +9,7 @@ use Rattle.lr_rules.specs.declared.path.Path.{Path}
 use Rattle.lr_rules.specs.declared.fault.Fault.{Fault}
 use Rattle.lr_rules.specs.declared.rule.Naming.{Naming}
 use Rattle.lr_rules.specs.declared.rule.Rule.{Rule}
-use Rattle.lr_rules.specs.declared.rule.Way.{Way}
 use Rattle.lr_rules.specs.StatePath.{state_part}
-use Rattle.lr_rules.specs.declared.rule.Way.TheVariants as way
 use Rattle.lr_host.specs.declared.entry.Entry.{Entry}
 use Rattle.lr_host.specs.declared.entry.Entry.TheVariants as entry
 use Rattle.lr_host.specs.declared.thing.Kind.{Kind}
@@ -24,9 +22,7 @@ use Rattle.lr_family.specs.Parts.{part_of, IsMembersPart}
 use Rattle.lr_copy.specs.declared.job.Job.{Job}
 use Rattle.lr_plan.specs.declared.looks.LogLook.{LogLook}
 use Rattle.lr_plan.specs.declared.looks.SetLooks.{SetLooks}
-use Rattle.lr_plan.specs.Planned.{is_made, makes_dir, empty_stand, stand_for, standing, copy_job, job_by, ready_for}
-use Rattle.lr_looks.specs.Families.{LookedLog}
-use Rattle.lr_looks.specs.Found.{FoundLog}
+use Rattle.lr_plan.specs.Planned.{is_made, makes_dir, empty_stand, stand_for, standing, copy_job, ready_for}
 use Rattle.lr_looks.specs.Sets.{looked_in}
 use Rattle.lr_looks.specs.Shown.{ShowsLooks}
 use Rattle.lr_reading.specs.declared.look.LookStop.{LookStop}
@@ -35,11 +31,10 @@ use Rattle.lr_reading.specs.Answers.{IsKnown, IsKnownBy, IsKnownBehind, IsKnownO
 use Rattle.lr_reading.specs.Pieces.{Reading}
 use Rattle.lr_reading.specs.Sights.{Sight, Failed, Nothing, Saw, StateSights, found, found_kind, look_of, behind_state, entries_of}
 use Rattle.lr_laws_targets.specs.Target.{Target}
-use Rattle.lr_seen.proofs.Coming.{Comes, was_looked, in_looked}
+use Rattle.lr_seen.proofs.Coming.{Comes, was_looked}
 use Rattle.lr_seen.proofs.Listed.{WasShown, all_shown}
 use Rattle.lr_seen.proofs.Ready.{by_copy}
 use Rattle.lr_stood.specs.True.{IsTrueFamily, AreTrue}
-use Rattle.lr_spared.specs.Smooth.{IsCopied, IsPartOfOne}
 use Rattle.lr_run.proofs.Members.{HasMembers, part_is_members}
 
 -- ---- the part file of a copy
@@ -57,28 +52,9 @@ in_has x (y ∷ ys) (inr i) = go (bytes_eq x y) (in_has x ys i)
 made_gone : (rule : Rule) (look : LogLook) → makes_dir rule look ≡ true → look.stand.there ≡ false
 made_gone rule look is = not-true look.stand.there (and_parts (not look.stand.there) _ (and_parts (is_made rule.createolddir) _ is).1).0
 
--- the log is one of those that are kept, of the definition at this place
-pub record IsKeptAs (logs : List FoundLog) (t : Target) (place : ℕ) : Type 0 where
-  pub found : FoundLog
-  pub among : IsIn found logs
-  pub set : found.log.set ≡ place
-  pub path : found.log.path ≡ t.log
-  pub naming : found.log.naming ≡ t.naming
-
 module _ {reserved : List Path} {clock : Clock} (rules : List Rule) (sets : List SetLooks) (faults : List Fault) (ts : List Entry) (s : ShowsLooks reserved rules sets faults ts) (t : Target) (c : Comes clock rules sets t) where
   looked : IsIn (looked_in (0 + c.place) c.look) s.looked
   looked = was_looked 0 c.place s.looked sets c.set c.look s.by_sets c.at_set c.among
-
-  pub kept_as : IsKeptAs s.kept t c.place
-  kept_as =
-      let g = in_looked s.kept s.entries.second.families.sights (looked_in (0 + c.place) c.look) (subst (IsIn (looked_in (0 + c.place) c.look)) s.entries.second.families.looked_are looked) in
-      record {
-        found = g.0;
-        among = g.1;
-        set = let e : g.0.log.set ≡ 0 + c.place = ap (λ (y : LookedLog). y.set) (sym g.2.1) in omega (arith, e);
-        path = ap (λ (y : LookedLog). y.path) (sym g.2.1) ∙ ap (λ (u : Target). u.log) (sym c.is);
-        naming = ap (λ (y : LookedLog). y.naming) (sym g.2.1) ∙ ap (λ (u : Target). u.naming) (sym c.is);
-      }
 
   -- its copy is the one that the look asks for, by what stands as the rotation begins
   copied : (job : Job) → t.job ≡ Some job → (cut : Bool) × (copy_job (standing c.rule c.look) (ready_for clock c.rule c.look).target cut ≡ job)
@@ -95,21 +71,6 @@ module _ {reserved : List Path} {clock : Clock} (rules : List Rule) (sets : List
       go : (made : Bool) → makes_dir c.rule c.look ≡ made → IsIn x (if made then empty_stand else c.look.stand).parts
       go false is = i
       go true is = absurd (subst (IsIn x) (shown.2 (made_gone c.rule c.look is)).parts i)
-
-  pub is_copied : (job : Job) → t.job ≡ Some job → IsCopied rules kept_as.found
-  is_copied job is = record { rule = c.rule; at = ap (slice_get rules) kept_as.set ∙ c.at_rule; way = λ renamed. no_job c.rule.way renamed (sym (ap (λ (u : Target). u.job) c.is) ∙ is) }
-    where
-      no_job : (w : Way) → w ≡ way.Rename → job_by w (standing c.rule c.look) (ready_for clock c.rule c.look).target ≡ Some job → ⊥
-      no_job way.Rename same e = cc
-      no_job way.Copy same e = cc
-      no_job way.CopyTruncate same e = cc
-      no_job way.RenameCopy same e = cc
-
-  pub job_limit : (job : Job) → t.job ≡ Some job → job.limit ≡ 1_099_511_627_776
-  job_limit job is = ap (λ (k : Job). k.limit) (sym (copied job is).1)
-
-  pub part_of_one : HasMembers t → (job : Job) → t.job ≡ Some job → IsPartOfOne rules s.kept job.part
-  part_of_one h job is = record { found = kept_as.found; among = kept_as.among; copied = is_copied job is; part = subst (λ (n : Naming). IsMembersPart n job.part) (sym kept_as.naming) (part_is_members t h job is) }
 
   pub part_seen : (p q : Past) → AreTrue rules sets faults ts s p q → HasMembers t → (job : Job) → t.job ≡ Some job → IsFileAt (names (world p)) job.part → job.stale ≡ true
   part_seen p q a h job is file = subst (λ (k : Job). k.stale ≡ true) by.1 (in_has (part_of to) (stand_for c.rule c.look).parts (stands_then (part_of to)

@@ -1,17 +1,23 @@
 -- Calls in which nothing is in the way of a run.
-use Rattle.std.specs.Prelude.{◌≡◌, ◌≢◌, ◌≤◌, ◌⊎◌, ℕ, List, Some, length, slice_get}
+use Rattle.std.specs.Prelude.{◌≡◌, ◌≢◌, ◌≤◌, ◌⊎◌, ℕ, Bool, List, ◌++◌, length, Some}
+use Rattle.lr_rules.specs.declared.fault.Fault.{Fault}
+use Rattle.lr_rules.specs.declared.fault.Fault.TheVariants as fault
 use Rattle.lr_rules.specs.declared.path.Path.{Path}
-use Rattle.lr_rules.specs.declared.rule.Rule.{Rule}
-use Rattle.lr_rules.specs.declared.rule.Way.TheVariants as way
 use Rattle.lr_rules.specs.Match.{part_end, EndsWith}
 use Rattle.lr_rules.specs.StatePath.{state_part}
+use Rattle.lr_host.specs.declared.journal.Journal.{Journal}
 use Rattle.lr_host.specs.declared.thing.Thing.TheVariants as thing
 use Rattle.lr_host.specs.Fits.{IsFileAt}
 use Rattle.lr_host.specs.Lists.{IsIn}
 use Rattle.lr_host.specs.Quiet.{AttachedOnlySince}
 use Rattle.lr_host.specs.Told.{Counts, Rose}
 use Rattle.lr_host.specs.World.{Past, world, names}
-use Rattle.lr_family.specs.Parts.{IsDated, IsMembersPart}
+use Rattle.lr_family.specs.Parts.{IsDated}
+use Rattle.lr_copy.specs.declared.job.Job.{Job}
+use Rattle.lr_plan.specs.declared.plan.Plan.{Plan}
+use Rattle.lr_plan.specs.Steps.{steps_of_plan, state_steps}
+use Rattle.lr_acts.specs.Making.{all_of_sets}
+use Rattle.lr_acts.specs.Taken.{WasTaken, LastTaken}
 use Rattle.lr_looks.specs.Found.{FoundLog}
 use Rattle.lr_laws_family.specs.Moments.{IsBehind}
 
@@ -19,36 +25,20 @@ use Rattle.lr_laws_family.specs.Moments.{IsBehind}
 abbrev pub NoneRose : Counts → Counts → Type 0
 NoneRose before now = (Rose before.faults now.faults → ⊥) × (Rose before.bad_ends now.bad_ends → ⊥)
 
--- by the rule of its definition the log is copied, in the place of its rename
-pub record IsCopied (rules : List Rule) (found : FoundLog) : Type 0 where
-  pub rule : Rule
-  pub at : slice_get rules found.log.set ≡ Some rule
-  pub way : rule.way ≢ way.Rename
+-- Between the two pasts nothing is in the way of a run with this state, whose plan has these copies and makes these directories.
+pub record IsSmooth (state : Path) (jobs : List Job) (dirs : List Path) (before after : Past) : Type 0 where
+  -- no writer was attached to the path of a file that gets its name by a rename once it is whole, of a new state or of a copy, nor to that of such a directory, where the writer's file would stand in the way of its making
+  pub spared : AttachedOnlySince (λ x. (x ≢ state_part state) × (((job : Job) → IsIn job jobs → job.part ≢ x) × (IsIn x dirs → ⊥))) before after
+  -- at first nothing stood at the path of a copy's part file, or a regular file did
+  pub free : (job : Job) → IsIn job jobs → (names (world before) job.part ≡ thing.Nothing) ⊎ IsFileAt (names (world before)) job.part
+  -- no file was ever a log of these with more bytes than its copy may have
+  pub short : (job : Job) → IsIn job jobs → (m : Past) → IsBehind before m → IsBehind m after → (g : ℕ) → names (world m) job.from ≡ thing.File g → length ((world m).files g).bytes ≤ job.limit
 
--- the path is that of the part file of a member of one of these logs that is copied
-pub record IsPartOfOne (rules : List Rule) (logs : List FoundLog) (x : Path) : Type 0 where
-  pub found : FoundLog
-  pub among : IsIn found logs
-  pub copied : IsCopied rules found
-  pub part : IsMembersPart found.log.naming x
+-- Each path that one of these faults tells as taken, and that, however the state is written, no step of the plan or of the writing unlinks behind the one that needs it, was named at a moment from which on the tool unlinked it no more.
+abbrev pub WereTaken : Path → Plan → List Fault → Journal → Journal → Type 0
+WereTaken state plan faults before after =
+    (x : Path) → ((stale : Bool) (dirs : List Path) (text : List ℕ) → LastTaken x (all_of_sets (steps_of_plan plan) ++ state_steps state stale dirs text)) → IsIn (fault.Taken x) faults → WasTaken x (Some before) (Some after)
 
--- the path is that of the directory in which the members of one of these logs stand
-pub record IsDirOfOne (logs : List FoundLog) (x : Path) : Type 0 where
-  pub found : FoundLog
-  pub among : IsIn found logs
-  pub dir : found.log.naming.dir ≡ x
-
--- the path is that of a file that gets its name by a rename once it is whole: of a new state, or of such a part file
-abbrev pub IsWrittenFirst : Path → List Rule → List FoundLog → Path → Type 0
-IsWrittenFirst state rules logs x = (x ≡ state_part state) ⊎ IsPartOfOne rules logs x
-
--- Between the two pasts nothing is in the way of a run with this state and these rules that keeps these logs.
-pub record IsSmooth (state : Path) (rules : List Rule) (logs : List FoundLog) (before after : Past) : Type 0 where
-  -- no writer was attached to such a path, nor to that of such a directory: where the directory is missing, the writer's file would stand in the way of its making
-  pub spared : AttachedOnlySince (λ x. (IsWrittenFirst state rules logs x → ⊥) × (IsDirOfOne logs x → ⊥)) before after
-  -- at first nothing stood at the path of a part file, or a regular file did
-  pub free : (x : Path) → IsPartOfOne rules logs x → (names (world before) x ≡ thing.Nothing) ⊎ IsFileAt (names (world before)) x
-  -- no dated member of these has a name that ends as a part file's does, so that one that is taken isn't told in the words of a copy that broke off
-  pub told_apart : (f : FoundLog) → IsIn f logs → (x : Path) → IsDated f.log.naming x → EndsWith x part_end → ⊥
-  -- no file was ever a log of these that is copied with more than 2^40 bytes
-  pub short : (f : FoundLog) → IsIn f logs → IsCopied rules f → (m : Past) → IsBehind before m → IsBehind m after → (g : ℕ) → names (world m) f.log.path ≡ thing.File g → length ((world m).files g).bytes ≤ 1_099_511_627_776
+-- No dated member of these logs has a name that ends as a part file's does, so that one that is taken isn't told in the words of a copy that broke off.
+abbrev pub AreToldApart : List FoundLog → Type 0
+AreToldApart logs = (f : FoundLog) → IsIn f logs → (x : Path) → IsDated f.log.naming x → EndsWith x part_end → ⊥
