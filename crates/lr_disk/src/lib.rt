@@ -7,6 +7,7 @@
 //! All that the disk answers is what the disk has whose history its journal is. Begin with `Disk::new`.
 #![tactic(auto)]
 
+mod again;
 mod apply;
 mod bytes;
 mod change;
@@ -28,4 +29,5 @@ mod sync;
 mod tree;
 mod valid;
 
+pub use again::Replay;
 pub use disk::Disk;
