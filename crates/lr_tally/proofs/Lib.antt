@@ -1,0 +1,6 @@
+mod Entries
+mod Generations
+mod Lists
+mod Marked
+mod Paths
+mod Sets
