@@ -1,0 +1,5 @@
+mod Fronts
+mod JudgedLemmas
+mod LogLemmas
+mod MonthLemmas
+mod WordLemmas

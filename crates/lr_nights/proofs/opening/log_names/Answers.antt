@@ -1,0 +1,11 @@
+use Rattle.std.proofs.Common.{◌≡◌, ◌+◌, [], ◌∷◌, ◌++◌, ◌∙◌, ℕ, suc, rules, arith, sym}
+use Rattle.std.proofs.lemmas.List.{append-nil}
+use Rattle.lr_nights.specs.Opening.{log_path, log_names_from}
+use Rattle.lr_nights.proofs.Fronts.{moved}
+use Rattle.lr_nights.proofs.opening.log_names.Goals as goal
+
+pub loop-log-preserved : goal.loop-log-preserved
+loop-log-preserved c = λ left e. rw (c.in_ok-push.ensures.items, c.in_ok-log_name.ensures) (moved c.loop-log.names.items ((log_path c.loop-log.log, c.loop-log.log) ∷ []) (log_names_from (c.loop-log.log + 1) left) _ (c.loop-log.invariant (suc left) (omega arith)))
+
+pub returns : goal.returns
+returns c = sym (append-nil c.loop-log.names.items) ∙ c.loop-log.invariant 0 (omega arith)

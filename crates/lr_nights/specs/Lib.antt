@@ -1,0 +1,5 @@
+pub mod Draws
+pub mod Month
+pub mod Opening
+pub mod Printed
+pub mod Trial
