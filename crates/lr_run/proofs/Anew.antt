@@ -1,20 +1,18 @@
 -- The logs that a run makes anew have their paths named at its end, where nothing failed before.
-use Rattle.std.proofs.Common.{◌≡◌, ◌≢◌, ◌⊎◌, inl, inr, ⊎_elim, Bool, true, false, refl, sym, ap, ◌∙◌, subst, List, [], ◌∷◌, ◌++◌, map, reverse, Option, Some, None, Result, Ok, Err, OnOk}
+use Rattle.std.proofs.Common.{◌≡◌, ◌≢◌, ◌⊎◌, inl, inr, ⊎_elim, Bool, true, false, refl, sym, ap, ◌∙◌, subst, List, [], ◌∷◌, ◌++◌, map, reverse, Option, Some, None}
 use Rattle.std.specs.Prelude.{codes}
 use Rattle.std.specs.List.{flat_map}
 use Rattle.lr_rules.specs.declared.path.Path.{Path}
 use Rattle.lr_rules.specs.declared.clock.Clock.{Clock}
 use Rattle.lr_rules.specs.declared.fault.Fault.{Fault}
 use Rattle.lr_rules.specs.declared.fault.Phase.TheVariants as phase
-use Rattle.lr_rules.specs.declared.memory.Memory.{Memory}
 use Rattle.lr_rules.specs.declared.rule.Rule.{Rule}
 use Rattle.lr_rules.specs.declared.rules.Rules.{Rules}
 use Rattle.lr_rules.specs.Names.{the_log}
 use Rattle.lr_host.specs.declared.entry.Entry.{Entry}
-use Rattle.lr_host.specs.declared.entry.Entry.TheVariants.{Ends}
 use Rattle.lr_host.specs.declared.journal.Journal.{Journal}
 use Rattle.lr_host.specs.Lists.{IsIn}
-use Rattle.lr_host.specs.Told.{Are, Counts, Left, Then, WhereTold, not_told, is_told}
+use Rattle.lr_host.specs.Told.{Left, not_told, is_told}
 use Rattle.lr_host.proofs.Lists.{in_front, in_back}
 use Rattle.lr_due.specs.declared.answer.Due.{Due}
 use Rattle.lr_scripts.specs.declared.command.Command.{Command}
@@ -23,6 +21,7 @@ use Rattle.lr_plan.specs.declared.looks.LogLook.{LogLook}
 use Rattle.lr_plan.specs.declared.looks.Looks.{Looks}
 use Rattle.lr_plan.specs.declared.looks.SetLooks.{SetLooks}
 use Rattle.lr_plan.specs.declared.mark.Mark.{Mark}
+use Rattle.lr_plan.specs.declared.mark.Mark.TheVariants as mark
 use Rattle.lr_plan.specs.declared.plan.LogPlan.{LogPlan}
 use Rattle.lr_plan.specs.declared.plan.Plan.{Plan}
 use Rattle.lr_plan.specs.declared.plan.SetPlan.{SetPlan}
@@ -33,14 +32,12 @@ use Rattle.lr_plan.specs.Course.{Course}
 use Rattle.lr_plan.specs.Done.{EachDone, LogsDone, SetDone, broke_off, went_on, SetsDone, rotated_logs}
 use Rattle.lr_plan.specs.Outcomes.{Fails, marks_of}
 use Rattle.lr_plan.specs.Planned.{decision}
-use Rattle.lr_plan.specs.Steps.{program, by_logs, steps_of_set, steps_of_plan, state_steps}
-use Rattle.lr_acts.specs.declared.progress.Progress.{Progress}
+use Rattle.lr_plan.specs.Steps.{program, by_logs, steps_of_set, steps_of_plan}
 use Rattle.lr_acts.specs.Making.{all_of_each, all_of_set, all_of_sets}
-use Rattle.lr_acts.specs.Named.{IsNamed, CreatesAt, OneCreates, LastsBehind, TellCreated}
+use Rattle.lr_acts.specs.Named.{IsNamed, CreatesAt, OneCreates, LastsBehind, IsCreated, TellCreated, KeepsNames}
 use Rattle.lr_looks.specs.Shown.{ShowsLooks, LooksAtAll}
 use Rattle.lr_laws_targets.proofs.LogSeen.{log_among}
 use Rattle.lr_reading.specs.declared.remembered.Remembered.{Remembered}
-use Rattle.lr_record.specs.After.{stamped}
 use Rattle.lr_seen.specs.Free.{reserved_by, IsFreeOf}
 use Rattle.lr_seen.specs.Targets.{groups_of, all_targets}
 use Rattle.lr_seen.proofs.Apart.{targets_dont_meet}
@@ -50,15 +47,14 @@ use Rattle.lr_seen.proofs.Ready.{plans_have_logs}
 use Rattle.lr_seen.proofs.Seen.{targets_seen}
 use Rattle.lr_state.specs.Written.{text_of}
 use Rattle.lr_laws_targets.specs.Target.{Target}
-use Rattle.lr_writing.specs.Target.{Target as Writing}
 use Rattle.lr_weave.specs.Planned.{AreReadyFor}
-use Rattle.lr_run.specs.declared.ready.Ready.{Ready}
-use Rattle.lr_run.specs.Anew.{StopsAnew, StopsEach, StopsSets, AnewAt, NamesAnew}
-use Rattle.lr_run.specs.Internal.{ReadyFor, ActsAndWrites, SeenBefore}
-use Rattle.lr_run.proofs.Keeping.{writing_keeps, end_keeps}
+use Rattle.lr_record.specs.After.{after}
+use Rattle.lr_run.specs.Anew.{StopsAnew, StopsEach, StopsSets}
+use Rattle.lr_run.specs.Internal.{plan_for, steps_behind}
+use Rattle.lr_run.specs.Work.{Acts}
+use Rattle.lr_run.proofs.Keeping.{writing_keeps}
 use Rattle.lr_run.proofs.Lasting.{NoneCreates, create_split, create_later, none_creates, plan_lasts, created_among}
 use Rattle.lr_run.proofs.Members.{HaveMembers, seen_members, all_ready}
-use Rattle.lr_run.proofs.Works.{PlanFor}
 
 -- ---- courses
 
@@ -138,7 +134,7 @@ module _ (x : Path) where
   LastsNone [] = Unit {0}
   LastsNone (s ∷ sets) = NoneCreates x s.last × LastsNone sets
 
-  sets_made : (sets : List SetSteps) (ms : List Mark) (fs : List Fault) (ts : List Entry) → LastsNone sets → SetsDone sets ms fs ts → OneCreates x (all_of_sets sets) → MadeOr (StopsSets x sets) ms fs
+  pub sets_made : (sets : List SetSteps) (ms : List Mark) (fs : List Fault) (ts : List Entry) → LastsNone sets → SetsDone sets ms fs ts → OneCreates x (all_of_sets sets) → MadeOr (StopsSets x sets) ms fs
   sets_made [] ms fs ts n d one = absurd one
   sets_made (s ∷ sets) ms fs ts n d one = ⊎_elim
       (λ here. made_front (StopsSet s) (StopsSets x (s ∷ sets)) (λ f h. inl h) ms d.first_marks d.second_marks fs d.first_faults d.second_faults d.marks_are d.faults_are (set_made s d.first_marks d.first_faults d.entries.front n.0 d.entries.first here))
@@ -150,7 +146,7 @@ module _ (x : Path) where
   last_none None = tt
   last_none (Some command) = ((λ h. h), tt)
 
-  plan_lasts_none : (sets : List SetPlan) → LastsNone (map steps_of_set sets)
+  pub plan_lasts_none : (sets : List SetPlan) → LastsNone (map steps_of_set sets)
   plan_lasts_none [] = tt
   plan_lasts_none (set ∷ sets) = (go set.shared set.logs, plan_lasts_none sets)
     where
@@ -180,75 +176,50 @@ module _ (state : Path) (rules : Rules) (sets : List SetLooks) (faults : List Fa
 
 -- ---- the run
 
-where_named : (plan : Plan) (faults : List Fault) (n : Option Journal) → ((x : Path) → OneCreates x (all_of_sets (steps_of_plan plan)) → IsNamed x n ⊎ ((f : Fault) × IsIn f faults × StopsSets x (steps_of_plan plan) f)) → WhereTold n (AnewAt plan faults)
-where_named plan faults None h = tt
-where_named plan faults (Some k) h = h
+-- a mark tells of the log
+tell_of : (x : Path) (ms : List Mark) → IsIn (mark.Created x) ms → TellCreated x ms
+tell_of x [] i = i
+tell_of x (m ∷ ms) (inl same) = inl (subst (IsCreated x) (sym same) refl)
+tell_of x (m ∷ ms) (inr later) = inr (tell_of x ms later)
 
-module _ (state : Path) (rules : Rules) (looks : Looks) (remembered : Remembered) (clock : Clock) (asked : Asked) (ready : Ready) (x y z : Progress) where
+pub mark_of : (x : Path) (ms : List Mark) → TellCreated x ms → IsIn (mark.Created x) ms
+mark_of x [] t = t
+mark_of x (m ∷ ms) (inl here) = inl (one m here)
+  where
+    one : (m : Mark) → IsCreated x m → m ≡ mark.Created x
+    one (mark.Created new) is = ap mark.Created is
+    one _ none = absurd none
+mark_of x (m ∷ ms) (inr later) = inr (mark_of x ms later)
+
+-- a log that a step of the plan made anew is named at the end
+module _ (state : Path) (rules : Rules) (looks : Looks) (remembered : Remembered) (clock : Clock) (asked : Asked) (acts : Acts) where
   abbrev planned : Plan
-  planned = PlanFor rules looks remembered clock asked
+  planned = plan_for rules looks remembered clock asked
 
   abbrev decide : Rule → LogLook → Due
   decide = decision remembered.table clock.now asked.force
 
-  acted : (a b : List Fault) {o m n : Option Journal} (k l : Counts) → ReadyFor state clock.now remembered looks.kept planned ready x y → Left (LooksAtAll (reserved_by state) rules.sets looks a b) o m → ActsAndWrites ready clock.now.civil y z m n k l → WhereTold n (AnewAt planned z.faults.items)
-  acted a b k l r not_told h = untold h.entries
+  untold : {P : List Entry → Type 0} {n : Option Journal} → Left P None n → (x : Path) → IsNamed x n
+  untold not_told x = tt
+
+  pub anew_named : (a b : List Fault) {P : List Entry → Type 0} {o m n middle : Option Journal} → Left (LooksAtAll (reserved_by state) rules.sets looks a b) o m → Left P m n → KeepsNames (all_of_sets (steps_of_plan planned)) acts.marks m middle
+      → Left (Course (steps_behind state looks remembered clock acts) [] acts.of_state) middle n → (x : Path) → IsIn (mark.Created x) acts.marks → IsNamed x n
+  anew_named a b not_told did names wrote x i = untold did x
+  anew_named a b {n = n} {middle = middle} (is_told {es = es} made g) did names wrote x i =
+      writing_keeps state remembered.stale acts.dirs (text_of (after remembered.table (rotated_logs acts.marks) looks.kept clock.now.civil)) acts.of_state x (out state (inl refl)) (out (state ++ codes ".tmp") (inr (inl refl))) wrote
+      (names.created x behind tell)
     where
-      untold : {P : List Entry → Type 0} {n : Option Journal} → Left P None n → WhereTold n (AnewAt planned z.faults.items)
-      untold not_told = tt
-  acted a b {n = n} k l r (is_told {j = i} {k = j} {es = es} made g) h = where_named planned z.faults.items n each
-    where
+      tell : TellCreated x acts.marks
+      tell = tell_of x acts.marks i
+
+      one : OneCreates x (all_of_sets (steps_of_plan planned))
+      one = names.planned x tell
+
       ready_for : AreReadyFor (targets state rules looks.sets g.own (reverse es) clock asked.mailer decide planned.sets g.shown) (flat_map (λ (set : SetPlan). set.logs) planned.sets)
       ready_for = all_ready (groups_of clock decide rules.sets looks.sets) planned.sets (plans_have_logs rules.sets looks.sets g.own (reverse es) clock asked.mailer decide g.shown)
 
-      done : {P Q : List Entry → Type 0} {n : Option Journal} → Left (Then P Q) (Some j) n → (ts : List Entry) × P ts
-      done (is_told made t) = (t.front, t.first)
+      behind : LastsBehind x (all_of_sets (steps_of_plan planned))
+      behind = lasts state rules looks.sets g.own (reverse es) clock asked.mailer decide planned.sets g.shown ready_for x one
 
-      -- a fault of the acts is one of all
-      told : (f : Fault) → IsIn f h.of_plan → IsIn f z.faults.items
-      told f i = subst (IsIn f) (sym h.faults_are) (in_back f y.faults.items (h.of_plan ++ h.of_state) (in_front f h.of_plan h.of_state i))
-
-      each : (v : Path) → OneCreates v (all_of_sets (steps_of_plan planned)) → IsNamed v n ⊎ ((f : Fault) × IsIn f z.faults.items × StopsSets v (steps_of_plan planned) f)
-      each v one = ⊎_elim (λ t. inl (stays (h.names.created v (subst (λ (ss : List SetSteps). LastsBehind v (all_of_sets ss)) (sym r.is.steps) behind) t))) (λ s. inr (s.0, told s.0 s.1, s.2))
-          (sets_made v (steps_of_plan planned) h.marks h.of_plan (done acts).0 (plan_lasts_none v planned.sets) (done acts).1 one)
-        where
-          acts : Left (Then (SetsDone (steps_of_plan planned) h.marks h.of_plan) (Course (state_steps ready.writing.state ready.writing.stale h.dirs (text_of (map (stamped (rotated_logs h.marks) clock.now.civil) ready.table))) [] h.of_state)) (Some j) n
-          acts = subst (λ (ss : List SetSteps). Left (Then (SetsDone ss h.marks h.of_plan) (Course (state_steps ready.writing.state ready.writing.stale h.dirs (text_of (map (stamped (rotated_logs h.marks) clock.now.civil) ready.table))) [] h.of_state)) (Some j) n) r.is.steps h.entries
-
-          behind : LastsBehind v (all_of_sets (steps_of_plan planned))
-          behind = lasts state rules looks.sets g.own (reverse es) clock asked.mailer decide planned.sets g.shown ready_for v one
-
-          out : (w : Path) → IsIn w (reserved_by state) → v ≢ w
-          out = free state rules looks.sets g.own (reverse es) clock asked.mailer decide planned.sets g.shown ready_for v one
-
-          state_is : ready.writing.state ≡ state
-          state_is = ap (λ (w : Writing). w.state) r.is.writes
-
-          stays : IsNamed v h.middle → IsNamed v n
-          stays named = writing_keeps ready.writing.state ready.writing.stale h.dirs h.text h.of_state v (λ same. out state (inl refl) (same ∙ state_is)) (λ same. out (state ++ codes ".tmp") (inr (inl refl)) (same ∙ ap (λ (w : Path). w ++ codes ".tmp") state_is)) h.wrote named
-
-pub carried_anew : {T : Type 0} (r : Result T Memory) (state : Path) (rules : Rules) (looks : Looks) (remembered : Remembered) (clock : Clock) (asked : Asked) (plan : Option Plan) (ready : Ready) (x y z : Progress) (m n : Option Journal) (k l : Counts)
-    → plan ≡ Some (PlanFor rules looks remembered clock asked) → ReadyFor state clock.now remembered looks.kept (PlanFor rules looks remembered clock asked) ready x y → SeenBefore state rules looks remembered m → OnOk r (ActsAndWrites ready clock.now.civil y z m n k l)
-    → OnOk r (NamesAnew plan z.faults.items n)
-carried_anew (Err u) state rules looks remembered clock asked plan ready x y z m n k l is r seen h = tt
-carried_anew (Ok u) state rules looks remembered clock asked plan ready x y z m n k l is r seen h = λ p e. subst (λ (q : Plan). WhereTold n (AnewAt q z.faults.items)) (same p e) (acted state rules looks remembered clock asked ready x y z seen.faults seen.all_faults k l r seen.looked h)
-  where
-    same : (p : Plan) → plan ≡ Some p → PlanFor rules looks remembered clock asked ≡ p
-    same p e = let both : Some (PlanFor rules looks remembered clock asked) ≡ Some p = sym is ∙ e in cc
-
--- it came to no plan
-pub none_anew : (plan : Option Plan) (fs : List Fault) (n : Option Journal) → plan ≡ None → NamesAnew plan fs n
-none_anew plan fs n none p e = absurd (let no : None ≡ Some p = sym none ∙ e in cc)
-
-pub no_anew : {T E : Type 0} (r : Result T E) (plan : Option Plan) (fs : List Fault) (n : Option Journal) → plan ≡ None → OnOk r (NamesAnew plan fs n)
-no_anew (Err u) plan fs n none = tt
-no_anew (Ok u) plan fs n none = none_anew plan fs n none
-
--- before the end of the run
-pub anew_to_end : {T E : Type 0} (r : Result T E) (plan : Option Plan) (fs : List Fault) {m n : Option Journal} → Left (Are (Ends ∷ [])) m n → OnOk r (NamesAnew plan fs m) → OnOk r (NamesAnew plan fs n)
-anew_to_end (Err u) plan fs left h = tt
-anew_to_end (Ok u) plan fs {m} {n} left h = λ p e. where_named p fs n (λ x one. ⊎_elim (λ named. inl (end_keeps x left named)) (λ stop. inr stop) (at_last p fs m x one (h p e)))
-  where
-    at_last : (p : Plan) (fs : List Fault) (m : Option Journal) (x : Path) → OneCreates x (all_of_sets (steps_of_plan p)) → WhereTold m (AnewAt p fs) → IsNamed x m ⊎ ((f : Fault) × IsIn f fs × StopsSets x (steps_of_plan p) f)
-    at_last p fs None x one h = inl tt
-    at_last p fs (Some j) x one h = h x one
+      out : (w : Path) → IsIn w (reserved_by state) → x ≢ w
+      out = free state rules looks.sets g.own (reverse es) clock asked.mailer decide planned.sets g.shown ready_for x one

@@ -30,7 +30,8 @@ use Rattle.lr_acts.proofs.Taking.{taken_on}
 use Rattle.lr_record.specs.After.{is_among, stamped}
 use Rattle.lr_writing.specs.Writes.{AddsCourse}
 use Rattle.lr_run.specs.declared.ready.Ready.{Ready}
-use Rattle.lr_run.specs.Internal.{AreBehind, CanWrite, ActsAndWrites, SomeActs}
+use Rattle.lr_run.specs.Internal.{AreBehind, CanWrite, ActsAndWrites, SomeActs, writing_steps}
+use Rattle.lr_run.specs.Work.{Acts}
 
 -- ---- marks one behind another
 
@@ -93,21 +94,25 @@ module _ (ready : Ready) (x y : Progress) (before : ℕ) (dirs : List Path) (o m
 
   pub acts_and_writes : (now : Civil) (z : Progress) (n : Option Journal) (l : Counts) → AddsCourse (state_steps ready.writing.state ready.writing.stale dirs (Text ready now y before)) y.faults.items z.faults.items m n k l → ActsAndWrites ready now x z o n j l
   acts_and_writes now z n l s = record {
-    marks = a.marks;
-    dirs = dirs;
+    acts = acts;
     dirs_are = dirs_are;
-    of_plan = a.faults;
-    of_state = s.added;
-    faults_are = s.now_is ∙ (ap (λ (fs : List Fault). fs ++ s.added) a.faults_are ∙ append_assoc x.faults.items a.faults s.added);
-    entries = left_both a.entries (left_as s.entries (λ (ts : List Entry) w.
-        subst (λ (ms : List Mark). Course (state_steps ready.writing.state ready.writing.stale dirs (text_of (map (stamped (rotated_logs ms) now) ready.table))) [] s.added ts) own w.0));
-    are_counted = counted_on a.faults s.added j k l a.are_counted s.are_counted;
-    text = Text ready now y before;
-    taken = taken_on (all_of_sets ready.steps) (state_steps ready.writing.state ready.writing.stale dirs (Text ready now y before)) a.faults s.added a.entries s.entries a.taken s.taken;
+    faults_are = w.now_is ∙ (ap (λ (fs : List Fault). fs ++ w.added) a.faults_are ∙ append_assoc x.faults.items a.faults w.added);
+    entries = left_both a.entries wrote;
+    are_counted = counted_on a.faults w.added j k l a.are_counted w.are_counted;
+    taken = taken_on (all_of_sets ready.steps) (writing_steps ready.writing ready.table now acts) a.faults w.added a.entries w.entries a.taken w.taken;
     middle = m;
     names = a.names;
-    wrote = left_as s.entries (λ (ts : List Entry) w. w.0);
+    wrote = wrote;
   }
+    where
+      w : AddsCourse (state_steps ready.writing.state ready.writing.stale dirs (text_of (map (stamped (rotated_logs a.marks) now) ready.table))) y.faults.items z.faults.items m n k l
+      w = subst (λ (ms : List Mark). AddsCourse (state_steps ready.writing.state ready.writing.stale dirs (text_of (map (stamped (rotated_logs ms) now) ready.table))) y.faults.items z.faults.items m n k l) own s
+
+      acts : Acts
+      acts = record { marks = a.marks; dirs = dirs; of_logs = a.faults; of_state = w.added }
+
+      wrote : Left (Course (writing_steps ready.writing ready.table now acts) [] w.added) m n
+      wrote = left_as w.entries (λ (ts : List Entry) v. v.0)
 
 -- ---- a first part of the acts
 

@@ -16,19 +16,16 @@ use Rattle.lr_plan.specs.declared.plan.Plan.{Plan}
 use Rattle.lr_host.proofs.Counts.{adds_free, adds_call}
 use Rattle.lr_run.specs.declared.directory.DirStop.{DirStop}
 use Rattle.lr_run.specs.declared.directory.DirStop.TheVariants as dir
-use Rattle.lr_run.specs.Internal.{dir_fault_of, WorksOn, SomeWork}
+use Rattle.lr_run.specs.Internal.{dir_fault_of, CameTo, WorksOn, SomeWork}
 use Rattle.lr_run.proofs.Entries.{works_so, lacking_so}
+use Rattle.lr_run.proofs.Old.{works_of}
 use Rattle.lr_run.proofs.Working.{IsWork, IsOn, does_work, goes_on}
 
 -- the run is on where the work ends
-pub end_there : {T E : Type 0} (r : Result T E) (state : Path) (rules : List Rule) (clock : Clock) (asked : Asked) (plan : Option Plan) (a b : List Fault) (o n : Option Journal) → OnOk r (Left (WorksOn state rules clock asked plan a b) o n) → OnErr r (Left (SomeWork state rules clock asked) o n)
+pub end_there : {T E : Type 0} (r : Result T E) (state : Path) (rules : List Rule) (clock : Clock) (asked : Asked) (plan : Option Plan) (a b : List Fault) (o n : Option Journal) → OnOk r (CameTo (WorksOn state rules clock asked plan a b) state clock o n) → OnErr r (Left (SomeWork state rules clock asked) o n)
     → WhereTold o IsOn → WhereTold n IsOn
-end_there (Ok x) state rules clock asked plan a b o n l s on = goes_on l (λ ts h. works_so IsWork (λ x place piece short. tt) does_work state rules clock asked plan h.0 ts h.2) on
-end_there (Err x) state rules clock asked plan a b o n l s on = goes_on s (λ ts h. lacking_so IsWork (λ x place piece short. tt) does_work state rules clock asked ts h) on
-
-pub work_ended : {T E : Type 0} (r : Result T E) (P Q : List Entry → Type 0) (o m n : Option Journal) → OnOk r (Left P o m) → Left Q m n → OnOk r (Left (Then P Q) o n)
-work_ended (Ok x) P Q o m n l k = left_both l k
-work_ended (Err x) P Q o m n l k = tt
+end_there (Ok x) state rules clock asked plan a b o n h s on = goes_on h.shows (λ ts g. let w = works_of state rules clock asked plan a b h.work ts g in works_so IsWork (λ x place piece short. tt) does_work state rules clock asked plan w.0 ts w.1) on
+end_there (Err x) state rules clock asked plan a b o n h s on = goes_on s (λ ts g. lacking_so IsWork (λ x place piece short. tt) does_work state rules clock asked ts g) on
 
 pub work_lacked : {T E : Type 0} (r : Result T E) (P Q : List Entry → Type 0) (o m n : Option Journal) → OnErr r (Left P o m) → Left Q m n → OnErr r (Left (Then P Q) o n)
 work_lacked (Ok x) P Q o m n l k = tt

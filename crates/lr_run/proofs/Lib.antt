@@ -23,11 +23,18 @@ pub mod Members
 mod Keeping
 mod Lasting
 pub mod Anew
+mod Doing
+pub mod Knowing
+mod Coming
+pub mod Old
 mod Covering
 pub mod Made
 mod Guarding
 pub mod Renewing
 mod Newest
 pub mod Emptying
+mod Trying
+mod Sighted
+mod OldDry
 pub mod Drying
 mod Short

@@ -1,5 +1,5 @@
 -- Each read of a run gave 65,536 bytes at most.
-use Rattle.std.proofs.Common.{◌≤◌, ⊎_elim, Bool, true, false, List, [], ◌∷◌, ◌++◌, length, Option, Result, Ok, Err, sym, subst}
+use Rattle.std.proofs.Common.{◌≤◌, ⊎_elim, true, false, List, [], ◌∷◌, ◌++◌, length, Option, Result, Ok, Err, sym, subst}
 use Rattle.lr_rules.specs.declared.path.Path.{Path}
 use Rattle.lr_rules.specs.declared.clock.Clock.{Clock}
 use Rattle.lr_rules.specs.declared.fault.Fault.{Fault}
@@ -9,8 +9,10 @@ use Rattle.lr_host.specs.declared.entry.Entry.{Entry}
 use Rattle.lr_host.specs.declared.entry.Entry.TheVariants as entry
 use Rattle.lr_host.specs.declared.thing.Seen.{Seen}
 use Rattle.lr_host.specs.Looks.{Sees, IsDir, IsNotDir}
-use Rattle.lr_host.specs.Told.{Each}
+use Rattle.lr_host.specs.declared.journal.Journal.{Journal}
+use Rattle.lr_host.specs.Told.{Each, Left}
 use Rattle.lr_host.proofs.Each.{each_append}
+use Rattle.lr_host.proofs.Left.{left_as}
 use Rattle.lr_plan.specs.Asked.{Asked}
 use Rattle.lr_plan.specs.declared.plan.Plan.{Plan}
 use Rattle.lr_laws_family.proofs.Weaving.{each_in}
@@ -18,9 +20,10 @@ use Rattle.lr_run.specs.declared.answer.Ran.{Ran}
 use Rattle.lr_run.specs.declared.answer.RunStop.{RunStop}
 use Rattle.lr_run.specs.declared.answer.RunStop.TheVariants as stop
 use Rattle.lr_run.specs.Answers.{Answers, HasShortReads}
+use Rattle.lr_run.specs.Ran.{RanSo}
 use Rattle.lr_run.specs.Runs.{Inside, Runs, no_directory, not_seen, not_begun, began, LacksMemory, at_first, in_looks, in_acts}
-use Rattle.lr_run.proofs.Drying.{answers_so}
 use Rattle.lr_run.proofs.Entries.{first_so, works_so, broke_so}
+use Rattle.lr_run.proofs.Sighted.{ends_so}
 use Rattle.lr_run.proofs.Working.{IsDoing}
 
 abbrev IsShort : Entry → Type 0
@@ -54,9 +57,12 @@ lacks_short state asked clock rules ts (at_first none) = subst (Each IsShort) (s
 lacks_short state asked clock rules ts (in_looks i) = inside_short state clock rules _ ts (first_so IsShort (λ x place piece short. short) does_short state rules.sets) i
 lacks_short state asked clock rules ts (in_acts i) = inside_short state clock rules _ ts (broke_so IsShort (λ x place piece short. short) does_short state rules.sets clock asked) i
 
--- whatever the answer, and whether the run is dry or not
-pub answers_short : (state : Path) (debug : Bool) (asked : Asked) (clock : Clock) (rules : Rules) (earlier : List Fault) (r : Result Ran RunStop) (ts : List Entry) → Answers state debug asked clock rules earlier r ts → HasShortReads ts
-answers_short state true asked clock rules earlier r ts h = short_reads ts (answers_so IsShort (λ x seen. tt) (λ x names. tt) (λ x place piece short. short) state asked clock rules earlier r ts h)
-answers_short state false asked clock rules earlier (Ok ran) ts h = short_reads ts (runs_short state asked clock rules ran.plan h.0 ts h.2)
-answers_short state false asked clock rules earlier (Err stop.Held) ts h = short_reads ts (sees_short (parent_of state) IsDir ts h)
-answers_short state false asked clock rules earlier (Err stop.Memory) ts h = short_reads ts (lacks_short state asked clock rules ts h)
+-- whatever the answer
+pub answers_short : (state : Path) (asked : Asked) (clock : Clock) (rules : Rules) (earlier : List Fault) (r : Result Ran RunStop) (ts : List Entry) → Answers state false asked clock rules earlier r ts → HasShortReads ts
+answers_short state asked clock rules earlier (Ok ran) ts h = short_reads ts (runs_short state asked clock rules ran.plan h.0 ts h.2)
+answers_short state asked clock rules earlier (Err stop.Held) ts h = short_reads ts (sees_short (parent_of state) IsDir ts h)
+answers_short state asked clock rules earlier (Err stop.Memory) ts h = short_reads ts (lacks_short state asked clock rules ts h)
+
+-- and so of a dry run
+pub dry_short : (state : Path) (rules : Rules) (clock : Clock) (asked : Asked) (earlier : List Fault) (r : Result Ran RunStop) {o n : Option Journal} → RanSo true state rules clock asked earlier r o n → Left HasShortReads o n
+dry_short state rules clock asked earlier r ran = left_as ran.shows (λ ts h. short_reads ts (ends_so IsShort (λ x seen. tt) (λ x names. tt) (λ x place piece short. short) state rules clock asked earlier r ran.work ts h))

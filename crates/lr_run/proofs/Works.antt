@@ -1,5 +1,5 @@
 -- The work of a run, put together of its parts.
-use Rattle.std.proofs.Common.{◌≡◌, ◌≤◌, ◌<◌, ℕ, Bool, true, List, [], ◌∷◌, ◌++◌, length, take, map, reverse, Option, Some, None, Result, Ok, Err, OnErr, refl, sym, ap, ◌∙◌, subst, arith, append_assoc, rules}
+use Rattle.std.proofs.Common.{◌≡◌, ◌≤◌, ◌<◌, true, List, [], ◌∷◌, ◌++◌, length, take, map, reverse, Option, Some, None, Result, Ok, Err, OnErr, refl, sym, ap, ◌∙◌, subst, arith, rules}
 use Rattle.std.specs.Prelude.{OnOk}
 use Rattle.std.specs.Result.{IsErr}
 use Rattle.std.proofs.lemmas.Result.{IfOk-from_err}
@@ -9,7 +9,6 @@ use Rattle.std.proofs.lemmas.List.{append-nil}
 use Rattle.std.proofs.Math.Seq.{take-length}
 use Rattle.lr_rules.specs.Limits.{meets_limits}
 use Rattle.lr_rules.specs.declared.path.Path.{Path}
-use Rattle.lr_rules.specs.declared.civil.Civil.{Civil}
 use Rattle.lr_rules.specs.declared.clock.Clock.{Clock}
 use Rattle.lr_rules.specs.declared.fault.CallKind.{CallKind}
 use Rattle.lr_rules.specs.declared.fault.Fault.{Fault}
@@ -21,46 +20,40 @@ use Rattle.lr_rules.specs.declared.rules.Rules.{Rules}
 use Rattle.lr_host.specs.declared.entry.Entry.{Entry}
 use Rattle.lr_host.specs.declared.journal.Journal.{Journal}
 use Rattle.lr_host.specs.Opening.{IsJournal}
-use Rattle.lr_host.specs.Told.{Counts, NoneFell, Rose, Left, Then, not_told, is_told, WhereTold}
+use Rattle.lr_host.specs.Told.{Counts, NoneFell, Rose, Left, not_told, is_told, WhereTold}
 use Rattle.lr_host.specs.Steps.{CanAll}
 use Rattle.lr_host.proofs.Left.{left_as, left_first, left_then}
 use Rattle.lr_state.specs.Table.{Entry as Row}
-use Rattle.lr_state.specs.Written.{text_of}
 use Rattle.lr_due.specs.declared.answer.Due.{Due}
 use Rattle.lr_due.specs.declared.answer.Due.TheVariants as due
 use Rattle.lr_plan.specs.Asked.{Asked}
 use Rattle.lr_plan.specs.declared.looks.LogLook.{LogLook}
 use Rattle.lr_plan.specs.declared.looks.Looks.{Looks}
 use Rattle.lr_plan.specs.declared.looks.SetLooks.{SetLooks}
-use Rattle.lr_plan.specs.declared.mark.Mark.{Mark}
 use Rattle.lr_plan.specs.declared.plan.Plan.{Plan}
 use Rattle.lr_plan.specs.declared.step.SetSteps.{SetSteps}
 use Rattle.lr_plan.specs.declared.step.Step.{Step}
 use Rattle.lr_host.specs.Counted.{AddsFaults}
-use Rattle.lr_plan.specs.Course.{Course}
-use Rattle.lr_plan.specs.Done.{SetsDone, rotated_logs}
 use Rattle.lr_plan.specs.Cut.{SetsCut}
 use Rattle.lr_plan.specs.Asking.{asks, CanMake, CanEach, CanSet, CanSets}
 use Rattle.lr_plan.specs.Planned.{decision, stand_for, hindrances, where_due, log_faults, all_plans, all_faults, plan_of, CanPlanAll}
-use Rattle.lr_plan.specs.Steps.{steps_of_set, steps_of_plan, state_steps}
+use Rattle.lr_plan.specs.Steps.{steps_of_set, steps_of_plan}
 use Rattle.lr_host.proofs.Counts.{AreFree, free_none, free_on, adds_on, adds_free, adds_call}
 use Rattle.lr_acts.specs.declared.progress.Progress.{Progress}
 use Rattle.lr_acts.specs.Making.{HasProgram, all_of_sets}
 use Rattle.lr_looks.specs.Families.{ShowFamilies, LooksAtFamilies, LookedAtSomeFamilies}
-use Rattle.lr_looks.specs.Found.{FoundLog, paths_of}
+use Rattle.lr_looks.specs.Found.{FoundLog}
 use Rattle.lr_looks.specs.Ready.{AreReady}
 use Rattle.lr_looks.specs.Shown.{ShowsLooks, LooksAtAll, ShowsSomeLooks, at_words, at_families}
 use Rattle.lr_looks.proofs.Behind.{as_many_sights}
 use Rattle.lr_reading.specs.declared.remembered.Remembered.{Remembered}
-use Rattle.lr_reading.specs.Answers.{IsKnown, ReadsState, IsStateFault}
+use Rattle.lr_reading.specs.Answers.{ReadsState, IsStateFault}
 use Rattle.lr_reading.specs.Pieces.{Broken}
 use Rattle.lr_reading.specs.Sights.{Failed, StateSights, ShowsState}
-use Rattle.lr_record.specs.After.{after, stamped}
+use Rattle.lr_record.specs.After.{after}
 use Rattle.lr_record.specs.Measured.{measured_text}
-use Rattle.lr_record.proofs.After.{stamps}
 use Rattle.lr_weave.proofs.Seen.{seen_fit}
 use Rattle.lr_weave.proofs.Sets.{can_sets}
-use Rattle.lr_writing.specs.Target.{Target}
 use Rattle.lr_seen.specs.Free.{reserved_by}
 use Rattle.lr_seen.specs.Targets.{groups_of, all_targets}
 use Rattle.lr_seen.proofs.Apart.{targets_dont_meet}
@@ -70,9 +63,10 @@ use Rattle.lr_seen.proofs.Quiet.{whole_quiet}
 use Rattle.lr_seen.proofs.Ready.{plans_have_logs, plans_read_own}
 use Rattle.lr_seen.proofs.Seen.{targets_seen, targets_have_names, targets_have_paths}
 use Rattle.lr_run.specs.declared.ready.Ready.{Ready}
-use Rattle.lr_run.specs.Internal.{AreBehind, ReadyFor, MayBeReady, ActsAndWrites, SomeActs, CarriesOn, Carries, LookedDone, WorkDone, SomeWork, some_seen, some_done, EndsBehindLooks, EndsBehindState}
+use Rattle.lr_run.specs.Internal.{ReadyFor, MayBeReady, ActsAndWrites, SomeActs, plan_for, SomeWork, some_seen, some_done, EndsBehindLooks, EndsBehindState}
 use Rattle.lr_run.specs.Runs as runs
-use Rattle.lr_run.specs.Runs.{logs_in, Worked, worked, too_big, not_known}
+use Rattle.lr_run.specs.Runs.{logs_in}
+use Rattle.lr_run.specs.Work.{act_faults}
 use Rattle.lr_run.proofs.Simple.{AreSimple, plan_simple}
 
 -- ---- rules within their limits can be planned for
@@ -176,11 +170,8 @@ pub steps_simple : (rules : List Rule) (sets : List SetLooks) (table : List Row)
 steps_simple rules sets table clock asked = plan_simple clock asked.mailer (decision table clock.now asked.force) rules sets
 
 -- the steps that are ready are those of the plan
-abbrev pub PlanFor : Rules → Looks → Remembered → Clock → Asked → Plan
-PlanFor rules looks remembered clock asked = plan_of rules.sets looks.sets remembered.table clock asked
-
 pub ready_fit : (reserved : List Path) (rules : Rules) (looks : Looks) (state : Path) (remembered : Remembered) (clock : Clock) (asked : Asked) (ready : Ready) (x y : Progress) (a b : List Fault) {o n : Option Journal} → WhereTold o IsJournal
-    → ReadyFor state clock.now remembered looks.kept (PlanFor rules looks remembered clock asked) ready x y → Left (LooksAtAll reserved rules.sets looks a b) o n → CanSets n ready.steps
+    → ReadyFor state clock.now remembered looks.kept (plan_for rules looks remembered clock asked) ready x y → Left (LooksAtAll reserved rules.sets looks a b) o n → CanSets n ready.steps
 ready_fit reserved rules looks state remembered clock asked ready x y a b {n = n} disk r l = subst (CanSets n) (sym r.is.steps) (fits_behind reserved rules looks a b clock asked.mailer (decision remembered.table clock.now asked.force) disk l)
 
 -- the text was small enough, and all was taken
@@ -193,81 +184,12 @@ pub not_ready : (state : Path) (clock : Clock) (remembered : Remembered) (kept l
     → (67_108_864 < length (measured_text (logs_in for) clock.now.civil (after remembered.table [] logs clock.now.civil))) × (y ≡ x)
 not_ready state clock remembered kept logs plan for o x y k e is h = subst (λ (ls : List Path). MayBeReady state clock.now remembered ls for None x y) k (subst (λ (p : Plan). MayBeReady state clock.now remembered kept p None x y) e (subst (λ (m : Option Ready). MayBeReady state clock.now remembered kept plan m x y) is h))
 
--- ---- the work
-
-state_text_is : (now : Civil) (rotated kept : List Path) (table was : List Row) → was ≡ after table [] kept now → text_of (map (stamped rotated now) was) ≡ text_of (after table rotated kept now)
-state_text_is now rotated kept table was e = ap (λ (t : List Row). text_of (map (stamped rotated now) t)) e ∙ ap text_of (sym (stamps table rotated kept now))
-
-writes_state : (state : Path) (stale : Bool) (dirs : List Path) (written : Target) (text new : List ℕ) (fs : List Fault) (ts : List Entry) → written ≡ record { state = state; stale = stale } → text ≡ new → Course (state_steps written.state written.stale dirs text) [] fs ts → Course (state_steps state stale dirs new) [] fs ts
-writes_state state stale dirs written text new fs ts is e c =
-    subst (λ (t : List ℕ). Course (state_steps state stale dirs t) [] fs ts) e (subst (λ (x : Target). Course (state_steps x.state x.stale dirs text) [] fs ts) is c)
-
-abbrev acted : (state : Path) (rules : Rules) (looks : Looks) (remembered : Remembered) (clock : Clock) (asked : Asked) (ready : Ready) (x y : Progress) (sights : StateSights) (reads ls us : List Entry) (of_looks : List Fault) (marks : List Mark) (dirs : List Path) (of_plan of_state : List Fault)
-    → ReadyFor state clock.now remembered looks.kept (PlanFor rules looks remembered clock asked) ready x y → AreBehind ready marks dirs → IsKnown state sights (Ok remembered) → ShowsState state 65_536 sights reads
-    → (shown : ShowsLooks (reserved_by state) rules.sets looks.sets of_looks ls) → looks.kept ≡ paths_of shown.kept
-    → Then (SetsDone ready.steps marks of_plan) (Course (state_steps ready.writing.state ready.writing.stale dirs (text_of (map (stamped (rotated_logs marks) clock.now.civil) ready.table))) [] of_state) us
-    → Worked state rules.sets clock asked (of_looks ++ ((PlanFor rules looks remembered clock asked).faults ++ (of_plan ++ of_state))) (reads ++ (ls ++ us))
-acted state rules looks remembered clock asked ready x y sights reads ls us of_looks marks dirs of_plan of_state r behind known read shown kept t = record {
-  looked = record { sights = sights; remembered = remembered; known = known; sets = looks.sets; of_looks = of_looks; reads = reads; looks = ls; acts = us; joined = refl; read = read; shown = shown };
-  acted = record {
-    small = subst (λ (ks : List Path). length (measured_text (logs_in (PlanFor rules looks remembered clock asked)) clock.now.civil (after remembered.table [] ks clock.now.civil)) ≤ 67_108_864) kept r.small;
-    dirs = dirs;
-    marks = marks;
-    dirs_are = behind (PlanFor rules looks remembered clock asked).sets r.is.directories;
-    of_acts = of_plan ++ of_state;
-    faults_are = refl;
-    entries = record {
-      of_plan = of_plan;
-      of_state = of_state;
-      faults_are = refl;
-      entries = record {
-        front = t.front;
-        back = t.back;
-        joined = t.joined;
-        first = subst (λ (ss : List SetSteps). SetsDone ss marks of_plan t.front) r.is.steps t.first;
-        second = writes_state state remembered.stale dirs ready.writing (text_of (map (stamped (rotated_logs marks) clock.now.civil) ready.table)) (text_of (after remembered.table (rotated_logs marks) (paths_of shown.kept) clock.now.civil)) of_state t.back
-            r.is.writes
-            (state_text_is clock.now.civil (rotated_logs marks) looks.kept remembered.table ready.table r.is.table_is ∙ ap (λ (ks : List Path). text_of (after remembered.table (rotated_logs marks) ks clock.now.civil)) kept)
-            t.second;
-      };
-    };
-  };
-}
-
-pub carried_out : {T : Type 0} (r : Result T Memory) (state : Path) (rules : Rules) (looks : Looks) (remembered : Remembered) (clock : Clock) (asked : Asked) (plan : Option Plan) (ready : Ready) (x y z : Progress) (m n : Option Journal) (k l : Counts)
-    → plan ≡ Some (PlanFor rules looks remembered clock asked) → ReadyFor state clock.now remembered looks.kept (PlanFor rules looks remembered clock asked) ready x y → OnOk r (ActsAndWrites ready clock.now.civil y z m n k l)
-    → OnOk r (Carries rules looks state remembered clock asked plan x.faults.items z.faults.items m n)
-carried_out (Ok u) state rules looks remembered clock asked plan ready x y z m n k l is r h = left_as h.entries (λ us t. record {
-  own = (PlanFor rules looks remembered clock asked).faults ++ (h.of_plan ++ h.of_state);
-  faults_are = h.faults_are ∙ (ap (λ (fs : List Fault). fs ++ (h.of_plan ++ h.of_state)) r.is.faults ∙ append_assoc x.faults.items (PlanFor rules looks remembered clock asked).faults (h.of_plan ++ h.of_state));
-  works = λ sights reads ls own known read shown kept. worked (acted state rules looks remembered clock asked ready x y sights reads ls us own h.marks h.dirs h.of_plan h.of_state r h.dirs_are known read shown kept t) is;
-})
-carried_out (Err u) state rules looks remembered clock asked plan ready x y z m n k l is r h = tt
-
-pub too_big_told : {T E : Type 0} (r : Result T E) (state : Path) (rules : Rules) (looks : Looks) (remembered : Remembered) (clock : Clock) (asked : Asked) (plan : Option Plan) (x y : Progress) (b : List Fault) (o : Option Journal)
-    → plan ≡ None → (67_108_864 < length (measured_text (logs_in (PlanFor rules looks remembered clock asked)) clock.now.civil (after remembered.table [] looks.kept clock.now.civil))) × (y ≡ x) → OnOk r (b ≡ y.faults.items ++ fault.State 0 kind.TooBig ∷ [])
-    → OnOk r (Carries rules looks state remembered clock asked plan x.faults.items b o o)
-too_big_told (Ok u) state rules looks remembered clock asked plan x y b o none big e = left_first (CarriesOn rules looks state remembered clock asked plan x.faults.items b) o (record {
-  own = fault.State 0 kind.TooBig ∷ [];
-  faults_are = e ∙ ap (λ (p : Progress). p.faults.items ++ fault.State 0 kind.TooBig ∷ []) big.1;
-  works = λ sights reads ls own known read shown kept. too_big (record { sights = sights; remembered = remembered; known = known; sets = looks.sets; of_looks = own; reads = reads; looks = ls; acts = []; joined = refl; read = read; shown = shown })
-      (subst (λ (ks : List Path). 67_108_864 < length (measured_text (logs_in (PlanFor rules looks remembered clock asked)) clock.now.civil (after remembered.table [] ks clock.now.civil))) kept big.0) none refl refl;
-})
-too_big_told (Err u) state rules looks remembered clock asked plan x y b o none big e = tt
-
-pub looked_done : {T E : Type 0} (r : Result T E) (state : Path) (rules : Rules) (looks : Looks) (remembered : Remembered) (clock : Clock) (asked : Asked) (plan : Option Plan) (a b c : List Fault) {o m : Option Journal} (n : Option Journal) → Left (LooksAtAll (reserved_by state) rules.sets looks a b) o m
-    → OnOk r (Carries rules looks state remembered clock asked plan b c m n) → OnOk r (LookedDone state rules.sets clock asked remembered plan a c o n)
-looked_done (Ok u) state rules looks remembered clock asked plan a b c n l h = left_then l h (λ ts us g q. record {
-  own = g.own ++ q.own;
-  faults_are = q.faults_are ∙ (ap (λ (fs : List Fault). fs ++ q.own) g.faults_are ∙ append_assoc a g.own q.own);
-  works = λ sights reads known shown. q.works sights reads ts g.own known shown g.shown g.kept_are;
-})
-looked_done (Err u) state rules looks remembered clock asked plan a b c n l h = tt
+-- ---- the counts
 
 pub carried_counted : {T : Type 0} (r : Result T Memory) (state : Path) (rules : Rules) (looks : Looks) (remembered : Remembered) (clock : Clock) (asked : Asked) (ready : Ready) (x y z : Progress) (m n : Option Journal) (k l : Counts)
-    → ReadyFor state clock.now remembered looks.kept (PlanFor rules looks remembered clock asked) ready x y → OnOk r (ActsAndWrites ready clock.now.civil y z m n k l) → OnOk r (AddsFaults x.faults.items z.faults.items k l)
+    → ReadyFor state clock.now remembered looks.kept (plan_for rules looks remembered clock asked) ready x y → OnOk r (ActsAndWrites ready clock.now.civil y z m n k l) → OnOk r (AddsFaults x.faults.items z.faults.items k l)
 carried_counted (Ok u) state rules looks remembered clock asked ready x y z m n k l r h =
-    adds_on x.faults.items y.faults.items z.faults.items k k l (adds_free x.faults.items y.faults.items (PlanFor rules looks remembered clock asked).faults k k r.is.faults (plan_free clock (decision remembered.table clock.now asked.force) rules.sets looks.sets) (none_fell k)) (record { added = h.of_plan ++ h.of_state; after_is = h.faults_are; are_counted = h.are_counted })
+    adds_on x.faults.items y.faults.items z.faults.items k k l (adds_free x.faults.items y.faults.items (plan_for rules looks remembered clock asked).faults k k r.is.faults (plan_free clock (decision remembered.table clock.now asked.force) rules.sets looks.sets) (none_fell k)) (record { added = act_faults h.acts; after_is = h.faults_are; are_counted = h.are_counted })
 carried_counted (Err u) state rules looks remembered clock asked ready x y z m n k l r h = tt
 
 pub too_big_counted : {T E : Type 0} (r : Result T E) (a b : List Fault) (k : Counts) → OnOk r (b ≡ a ++ fault.State 0 kind.TooBig ∷ []) → OnOk r (AddsFaults a b k k)
@@ -278,15 +200,7 @@ pub looked_counted : {T E : Type 0} (r : Result T E) (a b c : List Fault) (k l m
 looked_counted (Ok u) a b c k l m h g = adds_on a b c k l m h g
 looked_counted (Err u) a b c k l m h g = tt
 
--- ---- behind the reading
-
-pub known_done : {T E : Type 0} (r : Result T E) (state : Path) (rules : List Rule) (clock : Clock) (asked : Asked) (remembered : Remembered) (plan : Option Plan) (a b : List Fault) {o m : Option Journal} (n : Option Journal) → Left (ReadsState state 65_536 (Ok (Ok remembered))) o m
-    → OnOk r (LookedDone state rules clock asked remembered plan a b m n) → OnOk r (WorkDone state rules clock asked plan a b o n)
-known_done (Ok u) state rules clock asked remembered plan a b n l h = left_then l h (λ ts us p q. (q.own, q.faults_are, q.works p.sights ts p.known p.shown))
-known_done (Err u) state rules clock asked remembered plan a b n l h = tt
-
-pub unknown_done : (state : Path) (rules : List Rule) (clock : Clock) (asked : Asked) (plan : Option Plan) (f : Fault) (a b : List Fault) {o n : Option Journal} → plan ≡ None → Left (ReadsState state 65_536 (Ok (Err f))) o n → b ≡ a ++ f ∷ [] → WorkDone state rules clock asked plan a b o n
-unknown_done state rules clock asked plan f a b none l e = left_as l (λ ts p. (f ∷ [], e, not_known p.sights f p.known none refl p.shown))
+-- ---- the reading
 
 abbrev pub none_sights : StateSights
 none_sights = record { state = Failed; part = Failed; reading = Broken [] }
@@ -322,12 +236,12 @@ none_acted (Err x) rules looks state remembered clock asked o = left_first (Ends
 
 -- of the acts a first part was
 pub some_acted : {T E : Type 0} (r : Result T E) (state : Path) (rules : Rules) (looks : Looks) (remembered : Remembered) (clock : Clock) (asked : Asked) (ready : Ready) (x y : Progress) (m n : Option Journal)
-    → ReadyFor state clock.now remembered looks.kept (PlanFor rules looks remembered clock asked) ready x y → OnErr r (HasProgram (all_of_sets ready.steps)) → OnErr r (Left (SomeActs ready.steps) m n) → OnErr r (Left (EndsBehindLooks rules looks state remembered clock asked) m n)
+    → ReadyFor state clock.now remembered looks.kept (plan_for rules looks remembered clock asked) ready x y → OnErr r (HasProgram (all_of_sets ready.steps)) → OnErr r (Left (SomeActs ready.steps) m n) → OnErr r (Left (EndsBehindLooks rules looks state remembered clock asked) m n)
 some_acted (Ok u) state rules looks remembered clock asked ready x y m n r p h = tt
 some_acted (Err u) state rules looks remembered clock asked ready x y m n r p h = left_as h (λ us c. record {
   some = λ sights reads ls of_looks known read shown kept. some_done (record {
     looked = record { sights = sights; remembered = remembered; known = known; sets = looks.sets; of_looks = of_looks; reads = reads; looks = ls; acts = us; joined = refl; read = read; shown = shown };
-    small = subst (λ (ks : List Path). length (measured_text (logs_in (PlanFor rules looks remembered clock asked)) clock.now.civil (after remembered.table [] ks clock.now.civil)) ≤ 67_108_864) kept r.small;
+    small = subst (λ (ks : List Path). length (measured_text (logs_in (plan_for rules looks remembered clock asked)) clock.now.civil (after remembered.table [] ks clock.now.civil)) ≤ 67_108_864) kept r.small;
     program = subst (λ (ss : List SetSteps). HasProgram (all_of_sets ss)) r.is.steps p;
     marks = c.marks;
     of_acts = c.faults;

@@ -17,7 +17,7 @@ use Rattle.lr_host.specs.declared.entry.Entry.TheVariants as entry
 use Rattle.lr_host.specs.declared.entry.Entry.TheVariants.{Starts, Ends}
 use Rattle.lr_host.specs.declared.journal.Journal.{Journal}
 use Rattle.lr_host.specs.Opening.{IsJournal}
-use Rattle.lr_host.specs.Told.{Left, Then, Can, Counts, WhereTold, Maybe}
+use Rattle.lr_host.specs.Told.{Left, Then, Are, Can, Counts, WhereTold, Maybe}
 use Rattle.lr_host.specs.Looks.{Sees, IsDir, IsNoDir, IsNothing}
 use Rattle.lr_state.specs.Table.{Entry as Row}
 use Rattle.lr_state.specs.Written.{text_of}
@@ -29,7 +29,9 @@ use Rattle.lr_plan.specs.declared.plan.Plan.{Plan}
 use Rattle.lr_host.specs.Counted.{AreCounted}
 use Rattle.lr_plan.specs.Course.{Course}
 use Rattle.lr_plan.specs.declared.step.SetSteps.{SetSteps}
+use Rattle.lr_plan.specs.declared.step.Step.{Step}
 use Rattle.lr_plan.specs.Done.{SetsDone, rotated_logs}
+use Rattle.lr_plan.specs.Planned.{plan_of}
 use Rattle.lr_plan.specs.Asking.{CanMake}
 use Rattle.lr_plan.specs.Cut.{SetsCut}
 use Rattle.lr_plan.specs.Steps.{steps_of_plan, state_steps}
@@ -41,10 +43,11 @@ use Rattle.lr_acts.specs.Taken.{TakenOnly}
 use Rattle.lr_looks.specs.Found.{paths_of}
 use Rattle.lr_looks.specs.Shown.{ShowsLooks, LooksAtAll}
 use Rattle.lr_reading.specs.declared.remembered.Remembered.{Remembered}
-use Rattle.lr_reading.specs.Answers.{IsKnown, ReadsState}
+use Rattle.lr_reading.specs.Answers.{IsKnown, ReadsState, TextSaysOnly}
 use Rattle.lr_reading.specs.Sights.{StateSights, ShowsState}
 use Rattle.lr_record.specs.After.{after, stamped}
 use Rattle.lr_record.specs.Measured.{measured_text}
+use Rattle.lr_writing.specs.Target.{Target}
 use Rattle.lr_seen.specs.Free.{reserved_by}
 use Rattle.lr_synced.specs.Before.{IsBy}
 use Rattle.lr_synced.specs.Synced.{AreSynced}
@@ -53,8 +56,11 @@ use Rattle.lr_run.specs.declared.answer.RunStop.TheVariants as stop
 use Rattle.lr_run.specs.declared.directory.DirStop.{DirStop}
 use Rattle.lr_run.specs.declared.directory.DirStop.TheVariants as dir
 use Rattle.lr_run.specs.declared.ready.Ready.{Ready}
-use Rattle.lr_run.specs.Dry.{Plans, PlansBy, Tries}
-use Rattle.lr_run.specs.Runs.{logs_in, Works, Runs, SomeSeen, BrokeOff, LacksMemory}
+use Rattle.lr_run.specs.Runs.{logs_in, SomeSeen, BrokeOff, LacksMemory}
+use Rattle.lr_run.specs.Saw.{Saw, ShowsStateText, ShowsSets, plan_by, measured_by}
+use Rattle.lr_run.specs.Work.{Acts, act_faults, Work, IsPlanOf, CarriesOut}
+use Rattle.lr_run.specs.Halt.{LacksState}
+use Rattle.lr_run.specs.Ran.{TellsNames, TellsNamesOf}
 
 -- the directory wasn't seen as one
 abbrev pub NotSeen : Path → DirStop → List Entry → Type 0
@@ -98,22 +104,22 @@ AreBehind ready marks dirs = (sets : List SetPlan) → IsBy sets ready.directori
 abbrev pub CanWrite : Ready → Option Journal → Type 0
 CanWrite ready told = (later : Option Journal) (marks : List Mark) (faults : List Fault) (dirs : List Path) (text : List ℕ) → AreBehind ready marks dirs → Left (SetsDone ready.steps marks faults) told later → CanMake later (state_steps ready.writing.state ready.writing.stale dirs text)
 
+-- the steps of this writing of the state, behind these acts: the logs that they rotated have this moment in the table
+abbrev pub writing_steps : Target → List Row → Civil → Acts → List Step
+writing_steps writing table now acts = state_steps writing.state writing.stale acts.dirs (text_of (map (stamped (rotated_logs acts.marks) now) table))
+
 -- The acts, and then the state, with this moment for the logs that were rotated; the faults of both were added.
 pub record ActsAndWrites (ready : Ready) (now : Civil) (before later : Progress) (told then : Option Journal) (counted counts : Counts) : Type 0 where
-  pub marks : List Mark
-  pub dirs : List Path
-  pub dirs_are : AreBehind ready marks dirs
-  pub of_plan : List Fault
-  pub of_state : List Fault
-  pub faults_are : later.faults.items ≡ before.faults.items ++ (of_plan ++ of_state)
-  pub entries : Left (Then (SetsDone ready.steps marks of_plan) (Course (state_steps ready.writing.state ready.writing.stale dirs (text_of (map (stamped (rotated_logs marks) now) ready.table))) [] of_state)) told then
-  pub are_counted : AreCounted (of_plan ++ of_state) counted counts
-  pub text : List ℕ
-  pub taken : TakenOnly (all_of_sets ready.steps ++ state_steps ready.writing.state ready.writing.stale dirs text) (of_plan ++ of_state) told then
+  pub acts : Acts
+  pub dirs_are : AreBehind ready acts.marks acts.dirs
+  pub faults_are : later.faults.items ≡ before.faults.items ++ act_faults acts
+  pub entries : Left (Then (SetsDone ready.steps acts.marks acts.of_logs) (Course (writing_steps ready.writing ready.table now acts) [] acts.of_state)) told then
+  pub are_counted : AreCounted (act_faults acts) counted counts
+  pub taken : TakenOnly (all_of_sets ready.steps ++ writing_steps ready.writing ready.table now acts) (act_faults acts) told then
   -- which names the acts left, and what came behind them
   pub middle : Option Journal
-  pub names : KeepsNames (all_of_sets ready.steps) marks told middle
-  pub wrote : Left (Course (state_steps ready.writing.state ready.writing.stale dirs text) [] of_state) middle then
+  pub names : KeepsNames (all_of_sets ready.steps) acts.marks told middle
+  pub wrote : Left (Course (writing_steps ready.writing ready.table now acts) [] acts.of_state) middle then
 
 -- ---- the parts of the work
 
@@ -132,31 +138,81 @@ pub record SeenBefore (state : Path) (rules : Rules) (looks : Looks) (remembered
   pub all_faults : List Fault
   pub looked : Left (LooksAtAll (reserved_by state) rules.sets looks faults all_faults) middle told
 
--- What follows from the looks was done, whatever of them is shown before: it came to this plan, and its faults were added.
-pub record CarriesOn (rules : Rules) (looks : Looks) (state : Path) (remembered : Remembered) (clock : Clock) (asked : Asked) (plan : Option Plan) (faults all_faults : List Fault) (ts : List Entry) : Type 0 where
-  pub own : List Fault
-  pub faults_are : all_faults ≡ faults ++ own
-  pub works : (sights : StateSights) (reads ls : List Entry) (of_looks : List Fault) → IsKnown state sights (Ok remembered) → ShowsState state 65_536 sights reads
-      → (shown : ShowsLooks (reserved_by state) rules.sets looks.sets of_looks ls) → looks.kept ≡ paths_of shown.kept → Works state rules.sets clock asked plan (of_looks ++ own) (reads ++ (ls ++ ts))
+-- ---- by values
 
-abbrev pub Carries : Rules → Looks → Path → Remembered → Clock → Asked → Option Plan → List Fault → List Fault → Option Journal → Option Journal → Type 0
-Carries rules looks state remembered clock asked plan faults all_faults told later = Left (CarriesOn rules looks state remembered clock asked plan faults all_faults) told later
+-- the plan that follows from these looks, and from what is known of the state
+abbrev pub plan_for : Rules → Looks → Remembered → Clock → Asked → Plan
+plan_for rules looks remembered clock asked = plan_of rules.sets looks.sets remembered.table clock asked
 
--- What was done behind a reading by which this is known; its faults were added.
-pub record BehindState (state : Path) (rules : List Rule) (clock : Clock) (asked : Asked) (remembered : Remembered) (plan : Option Plan) (faults all_faults : List Fault) (ts : List Entry) : Type 0 where
-  pub own : List Fault
-  pub faults_are : all_faults ≡ faults ++ own
-  pub works : (sights : StateSights) (reads : List Entry) → IsKnown state sights (Ok remembered) → ShowsState state 65_536 sights reads → Works state rules clock asked plan own (reads ++ ts)
+-- the text of the state that is measured before it is carried out
+abbrev pub measured_for : Rules → Looks → Remembered → Clock → Asked → List ℕ
+measured_for rules looks remembered clock asked = measured_text (logs_in (plan_for rules looks remembered clock asked)) clock.now.civil (after remembered.table [] looks.kept clock.now.civil)
 
-abbrev pub LookedDone : Path → List Rule → Clock → Asked → Remembered → Option Plan → List Fault → List Fault → Option Journal → Option Journal → Type 0
-LookedDone state rules clock asked remembered plan faults all_faults told later = Left (BehindState state rules clock asked remembered plan faults all_faults) told later
+-- the steps of the writing of the state behind these acts
+abbrev pub steps_behind : Path → Looks → Remembered → Clock → Acts → List Step
+steps_behind state looks remembered clock acts = state_steps state remembered.stale acts.dirs (text_of (after remembered.table (rotated_logs acts.marks) looks.kept clock.now.civil))
 
--- The work was done; its faults were added.
-abbrev pub WorksOn : Path → List Rule → Clock → Asked → Option Plan → List Fault → List Fault → List Entry → Type 0
-WorksOn state rules clock asked plan faults all_faults ts = (own : List Fault) × (all_faults ≡ faults ++ own) × Works state rules clock asked plan own ts
+-- What follows from the looks: the text of the state could become too big by the plan, and nothing was done; or the plan was carried out by these acts, and then the state was written. The faults were added.
+pub data ActsBy (state : Path) (rules : Rules) (looks : Looks) (remembered : Remembered) (clock : Clock) (asked : Asked) (plan : Option Plan) (faults all_faults : List Fault) (acts : Option Acts) (ts : List Entry) : Type 0 where
+  outgrew : plan ≡ None → acts ≡ None → all_faults ≡ faults ++ fault.State 0 kind.TooBig ∷ [] → 67_108_864 < length (measured_for rules looks remembered clock asked) → ts ≡ [] → ActsBy state rules looks remembered clock asked plan faults all_faults acts ts
+  acted : (a : Acts) → plan ≡ Some (plan_for rules looks remembered clock asked) → acts ≡ Some a → all_faults ≡ faults ++ ((plan_for rules looks remembered clock asked).faults ++ act_faults a) → length (measured_for rules looks remembered clock asked) ≤ 67_108_864
+      → AreSynced (plan_for rules looks remembered clock asked).sets a.marks a.dirs
+      → Then (SetsDone (steps_of_plan (plan_for rules looks remembered clock asked)) a.marks a.of_logs) (Course (steps_behind state looks remembered clock a) [] a.of_state) ts → ActsBy state rules looks remembered clock asked plan faults all_faults acts ts
 
-abbrev pub WorkDone : Path → List Rule → Clock → Asked → Option Plan → List Fault → List Fault → Option Journal → Option Journal → Type 0
-WorkDone state rules clock asked plan faults all_faults told later = Left (WorksOn state rules clock asked plan faults all_faults) told later
+-- So it was, with these acts, where there were some; and of them the journal tells the names besides.
+pub record Carries (state : Path) (rules : Rules) (looks : Looks) (remembered : Remembered) (clock : Clock) (asked : Asked) (plan : Option Plan) (faults all_faults : List Fault) (told later : Option Journal) : Type 0 where
+  pub acts : Option Acts
+  pub shows : Left (ActsBy state rules looks remembered clock asked plan faults all_faults acts) told later
+  pub names : (a : Acts) → acts ≡ Some a
+      → TellsNames a.marks (all_of_sets (steps_of_plan (plan_for rules looks remembered clock asked)) ++ steps_behind state looks remembered clock a) ((plan_for rules looks remembered clock asked).faults ++ act_faults a) told later
+
+-- What a part of a run left, by what it came to, where it came to a plan; and of that the journal tells the names besides.
+pub record CameTo (P : Option Work → List Entry → Type 0) (state : Path) (clock : Clock) (told later : Option Journal) : Type 0 where
+  pub work : Option Work
+  pub shows : Left (P work) told later
+  pub names : (w : Work) → work ≡ Some w → TellsNamesOf state clock w told later
+
+-- Behind reads so, it came to this: its logs were looked at, and its plan was carried out. The faults were added.
+pub record WorksTo (Read : Saw → List Entry → Type 0) (state : Path) (rules : List Rule) (clock : Clock) (asked : Asked) (plan : Option Plan) (faults all_faults : List Fault) (w : Work) (ts : List Entry) : Type 0 where
+  pub plan_is : plan ≡ Some w.plan
+  pub faults_are : all_faults ≡ faults ++ (w.saw.faults ++ (w.plan.faults ++ act_faults w.acts))
+  pub entries : ts ≡ w.reads ++ (w.looks ++ w.did)
+  pub read : Read w.saw w.reads
+  pub sets : ShowsSets state rules w.saw w.looks
+  pub planned : IsPlanOf rules w.saw clock asked w.plan
+  pub done : CarriesOut state clock w
+
+-- Behind reads so, this was seen, and the text of the state could become too big by the plan that follows.
+pub record SeesTooBig (Read : Saw → List Entry → Type 0) (state : Path) (rules : List Rule) (clock : Clock) (asked : Asked) (saw : Saw) (ts : List Entry) : Type 0 where
+  pub reads : List Entry
+  pub looks : List Entry
+  pub entries : ts ≡ reads ++ looks
+  pub read : Read saw reads
+  pub sets : ShowsSets state rules saw looks
+  pub big : 67_108_864 < length (measured_by saw (plan_by rules saw clock asked) clock)
+
+-- the one or the other
+pub data LooksAndActs (Read : Saw → List Entry → Type 0) (state : Path) (rules : List Rule) (clock : Clock) (asked : Asked) (plan : Option Plan) (faults all_faults : List Fault) (work : Option Work) (ts : List Entry) : Type 0 where
+  saw_too_big : (saw : Saw) → plan ≡ None → work ≡ None → all_faults ≡ faults ++ (saw.faults ++ fault.State 0 kind.TooBig ∷ []) → SeesTooBig Read state rules clock asked saw ts → LooksAndActs Read state rules clock asked plan faults all_faults work ts
+  came_to : (w : Work) → work ≡ Some w → WorksTo Read state rules clock asked plan faults all_faults w ts → LooksAndActs Read state rules clock asked plan faults all_faults work ts
+
+-- this is known, and its reads stand before
+abbrev pub IsBehind : Remembered → Saw → List Entry → Type 0
+IsBehind remembered saw reads = (saw.table ≡ remembered.table) × (saw.stale ≡ remembered.stale) × (reads ≡ [])
+
+-- the text was read, and says the table
+pub record ReadsText (state : Path) (saw : Saw) (reads : List Entry) : Type 0 where
+  pub shown : ShowsStateText state saw.text saw.stale reads
+  pub says : TextSaysOnly saw.text (Ok saw.table)
+
+-- Between its begin and its end a run did its work, or nothing is known of the state.
+pub data WorksOn (state : Path) (rules : List Rule) (clock : Clock) (asked : Asked) (plan : Option Plan) (faults all_faults : List Fault) (work : Option Work) (ts : List Entry) : Type 0 where
+  knows_none : (f : Fault) → plan ≡ None → work ≡ None → all_faults ≡ faults ++ f ∷ [] → LacksState state f ts → WorksOn state rules clock asked plan faults all_faults work ts
+  knows : LooksAndActs (ReadsText state) state rules clock asked plan faults all_faults work ts → WorksOn state rules clock asked plan faults all_faults work ts
+
+-- and then the run ended
+abbrev pub EndsWork : Path → List Rule → Clock → Asked → Option Plan → List Fault → List Fault → Option Work → List Entry → Type 0
+EndsWork state rules clock asked plan faults all_faults work = Then (WorksOn state rules clock asked plan faults all_faults work) (Are (Ends ∷ []))
 
 -- ---- the same where there was no memory
 
@@ -189,17 +245,13 @@ pub record Begun (state : Path) (clock : Clock) (rules : Rules) (P : List Entry 
   pub within : P between
 
 -- what was left from the begin on: the work, or the begin failed
-pub data Goes (state : Path) (asked : Asked) (clock : Clock) (rules : Rules) (plan : Option Plan) (faults all_faults : List Fault) (ts : List Entry) : Type 0 where
-  begun : Begun state clock rules (WorksOn state rules.sets clock asked plan faults all_faults) ts → Goes state asked clock rules plan faults all_faults ts
-  not_begun : plan ≡ None → all_faults ≡ faults ++ fault.Call call.Begin state ∷ [] → Maybe (Starts state clock.now rules) ts → Goes state asked clock rules plan faults all_faults ts
+pub data Goes (state : Path) (asked : Asked) (clock : Clock) (rules : Rules) (plan : Option Plan) (faults all_faults : List Fault) (work : Option Work) (ts : List Entry) : Type 0 where
+  begun : Begun state clock rules (WorksOn state rules.sets clock asked plan faults all_faults work) ts → Goes state asked clock rules plan faults all_faults work ts
+  not_begun : plan ≡ None → work ≡ None → all_faults ≡ faults ++ fault.Call call.Begin state ∷ [] → Maybe (Starts state clock.now rules) ts → Goes state asked clock rules plan faults all_faults work ts
 
 abbrev pub Stopped : Path → Asked → Clock → Rules → RunStop → List Entry → Type 0
 Stopped state asked clock rules stop.Held ts = ts ≡ []
 Stopped state asked clock rules stop.Memory ts = Begun state clock rules (SomeWork state rules.sets clock asked) ts
-
--- what a run left: its faults were added; or it stopped
-abbrev pub RunsOn : Path → Asked → Clock → Rules → Option Plan → List Fault → List Fault → List Entry → Type 0
-RunsOn state asked clock rules plan faults all_faults ts = (own : List Fault) × (all_faults ≡ faults ++ own) × Runs state asked clock rules plan own ts
 
 -- a run that stopped: the lock is another's, or there was no memory
 abbrev pub StopsSo : Path → Asked → Clock → Rules → RunStop → List Entry → Type 0
@@ -207,18 +259,6 @@ StopsSo state asked clock rules stop.Held ts = Sees (parent_of state) IsDir ts
 StopsSo state asked clock rules stop.Memory ts = LacksMemory state asked clock rules ts
 
 -- ---- a dry run
-
--- The logs were looked at, and it was planned by this table; the faults were added.
-abbrev pub PlansOn : Path → List Rule → List Row → Clock → Asked → Option Plan → List Fault → List Fault → List Entry → Type 0
-PlansOn state rules table clock asked plan faults all_faults ts = (own : List Fault) × (all_faults ≡ faults ++ own) × Plans state rules table clock asked plan own ts
-
--- The state was read besides.
-abbrev pub PlansByOn : Path → List Rule → Clock → Asked → Option Plan → List Fault → List Fault → List Entry → Type 0
-PlansByOn state rules clock asked plan faults all_faults ts = (own : List Fault) × (all_faults ≡ faults ++ own) × PlansBy state rules clock asked plan own ts
-
--- The whole dry run was made.
-abbrev pub TriesOn : Path → List Rule → Clock → Asked → Option Plan → List Fault → List Fault → List Entry → Type 0
-TriesOn state rules clock asked plan faults all_faults ts = (own : List Fault) × (all_faults ≡ faults ++ own) × Tries state rules clock asked plan own ts
 
 -- the plan, where it is small enough, and else none
 abbrev pub plan_if : Bool → Plan → Option Plan

@@ -2,10 +2,15 @@ pub mod Anew
 pub mod Answers
 pub mod Copied
 pub mod Dry
+pub mod Halt
 pub mod Internal
 pub mod Met
+pub mod Ran
 pub mod Rotated
 pub mod Runs
+pub mod Saw
 pub mod Scripts
 pub mod State
 pub mod Taken
+pub mod Trying
+pub mod Work

@@ -13,6 +13,7 @@ ghost use Rattle.lr_plan.specs.Asked.{asking};
 ghost use Rattle.lr_run.specs.Answers.{Answers, HasShortReads};
 ghost use Rattle.lr_run.specs.Copied.{IsCopyBy};
 ghost use Rattle.lr_run.specs.Dry.{AreSights};
+ghost use Rattle.lr_run.specs.Ran.{RanSo};
 ghost use Rattle.lr_run.specs.State.{IsNewText};
 ghost use Rattle.lr_run.specs.Anew.{NamesAnew};
 ghost use Rattle.lr_run.specs.Taken.{AddsTaken};
@@ -43,7 +44,8 @@ pub fn run<H: Host>(
     ensures safe { KeepsSafeWhere (IsForwardFor clock.entry.now) (H.told host.old) (H.told host.new) }
     ensures state { KeepsWhole settings.now.state (IsNewText settings.now.state clock.entry.now (asking settings.now.force settings.now.mailer) rules.now) (H.told host.old) (H.told host.new) }
     ensures copied { EmptiesWhole (IsCopyBy rules.now.sets clock.entry.now) (H.told host.old) (H.told host.new) }
-    ensures told { Left (Answers settings.now.state settings.now.debug (asking settings.now.force settings.now.mailer) clock.entry.now rules.now earlier.items result) (H.told host.old) (H.told host.new) }
+    ensures told { RanSo settings.now.debug settings.now.state rules.now clock.entry.now (asking settings.now.force settings.now.mailer) earlier.items result (H.told host.old) (H.told host.new) }
+    ensures answers { Left (Answers settings.now.state settings.now.debug (asking settings.now.force settings.now.mailer) clock.entry.now rules.now earlier.items result) (H.told host.old) (H.told host.new) }
     ensures shape { Left (IsWholeRunBy clock.entry.now) (H.told host.old) (H.told host.new) }
     ensures counted { IfOk result (λ ran. AddsFaults earlier.items ran.faults.items (H.counts host.old) (H.counts host.new)) }
     ensures taken { settings.now.debug ≡ false → IfOk result (λ ran. AddsTaken settings.now.state ran.plan earlier.items ran.faults.items (H.told host.old) (H.told host.new)) }

@@ -1,5 +1,5 @@
 // A dry run: it looks, and plans, and leaves all as it is.
-ghost use Rattle.std.specs.Prelude.{◌≡◌, ◌≢◌, ◌+◌, ◌≤◌, ◌++◌, ◌∷◌, [], List, true, Err, IfOk, OnOk, OnErr, length, nat_le, vec_len};
+ghost use Rattle.std.specs.Prelude.{◌≡◌, ◌≢◌, ◌+◌, ◌≤◌, ◌++◌, ◌∷◌, [], List, true, Ok, Err, IfOk, OnOk, OnErr, length, nat_le, vec_len};
 ghost use Rattle.std.specs.Vec.{vec_capacity};
 ghost use Rattle.lr_rules.specs.declared.clock.Clock.{Clock};
 ghost use Rattle.lr_rules.specs.declared.fault.Fault.{Fault};
@@ -10,10 +10,12 @@ ghost use Rattle.lr_looks.specs.Shown.{ShowsSomeLooks};
 ghost use Rattle.lr_plan.specs.Asked.{asking};
 ghost use Rattle.lr_plan.specs.Planned.{CanPlanAll};
 ghost use Rattle.lr_seen.specs.Free.{reserved_by};
-ghost use Rattle.lr_run.specs.Answers.{Answers};
-ghost use Rattle.lr_run.specs.Dry.{Follows, LacksTry, measured_by};
-ghost use Rattle.lr_run.specs.Internal.{PlansOn, PlansByOn, TriesOn, plan_if, faults_if};
+ghost use Rattle.lr_run.specs.Dry.{Follows, measured_by};
+ghost use Rattle.lr_run.specs.Halt.{OfMemory, Halts};
+ghost use Rattle.lr_run.specs.Internal.{plan_if, faults_if};
+ghost use Rattle.lr_run.specs.Ran.{RanSo};
 ghost use Rattle.lr_run.specs.Runs.{SomeSeen};
+ghost use Rattle.lr_run.specs.Trying.{PlansOn, PlansByOn, TriesOn};
 
 use crate::answer::{Ran, RunStop};
 use crate::directory::{DirStop, dir_fault, look_for_dir};
@@ -170,8 +172,8 @@ fn try_run<H: Host>(
 ) -> Result<Option<Plan>, Memory>
     requires dir { dir ≡ parent_of settings.now.state }
     requires room { vec_len faults.old + 2 ≤ vec_capacity faults.old }
-    ensures told { IfOk result (λ plan. Left (TriesOn settings.now.state rules.now.sets clock.entry.now (asking settings.now.force settings.now.mailer) plan faults.old.items faults.new.items) (H.told host.old) (H.told host.new)) }
-    ensures some { OnErr result (Left (LacksTry settings.now.state rules.now.sets) (H.told host.old) (H.told host.new)) }
+    ensures told { IfOk result (λ plan. Left (TriesOn settings.now.state rules.now clock.entry.now (asking settings.now.force settings.now.mailer) faults.old.items (Ok (record { plan = plan; faults = faults.new }))) (H.told host.old) (H.told host.new)) }
+    ensures some { OnErr result (Left (Halts true settings.now.state rules.now clock.entry.now (asking settings.now.force settings.now.mailer) OfMemory) (H.told host.old) (H.told host.new)) }
     ensures room { OnOk result (vec_len faults.new + 1 ≤ vec_capacity faults.new) }
     ensures counted { OnOk result (AddsFaults faults.old.items faults.new.items (H.counts host.old) (H.counts host.new)) }
     ensures counts { Onward (H.counts host.old) (H.counts host.new) }
@@ -202,7 +204,7 @@ pub fn dry_run<H: Host>(
     earlier: Vec<Fault>,
     host: &mut H,
 ) -> Result<Ran, RunStop>
-    ensures told { Left (Answers settings.now.state true (asking settings.now.force settings.now.mailer) clock.entry.now rules.now earlier.items result) (H.told host.old) (H.told host.new) }
+    ensures told { RanSo true settings.now.state rules.now clock.entry.now (asking settings.now.force settings.now.mailer) earlier.items result (H.told host.old) (H.told host.new) }
     ensures counted { IfOk result (λ ran. AddsFaults earlier.items ran.faults.items (H.counts host.old) (H.counts host.new)) }
     ensures held { result ≢ Err RunStop.Held }
     ensures room { IfOk result (λ ran. vec_len ran.faults + 1 ≤ vec_capacity ran.faults) }

@@ -9,10 +9,8 @@ ghost use Rattle.lr_host.specs.Opening.{IsJournal};
 ghost use Rattle.lr_host.specs.Told.{Left, Then, Are, Can, NoneFell, Onward, Rose, WhereTold};
 ghost use Rattle.lr_host.specs.World.{world};
 ghost use Rattle.lr_host.specs.Counted.{AddsFaults};
-ghost use Rattle.lr_run.specs.Anew.{NamesAnew};
-ghost use Rattle.lr_run.specs.Taken.{AddsTaken};
 ghost use Rattle.lr_plan.specs.Asked.{asking};
-ghost use Rattle.lr_run.specs.Internal.{WorksOn, Goes, SomeWork, Stopped};
+ghost use Rattle.lr_run.specs.Internal.{CameTo, EndsWork, Goes, SomeWork, Stopped};
 
 use crate::answer::RunStop;
 use crate::work::work;
@@ -37,12 +35,10 @@ fn work_to_end<H: Host>(
     requires dir { Can (H.told host.old) (entry.List (parent_of settings.now.state) []) }
     requires room { vec_len progress.old.faults + 2 ≤ vec_capacity progress.old.faults }
     requires on { WhereTold (H.told host.old) (λ p. (world p).running ≡ true) }
-    ensures told { OnOk result (Left (Then (WorksOn settings.now.state rules.now.sets clock.entry.now (asking settings.now.force settings.now.mailer) reached.new progress.old.faults.items progress.new.faults.items) (Are (entry.Ends ∷ []))) (H.told host.old) (H.told host.new)) }
+    ensures told { OnOk result (CameTo (EndsWork settings.now.state rules.now.sets clock.entry.now (asking settings.now.force settings.now.mailer) reached.new progress.old.faults.items progress.new.faults.items) settings.now.state clock.entry.now (H.told host.old) (H.told host.new)) }
     ensures some { OnErr result (Left (Then (SomeWork settings.now.state rules.now.sets clock.entry.now (asking settings.now.force settings.now.mailer)) (Are (entry.Ends ∷ []))) (H.told host.old) (H.told host.new)) }
     ensures room { OnOk result (vec_len progress.new.faults + 1 ≤ vec_capacity progress.new.faults) }
     ensures counted { OnOk result (AddsFaults progress.old.faults.items progress.new.faults.items (H.counts host.old) (H.counts host.new)) }
-    ensures taken { OnOk result (AddsTaken settings.now.state reached.new progress.old.faults.items progress.new.faults.items (H.told host.old) (H.told host.new)) }
-    ensures anew { OnOk result (NamesAnew reached.new progress.new.faults.items (H.told host.new)) }
     ensures lock { (H.counts host.new).locked ≡ false }
     ensures counts { NoneFell (H.counts host.old) (H.counts host.new) }
 {
@@ -76,13 +72,11 @@ pub fn begin_to_end<H: Host>(
     requires there { Can (H.told host.old) (entry.Starts settings.now.state clock.now.now rules.now) }
     requires name { name ≡ settings.now.state }
     requires room { vec_len progress.old.faults + 2 ≤ vec_capacity progress.old.faults }
-    ensures told { OnOk result (Left (Goes settings.now.state (asking settings.now.force settings.now.mailer) clock.entry.now rules.now reached.new progress.old.faults.items progress.new.faults.items) (H.told host.old) (H.told host.new)) }
+    ensures told { OnOk result (CameTo (Goes settings.now.state (asking settings.now.force settings.now.mailer) clock.entry.now rules.now reached.new progress.old.faults.items progress.new.faults.items) settings.now.state clock.entry.now (H.told host.old) (H.told host.new)) }
     ensures stopped { IfErr result (λ why. Left (Stopped settings.now.state (asking settings.now.force settings.now.mailer) clock.entry.now rules.now why) (H.told host.old) (H.told host.new)) }
     ensures held { result ≡ Err RunStop.Held → Rose (H.counts host.old).held (H.counts host.new).held }
     ensures room { OnOk result (vec_len progress.new.faults + 1 ≤ vec_capacity progress.new.faults) }
     ensures counted { OnOk result (AddsFaults progress.old.faults.items progress.new.faults.items (H.counts host.old) (H.counts host.new)) }
-    ensures taken { OnOk result (AddsTaken settings.now.state reached.new progress.old.faults.items progress.new.faults.items (H.told host.old) (H.told host.new)) }
-    ensures anew { OnOk result (NamesAnew reached.new progress.new.faults.items (H.told host.new)) }
     ensures counts { Onward (H.counts host.old) (H.counts host.new) }
 {
     match host.begin(&settings.state, &clock.now, rules) {

@@ -1,5 +1,5 @@
 // The run over the definitions of a configuration.
-ghost use Rattle.std.specs.Prelude.{◌≡◌, ◌+◌, ◌≤◌, ◌++◌, ◌∷◌, [], None, false, Err, IfOk, OnOk, IfErr, vec_len};
+ghost use Rattle.std.specs.Prelude.{◌≡◌, ◌+◌, ◌≤◌, ◌++◌, ◌∷◌, [], None, false, Ok, Err, IfOk, OnOk, IfErr, vec_len};
 ghost use Rattle.std.specs.Vec.{vec_capacity};
 ghost use Rattle.lr_rules.specs.Path.{parent_of};
 ghost use Rattle.lr_host.specs.Opening.{IsJournal};
@@ -10,12 +10,10 @@ ghost use Rattle.lr_emptied.specs.Emptied.{EmptiesWhole};
 ghost use Rattle.lr_laws.specs.Forward.{IsForwardFor};
 ghost use Rattle.lr_laws.specs.Stays.{KeepsSafeWhere};
 ghost use Rattle.lr_laws_targets.specs.Runs.{IsWholeRunBy};
-ghost use Rattle.lr_run.specs.Anew.{NamesAnew};
-ghost use Rattle.lr_run.specs.Taken.{AddsTaken};
 ghost use Rattle.lr_plan.specs.Asked.{asking};
-ghost use Rattle.lr_run.specs.Internal.{RunsOn, StopsSo, dir_fault_of};
-ghost use Rattle.lr_run.specs.Answers.{Answers};
+ghost use Rattle.lr_run.specs.Internal.{StopsSo, dir_fault_of};
 ghost use Rattle.lr_run.specs.Copied.{IsCopyBy};
+ghost use Rattle.lr_run.specs.Ran.{RanSo};
 ghost use Rattle.lr_run.specs.State.{IsNewText};
 
 use crate::answer::{Ran, RunStop};
@@ -69,13 +67,11 @@ fn make_run<H: Host>(
     requires dir { names.dir ≡ parent_of settings.now.state }
     requires state { names.state ≡ settings.now.state }
     requires room { vec_len progress.old.faults + 2 ≤ vec_capacity progress.old.faults }
-    ensures told { OnOk result (Left (RunsOn settings.now.state (asking settings.now.force settings.now.mailer) clock.entry.now rules.now reached.new progress.old.faults.items progress.new.faults.items) (H.told host.old) (H.told host.new)) }
+    ensures told { OnOk result (RanSo false settings.now.state rules.now clock.entry.now (asking settings.now.force settings.now.mailer) progress.old.faults.items (Ok (record { plan = reached.new; faults = progress.new.faults })) (H.told host.old) (H.told host.new)) }
     ensures stopped { IfErr result (λ why. Left (StopsSo settings.now.state (asking settings.now.force settings.now.mailer) clock.entry.now rules.now why) (H.told host.old) (H.told host.new)) }
     ensures held { result ≡ Err RunStop.Held → Rose (H.counts host.old).held (H.counts host.new).held }
     ensures room { OnOk result (vec_len progress.new.faults + 1 ≤ vec_capacity progress.new.faults) }
     ensures counted { OnOk result (AddsFaults progress.old.faults.items progress.new.faults.items (H.counts host.old) (H.counts host.new)) }
-    ensures taken { OnOk result (AddsTaken settings.now.state reached.new progress.old.faults.items progress.new.faults.items (H.told host.old) (H.told host.new)) }
-    ensures anew { OnOk result (NamesAnew reached.new progress.new.faults.items (H.told host.new)) }
     ensures counts { Onward (H.counts host.old) (H.counts host.new) }
 {
     match look_for_dir(host, &names.dir) {
@@ -131,11 +127,9 @@ pub fn real_run<H: Host>(
     ensures safe { KeepsSafeWhere (IsForwardFor clock.entry.now) (H.told host.old) (H.told host.new) }
     ensures state { KeepsWhole settings.now.state (IsNewText settings.now.state clock.entry.now (asking settings.now.force settings.now.mailer) rules.now) (H.told host.old) (H.told host.new) }
     ensures copied { EmptiesWhole (IsCopyBy rules.now.sets clock.entry.now) (H.told host.old) (H.told host.new) }
-    ensures told { Left (Answers settings.now.state false (asking settings.now.force settings.now.mailer) clock.entry.now rules.now earlier.items result) (H.told host.old) (H.told host.new) }
+    ensures told { RanSo false settings.now.state rules.now clock.entry.now (asking settings.now.force settings.now.mailer) earlier.items result (H.told host.old) (H.told host.new) }
     ensures shape { Left (IsWholeRunBy clock.entry.now) (H.told host.old) (H.told host.new) }
     ensures counted { IfOk result (λ ran. AddsFaults earlier.items ran.faults.items (H.counts host.old) (H.counts host.new)) }
-    ensures taken { IfOk result (λ ran. AddsTaken settings.now.state ran.plan earlier.items ran.faults.items (H.told host.old) (H.told host.new)) }
-    ensures anew { IfOk result (λ ran. NamesAnew ran.plan ran.faults.items (H.told host.new)) }
     ensures held { result ≡ Err RunStop.Held → Rose (H.counts host.old).held (H.counts host.new).held }
     ensures room { IfOk result (λ ran. vec_len ran.faults + 1 ≤ vec_capacity ran.faults) }
     ensures counts { Onward (H.counts host.old) (H.counts host.new) }

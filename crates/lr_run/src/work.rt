@@ -11,9 +11,7 @@ ghost use Rattle.lr_host.specs.Told.{Left, Can, Onward, WhereTold};
 ghost use Rattle.lr_host.specs.Counted.{AddsFaults};
 ghost use Rattle.lr_plan.specs.Asked.{asking};
 ghost use Rattle.lr_plan.specs.Planned.{CanPlanAll};
-ghost use Rattle.lr_run.specs.Anew.{NamesAnew};
-ghost use Rattle.lr_run.specs.Taken.{AddsTaken};
-ghost use Rattle.lr_run.specs.Internal.{WorkDone, LookedDone, KnownBefore, SeenBefore, Carries, SomeWork, EndsBehindLooks, EndsBehindState};
+ghost use Rattle.lr_run.specs.Internal.{CameTo, Carries, EndsBehindLooks, EndsBehindState, IsBehind, KnownBefore, LooksAndActs, SeenBefore, SomeWork, WorksOn};
 
 use crate::acting::carry_out;
 use crate::known::known_state;
@@ -65,12 +63,10 @@ fn plan_and_act<H: Host>(
     requires rules { CanPlanAll rules.now.sets looks.now.sets }
     requires part { part ≡ state_part settings.now.state }
     requires seen { SeenBefore settings.now.state rules.now looks.now remembered (H.told host.old) }
-    ensures told { OnOk result (Carries rules.now looks.now settings.now.state remembered clock.entry.now (asking settings.now.force settings.now.mailer) reached.new progress.old.faults.items progress.new.faults.items (H.told host.old) (H.told host.new)) }
+    ensures told { OnOk result (Carries settings.now.state rules.now looks.now remembered clock.entry.now (asking settings.now.force settings.now.mailer) reached.new progress.old.faults.items progress.new.faults.items (H.told host.old) (H.told host.new)) }
     ensures some { OnErr result (Left (EndsBehindLooks rules.now looks.now settings.now.state remembered clock.entry.now (asking settings.now.force settings.now.mailer)) (H.told host.old) (H.told host.new)) }
     ensures room { OnOk result (vec_len progress.new.faults + 1 ≤ vec_capacity progress.new.faults) }
     ensures counted { OnOk result (AddsFaults progress.old.faults.items progress.new.faults.items (H.counts host.old) (H.counts host.new)) }
-    ensures taken { OnOk result (AddsTaken settings.now.state reached.new progress.old.faults.items progress.new.faults.items (H.told host.old) (H.told host.new)) }
-    ensures anew { OnOk result (NamesAnew reached.new progress.new.faults.items (H.told host.new)) }
     ensures counts { Onward (H.counts host.old) (H.counts host.new) }
 {
     let plan = plan(alloc, rules, looks, &remembered.table, clock, settings)?;
@@ -108,12 +104,10 @@ fn look_and_act<H: Host>(
     requires none { reached.old ≡ None }
     requires part { part ≡ state_part settings.now.state }
     requires known { KnownBefore settings.now.state remembered (H.told host.old) }
-    ensures told { OnOk result (LookedDone settings.now.state rules.now.sets clock.entry.now (asking settings.now.force settings.now.mailer) remembered reached.new progress.old.faults.items progress.new.faults.items (H.told host.old) (H.told host.new)) }
+    ensures told { OnOk result (CameTo (LooksAndActs (IsBehind remembered) settings.now.state rules.now.sets clock.entry.now (asking settings.now.force settings.now.mailer) reached.new progress.old.faults.items progress.new.faults.items) settings.now.state clock.entry.now (H.told host.old) (H.told host.new)) }
     ensures some { OnErr result (Left (EndsBehindState settings.now.state rules.now.sets clock.entry.now (asking settings.now.force settings.now.mailer) remembered) (H.told host.old) (H.told host.new)) }
     ensures room { OnOk result (vec_len progress.new.faults + 1 ≤ vec_capacity progress.new.faults) }
     ensures counted { OnOk result (AddsFaults progress.old.faults.items progress.new.faults.items (H.counts host.old) (H.counts host.new)) }
-    ensures taken { OnOk result (AddsTaken settings.now.state reached.new progress.old.faults.items progress.new.faults.items (H.told host.old) (H.told host.new)) }
-    ensures anew { OnOk result (NamesAnew reached.new progress.new.faults.items (H.told host.new)) }
     ensures counts { Onward (H.counts host.old) (H.counts host.new) }
 {
     let looks = look_at_logs(alloc, host, rules, &settings.state, &mut progress.faults)?;
@@ -146,12 +140,10 @@ pub fn work<H: Host>(
     requires disk { WhereTold (H.told host.old) IsJournal }
     requires dir { Can (H.told host.old) (entry.List (parent_of settings.now.state) []) }
     requires room { vec_len progress.old.faults + 2 ≤ vec_capacity progress.old.faults }
-    ensures told { OnOk result (WorkDone settings.now.state rules.now.sets clock.entry.now (asking settings.now.force settings.now.mailer) reached.new progress.old.faults.items progress.new.faults.items (H.told host.old) (H.told host.new)) }
+    ensures told { OnOk result (CameTo (WorksOn settings.now.state rules.now.sets clock.entry.now (asking settings.now.force settings.now.mailer) reached.new progress.old.faults.items progress.new.faults.items) settings.now.state clock.entry.now (H.told host.old) (H.told host.new)) }
     ensures some { OnErr result (Left (SomeWork settings.now.state rules.now.sets clock.entry.now (asking settings.now.force settings.now.mailer)) (H.told host.old) (H.told host.new)) }
     ensures room { OnOk result (vec_len progress.new.faults + 1 ≤ vec_capacity progress.new.faults) }
     ensures counted { OnOk result (AddsFaults progress.old.faults.items progress.new.faults.items (H.counts host.old) (H.counts host.new)) }
-    ensures taken { OnOk result (AddsTaken settings.now.state reached.new progress.old.faults.items progress.new.faults.items (H.told host.old) (H.told host.new)) }
-    ensures anew { OnOk result (NamesAnew reached.new progress.new.faults.items (H.told host.new)) }
     ensures counts { Onward (H.counts host.old) (H.counts host.new) }
 {
     let part = part_path(alloc, &settings.state)?;

@@ -14,7 +14,7 @@ run-requires g c = record { disk = disk_on c.in-Ok.ensures.told c.requires.disk 
 
 pub returns-in-Ok-run-clause-told : goal.returns-in-Ok-run-clause-told
 returns-in-Ok-run-clause-told g c = reports c.args.request.now c.args.clock.now c.in-Ok-run.ran.plan c.in-Ok.reading c.into_vec.result.items c.in-Ok-run.ran.faults.items c.into_vec.ensures
-    (rw c.as_slice.ensures at c.in-Ok.ensures.told) c.in-Ok-run.ensures.told
+    (rw c.as_slice.ensures at c.in-Ok.ensures.told) c.in-Ok-run.ensures.answers
 
 pub returns-in-Ok-run-clause-shape : goal.returns-in-Ok-run-clause-shape
 returns-in-Ok-run-clause-shape g c = confs_shape c.args.clock.now c.as_slice.result.now _ c.in-Ok.ensures.told c.run.ensures.shape
@@ -24,7 +24,7 @@ returns-in-Ok-run-clause-counted g c = both_counted c.into_vec.result.items c.in
     (reading_counted c.in-Ok.reading.faults _ _ c.in-Ok.ensures.only c.in-Ok.ensures.counted c.read_all.ensures.counts.0) c.in-Ok-run.ensures.counted
 
 pub returns-clause-told : goal.returns-clause-told
-returns-clause-told g c = stopped c.args.request.now c.args.clock.now c.in-Ok.reading c.into_vec.result.items c.in-Err.stop (rw c.as_slice.ensures at c.in-Ok.ensures.told) c.in-Err.ensures.told
+returns-clause-told g c = stopped c.args.request.now c.args.clock.now c.in-Ok.reading c.into_vec.result.items c.in-Err.stop (rw c.as_slice.ensures at c.in-Ok.ensures.told) c.in-Err.ensures.answers
 
 pub returns-clause-shape : goal.returns-clause-shape
 returns-clause-shape g c = confs_shape c.args.clock.now c.as_slice.result.now _ c.in-Ok.ensures.told c.run.ensures.shape

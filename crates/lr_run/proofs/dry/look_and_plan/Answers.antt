@@ -1,6 +1,6 @@
 use Rattle.std.proofs.Common.{refl}
 use Rattle.lr_plan.specs.Asked.{asking}
-use Rattle.lr_run.proofs.Drying.{planned, planned_counted, all_looked}
+use Rattle.lr_run.proofs.Trying.{planned, planned_counted, all_looked}
 use Rattle.lr_run.proofs.Works.{some_looked}
 use Rattle.lr_run.proofs.dry.look_and_plan.Goals as goal
 

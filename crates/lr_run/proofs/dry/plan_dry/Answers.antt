@@ -1,6 +1,6 @@
 use Rattle.std.proofs.Common.{refl}
 use Rattle.lr_plan.specs.Asked.{asking}
-use Rattle.lr_run.proofs.Drying.{follows}
+use Rattle.lr_run.proofs.Trying.{follows}
 use Rattle.lr_run.proofs.dry.plan_dry.Goals as goal
 
 pub returns-clause-follows : goal.returns-clause-follows

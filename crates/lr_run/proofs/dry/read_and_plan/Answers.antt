@@ -1,6 +1,6 @@
 use Rattle.std.proofs.Common.{◌∙◌, Ok, Err, ap}
 use Rattle.lr_plan.specs.Asked.{asking}
-use Rattle.lr_run.proofs.Drying.{planned_by, not_planned, some_planned, none_read, some_read}
+use Rattle.lr_run.proofs.Trying.{planned_by, not_planned, some_planned, none_read, some_read}
 use Rattle.lr_run.proofs.Ending.{adds_later}
 use Rattle.lr_run.proofs.Works.{unknown_counted}
 use Rattle.lr_run.proofs.dry.read_and_plan.Goals as goal

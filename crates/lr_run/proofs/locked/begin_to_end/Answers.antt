@@ -1,13 +1,12 @@
 use Rattle.lr_placed.proofs.Lasting.{disk_on}
 use Rattle.lr_plan.specs.Asked.{asking}
-use Rattle.lr_run.proofs.Parts.{began, locked, goes, lacks, goes_not}
+use Rattle.lr_run.proofs.Coming.{goes}
+use Rattle.lr_run.proofs.Parts.{began, locked, lacks, goes_not}
 use Rattle.lr_run.proofs.Working.{is_on}
 use Rattle.std.proofs.Common.{ap}
 use Rattle.std.specs.Prelude.{filter}
 use Rattle.lr_host.specs.Steps.{is_naming}
 use Rattle.lr_host.proofs.Left.{can_as, can_stay}
-use Rattle.lr_run.proofs.Taken.{adds_behind, none_adds}
-use Rattle.lr_run.proofs.Anew.{none_anew}
 use Rattle.lr_run.proofs.locked.begin_to_end.Goals as goal
 
 pub work_to_end-requires-clause-disk : goal.work_to_end-requires-clause-disk
@@ -32,12 +31,3 @@ returns-in-Ok-false-clause-stopped g c = locked c.args.settings.now.state (askin
 
 pub returns-clause-told : goal.returns-clause-told
 returns-clause-told g c = goes_not c.args.settings.now.state (asking c.args.settings.now.force c.args.settings.now.mailer) c.args.clock.now c.args.rules.now c.args.reached.now c.args.name c.args.progress.now.faults.items c.add_not_begun.new.faults.items c.requires.none c.requires.name c.add_not_begun.ensures.faults c.in-Err.ensures.told
-
-pub returns-in-Ok-clause-taken : goal.returns-in-Ok-clause-taken
-returns-in-Ok-clause-taken g c = adds_behind c.args.settings.now.state c.work_to_end.new.reached c.args.progress.now.faults.items c.work_to_end.new.progress.faults.items c.in-Ok-true.ensures.told c.in-Ok.ensures.taken
-
-pub returns-clause-taken : goal.returns-clause-taken
-returns-clause-taken g c = none_adds c.args.settings.now.state c.args.reached.now c.args.progress.now.faults.items c.add_not_begun.new.faults.items _ _ _ c.requires.none c.add_not_begun.ensures.faults
-
-pub returns-clause-anew : goal.returns-clause-anew
-returns-clause-anew g c = none_anew c.args.reached.now c.add_not_begun.new.faults.items _ c.requires.none

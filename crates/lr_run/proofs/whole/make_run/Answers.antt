@@ -5,8 +5,6 @@ use Rattle.lr_placed.proofs.Lasting.{disk_on}
 use Rattle.lr_plan.specs.Asked.{asking}
 use Rattle.lr_run.proofs.Ending.{adds_later, dir_counted}
 use Rattle.lr_run.proofs.Parts.{behind_dir, stopped_behind, no_dir}
-use Rattle.lr_run.proofs.Taken.{taken_behind, none_adds}
-use Rattle.lr_run.proofs.Anew.{none_anew}
 use Rattle.lr_run.proofs.whole.make_run.Goals as goal
 
 pub begin_to_end-requires-clause-disk : goal.begin_to_end-requires-clause-disk
@@ -16,25 +14,16 @@ pub begin_to_end-requires-clause-there : goal.begin_to_end-requires-clause-there
 begin_to_end-requires-clause-there g c = can_as c.in-Ok.ensures.there (λ n h. subst (IsDirectoryAt n) c.requires.dir h)
 
 pub returns-in-Ok-clause-told : goal.returns-in-Ok-clause-told
-returns-in-Ok-clause-told g c = behind_dir c.args.settings.now.state (asking c.args.settings.now.force c.args.settings.now.mailer) c.args.clock.now c.args.rules.now c.begin_to_end.new.reached c.args.names.dir c.args.progress.now.faults.items c.begin_to_end.new.progress.faults.items c.begin_to_end.result _ c.requires.dir c.in-Ok.ensures.told c.begin_to_end.ensures.told
+returns-in-Ok-clause-told g c = behind_dir c.args.settings.now.state (asking c.args.settings.now.force c.args.settings.now.mailer) c.args.clock.now c.args.rules.now c.args.progress.now.faults.items (record { plan = c.begin_to_end.new.reached; faults = c.begin_to_end.new.progress.faults }) c.args.names.dir c.begin_to_end.result _ c.requires.dir c.in-Ok.ensures.told c.begin_to_end.ensures.told
 
 pub returns-in-Ok-clause-stopped : goal.returns-in-Ok-clause-stopped
 returns-in-Ok-clause-stopped g c = stopped_behind c.args.settings.now.state (asking c.args.settings.now.force c.args.settings.now.mailer) c.args.clock.now c.args.rules.now c.args.names.dir c.begin_to_end.result _ c.requires.dir c.in-Ok.ensures.told c.begin_to_end.ensures.stopped
 
 pub returns-in-Err-clause-told : goal.returns-in-Err-clause-told
-returns-in-Err-clause-told g c = no_dir c.args.settings.now.state (asking c.args.settings.now.force c.args.settings.now.mailer) c.args.clock.now c.args.rules.now c.args.reached.now c.in-Err.why c.args.names.dir c.args.progress.now.faults.items c.add_dir_fault.new.faults.items c.requires.none c.requires.dir c.add_dir_fault.ensures.faults c.in-Err.ensures.stopped
+returns-in-Err-clause-told g c = no_dir c.args.settings.now.state (asking c.args.settings.now.force c.args.settings.now.mailer) c.args.clock.now c.args.rules.now c.args.progress.now.faults.items (record { plan = c.args.reached.now; faults = c.add_dir_fault.new.faults }) c.in-Err.why c.args.names.dir c.requires.none c.requires.dir c.add_dir_fault.ensures.faults c.in-Err.ensures.stopped
 
 pub returns-in-Ok-clause-counted : goal.returns-in-Ok-clause-counted
 returns-in-Ok-clause-counted g c = adds_later c.begin_to_end.result c.args.progress.now.faults.items c.begin_to_end.new.progress.faults.items _ _ _ c.in-Ok.ensures.counts.0 c.begin_to_end.ensures.counted
 
 pub returns-in-Err-clause-counted : goal.returns-in-Err-clause-counted
 returns-in-Err-clause-counted g c = dir_counted c.in-Err.why c.args.names.dir c.args.progress.now.faults.items c.add_dir_fault.new.faults.items _ _ c.add_dir_fault.ensures.faults (λ e. c.look_for_dir.ensures.cause (c.in-Err.is ∙ ap Err e)) c.in-Err.ensures.counts.0
-
-pub returns-in-Ok-clause-taken : goal.returns-in-Ok-clause-taken
-returns-in-Ok-clause-taken g c = taken_behind c.begin_to_end.result c.args.settings.now.state c.begin_to_end.new.reached c.args.progress.now.faults.items c.begin_to_end.new.progress.faults.items _ c.in-Ok.ensures.told c.begin_to_end.ensures.taken
-
-pub returns-in-Err-clause-taken : goal.returns-in-Err-clause-taken
-returns-in-Err-clause-taken g c = none_adds c.args.settings.now.state c.args.reached.now c.args.progress.now.faults.items c.add_dir_fault.new.faults.items _ _ _ c.requires.none c.add_dir_fault.ensures.faults
-
-pub returns-in-Err-clause-anew : goal.returns-in-Err-clause-anew
-returns-in-Err-clause-anew g c = none_anew c.args.reached.now c.add_dir_fault.new.faults.items _ c.requires.none

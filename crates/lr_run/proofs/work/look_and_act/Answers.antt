@@ -1,6 +1,6 @@
 use Rattle.lr_plan.specs.Asked.{asking}
-use Rattle.lr_run.proofs.Works.{lacks_looks, behind_looks, looked_done, looked_counted}
-use Rattle.lr_run.proofs.Taken.{looked_taken}
+use Rattle.lr_run.proofs.Coming.{looked_done}
+use Rattle.lr_run.proofs.Works.{lacks_looks, behind_looks, looked_counted}
 use Rattle.lr_run.proofs.work.look_and_act.Goals as goal
 
 pub returns-in_err-looks-clause-some : goal.returns-in_err-looks-clause-some
@@ -16,7 +16,3 @@ returns-clause-some g c = behind_looks c.plan_and_act.result c.args.settings.now
 
 pub returns-clause-counted : goal.returns-clause-counted
 returns-clause-counted g c = looked_counted c.plan_and_act.result c.args.progress.now.faults.items c.look_at_logs.new.faults.items c.plan_and_act.new.progress.faults.items _ _ _ c.in_ok-looks.ensures.counted c.plan_and_act.ensures.counted
-
-pub returns-clause-taken : goal.returns-clause-taken
-returns-clause-taken g c = looked_taken c.plan_and_act.result c.args.settings.now.state _ c.args.rules.now.sets c.in_ok-looks.looks c.plan_and_act.new.reached c.args.progress.now.faults.items c.look_at_logs.new.faults.items c.plan_and_act.new.progress.faults.items _ _ _ _
-    c.in_ok-looks.ensures.told c.in_ok-looks.ensures.counted c.plan_and_act.ensures.told c.plan_and_act.ensures.taken

@@ -1,12 +1,9 @@
-use Rattle.std.proofs.Common.{Some, [], ◌∷◌, ap, ◌∙◌}
-use Rattle.lr_rules.specs.declared.fault.Fault.TheVariants as fault
-use Rattle.lr_rules.specs.declared.fault.StateKind.TheVariants as kind
+use Rattle.std.proofs.Common.{Some, ap, ◌∙◌}
 use Rattle.lr_placed.proofs.Lasting.{disk_on}
 use Rattle.lr_plan.specs.Asked.{asking}
 use Rattle.lr_run.proofs.Placing.{fits_behind_acts}
-use Rattle.lr_run.proofs.Works.{ready_of, not_ready, ready_fit, carried_out, carried_counted, too_big_told, none_acted, some_acted}
-use Rattle.lr_run.proofs.Taken.{carried_taken, too_big_taken}
-use Rattle.lr_run.proofs.Anew.{carried_anew, no_anew}
+use Rattle.lr_run.proofs.Doing.{carried_out, too_big_told}
+use Rattle.lr_run.proofs.Works.{ready_of, not_ready, ready_fit, carried_counted, none_acted, some_acted}
 use Rattle.lr_run.proofs.work.plan_and_act.Goals as goal
 
 pub carry_out-requires-clause-fits : goal.carry_out-requires-clause-fits
@@ -22,7 +19,7 @@ carry_out-requires-clause-fits_state g c =
 pub returns-in-Some-clause-told : goal.returns-in-Some-clause-told
 returns-in-Some-clause-told g c =
     let r = ready_of c.args.settings.now.state c.args.clock.now c.args.remembered _ _ c.in_ok-plan.plan _ c.in_ok-ready.field-0 c.in-Some.ready c.args.progress.now c.make_ready.new.progress c.as_slice-kept.ensures c.in_ok-plan.ensures c.in-Some.is c.in_ok-ready.ensures in
-    carried_out c.carry_out.result c.args.settings.now.state c.args.rules.now c.args.looks.now c.args.remembered c.args.clock.now (asking c.args.settings.now.force c.args.settings.now.mailer) c.reach.new.reached c.in-Some.ready c.args.progress.now c.make_ready.new.progress c.carry_out.new.progress _ _ _ _ (c.reach.ensures ∙ ap Some c.in_ok-plan.ensures) r c.carry_out.ensures.told
+    carried_out c.carry_out.result c.args.settings.now.state c.args.rules.now c.args.looks.now c.args.remembered c.args.clock.now (asking c.args.settings.now.force c.args.settings.now.mailer) c.reach.new.reached c.in-Some.ready c.args.progress.now c.make_ready.new.progress c.carry_out.new.progress _ _ _ _ (c.reach.ensures ∙ ap Some c.in_ok-plan.ensures) r c.requires.seen c.carry_out.ensures.told
 
 pub returns-in-Some-clause-some : goal.returns-in-Some-clause-some
 returns-in-Some-clause-some g c =
@@ -47,21 +44,3 @@ returns-in_err-ready-clause-some g c = none_acted c.from_residual-in_err-ready.r
 
 pub returns-in-None-clause-some : goal.returns-in-None-clause-some
 returns-in-None-clause-some g c = none_acted c.add_too_big.result c.args.rules.now c.args.looks.now c.args.settings.now.state c.args.remembered c.args.clock.now (asking c.args.settings.now.force c.args.settings.now.mailer) _
-
-pub returns-in-Some-clause-taken : goal.returns-in-Some-clause-taken
-returns-in-Some-clause-taken g c =
-    let r = ready_of c.args.settings.now.state c.args.clock.now c.args.remembered _ _ c.in_ok-plan.plan _ c.in_ok-ready.field-0 c.in-Some.ready c.args.progress.now c.make_ready.new.progress c.as_slice-kept.ensures c.in_ok-plan.ensures c.in-Some.is c.in_ok-ready.ensures in
-    carried_taken c.carry_out.result c.args.settings.now.state c.args.rules.now c.args.looks.now c.args.remembered c.args.clock.now (asking c.args.settings.now.force c.args.settings.now.mailer) c.reach.new.reached c.in-Some.ready c.args.progress.now c.make_ready.new.progress c.carry_out.new.progress _ _ _ _ (c.reach.ensures ∙ ap Some c.in_ok-plan.ensures) r c.requires.seen c.carry_out.ensures.told
-
-pub returns-in-None-clause-taken : goal.returns-in-None-clause-taken
-returns-in-None-clause-taken g c =
-    too_big_taken c.add_too_big.result c.args.settings.now.state c.args.reached.now c.args.progress.now c.make_ready.new.progress c.add_too_big.new.faults.items (fault.State 0 kind.TooBig ∷ []) _ c.requires.none
-    (not_ready c.args.settings.now.state c.args.clock.now c.args.remembered _ _ c.in_ok-plan.plan _ c.in_ok-ready.field-0 c.args.progress.now c.make_ready.new.progress c.as_slice-kept.ensures c.in_ok-plan.ensures c.in-None.is c.in_ok-ready.ensures).1 c.add_too_big.ensures.faults
-
-pub returns-in-Some-clause-anew : goal.returns-in-Some-clause-anew
-returns-in-Some-clause-anew g c =
-    let r = ready_of c.args.settings.now.state c.args.clock.now c.args.remembered _ _ c.in_ok-plan.plan _ c.in_ok-ready.field-0 c.in-Some.ready c.args.progress.now c.make_ready.new.progress c.as_slice-kept.ensures c.in_ok-plan.ensures c.in-Some.is c.in_ok-ready.ensures in
-    carried_anew c.carry_out.result c.args.settings.now.state c.args.rules.now c.args.looks.now c.args.remembered c.args.clock.now (asking c.args.settings.now.force c.args.settings.now.mailer) c.reach.new.reached c.in-Some.ready c.args.progress.now c.make_ready.new.progress c.carry_out.new.progress _ _ _ _ (c.reach.ensures ∙ ap Some c.in_ok-plan.ensures) r c.requires.seen c.carry_out.ensures.told
-
-pub returns-in-None-clause-anew : goal.returns-in-None-clause-anew
-returns-in-None-clause-anew g c = no_anew c.add_too_big.result c.args.reached.now c.add_too_big.new.faults.items _ c.requires.none

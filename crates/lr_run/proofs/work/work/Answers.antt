@@ -1,8 +1,7 @@
 use Rattle.std.proofs.Common.{◌∙◌, Ok, Err, ap}
 use Rattle.lr_plan.specs.Asked.{asking}
-use Rattle.lr_run.proofs.Works.{none_seen, some_read, known_done, behind_state, unknown_done, unknown_counted}
-use Rattle.lr_run.proofs.Taken.{taken_behind, none_adds}
-use Rattle.lr_run.proofs.Anew.{none_anew}
+use Rattle.lr_run.proofs.Coming.{known_done, unknown_done}
+use Rattle.lr_run.proofs.Works.{none_seen, some_read, behind_state, unknown_counted}
 use Rattle.lr_run.proofs.work.work.Goals as goal
 
 pub returns-in_err-part-clause-some : goal.returns-in_err-part-clause-some
@@ -25,12 +24,3 @@ returns-in-Err-clause-told g c = unknown_done c.args.settings.now.state c.args.r
 
 pub returns-in-Err-clause-counted : goal.returns-in-Err-clause-counted
 returns-in-Err-clause-counted g c = unknown_counted c.args.settings.now.state c.in-Err.fault c.args.progress.now.faults.items c.add_unknown.new.faults.items _ _ c.add_unknown.ensures.faults (c.in_ok-remembered.ensures.only c.in-Err.fault (ap Ok c.in-Err.is)) (λ kind path is. c.in_ok-remembered.ensures.counted kind path (ap Ok (c.in-Err.is ∙ ap Err is))) c.in_ok-remembered.ensures.counts.0
-
-pub returns-in-Ok-clause-taken : goal.returns-in-Ok-clause-taken
-returns-in-Ok-clause-taken g c = taken_behind c.look_and_act.result c.args.settings.now.state c.look_and_act.new.reached c.args.progress.now.faults.items c.look_and_act.new.progress.faults.items _ c.in_ok-remembered.ensures.told c.look_and_act.ensures.taken
-
-pub returns-in-Err-clause-taken : goal.returns-in-Err-clause-taken
-returns-in-Err-clause-taken g c = none_adds c.args.settings.now.state c.args.reached.now c.args.progress.now.faults.items c.add_unknown.new.faults.items _ _ _ c.requires.none c.add_unknown.ensures.faults
-
-pub returns-in-Err-clause-anew : goal.returns-in-Err-clause-anew
-returns-in-Err-clause-anew g c = none_anew c.args.reached.now c.add_unknown.new.faults.items _ c.requires.none
