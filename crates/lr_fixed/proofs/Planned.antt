@@ -62,7 +62,7 @@ module _ (set : ℕ) (x y : LogLook) (e : looked_in set x ≡ looked_in set y) w
 
   -- so what is done with it is the same
   done_same : (mailer : Path) (rule : Rule) (ready : Ready) → plan_with mailer rule x ready ≡ plan_with mailer rule y ready
-  done_same mailer rule ready = rw (job_same rule.way ready.target, path_is) refl
+  done_same mailer rule ready = rw (job_same rule.way ready.target, path_is, naming_is, stand_is) refl
 
   -- the rotation makes the same directory
   dir_same : (rule : Rule) → dir_of rule x ≡ dir_of rule y
