@@ -12,67 +12,21 @@
 #![tactic(auto)]
 
 mod said;
-mod stop;
-mod zone;
 
-use crate::said::{USAGE, put_version};
-use crate::stop::{Stop, outcome_of, stop_of};
-use crate::zone::zone_given;
+use crate::said::USAGE;
 use lr_adapt::{RealHost, RealSink};
 use lr_cli::{Outcome, Zone, logrotate, printed, status};
+use lr_given::{GivenStop, here_given, is_alone, put_version, seconds, words_given, zone_given};
 use lr_host::Sink;
-use lr_rules::{Path, PathFault, Text};
+use lr_rules::{Path, Text};
 use std::alloc::Global;
-use std::env;
 use std::process::ExitCode;
-use std::time::{SystemTime, UNIX_EPOCH};
 
-// The words of the command line behind the program's name.
-fn words_of(rt: &HostRuntime, alloc: Global) -> Result<Vec<Text>, Stop> {
-    let mut args = match env::args(rt) {
-        Ok(args) => args,
-        Err(e) => return Err(stop_of(e.kind())),
-    };
-    let _name = args.next();
-    let mut words = Vec::new(alloc);
-    for arg in args {
-        add_word(alloc, &mut words, arg.as_bytes())?;
-    }
-    Ok(words)
-}
-
-// An argument is a text, so all that is refused here is memory.
-fn add_word(alloc: Global, words: &mut Vec<Text>, arg: &[u8]) -> Result<(), Stop> {
-    let Ok(word) = Text::new(alloc, arg) else {
-        return Err(Stop::Memory);
-    };
-    match words.push(word) {
-        Ok(()) => Ok(()),
-        Err(_) => Err(Stop::Memory),
-    }
-}
-
-// The working directory.
-fn here_of(rt: &HostRuntime, alloc: Global) -> Result<Path, Stop> {
-    let here = match env::current_dir(rt) {
-        Ok(here) => here,
-        Err(e) => return Err(stop_of(e.kind())),
-    };
-    match Path::new(alloc, here.as_str().as_bytes()) {
-        Ok(here) => Ok(here),
-        Err(PathFault::Memory) => Err(Stop::Memory),
-        Err(_) => Err(Stop::BadWords),
-    }
-}
-
-// The clock's seconds since 1970; -1 where it can't be read or shows an earlier time.
-fn seconds(rt: &HostRuntime) -> i64 {
-    let Ok(now) = SystemTime::now(rt) else {
-        return -1;
-    };
-    match now.duration_since(UNIX_EPOCH) {
-        Ok(since) => i64::try_from(since.as_secs()).unwrap_or(-1),
-        Err(_) => -1,
+// Why there is nothing to run: the outcome of what the machine doesn't give.
+fn outcome_of(stop: GivenStop) -> Outcome {
+    match stop {
+        GivenStop::BadWords => Outcome::BadWords,
+        GivenStop::Memory => Outcome::OutOfMemory,
     }
 }
 
@@ -83,8 +37,8 @@ struct Asked {
     here: Path,
 }
 
-fn asked_of(rt: &HostRuntime, alloc: Global) -> Result<Asked, Stop> {
-    let here = here_of(rt, alloc)?;
+fn asked_of(rt: &HostRuntime, alloc: Global) -> Result<Asked, GivenStop> {
+    let here = here_given(rt, alloc)?;
     let zone = zone_given(rt, alloc)?;
     Ok(Asked { zone, here })
 }
@@ -118,21 +72,13 @@ fn ended(rt: &HostRuntime, outcome: &Outcome) -> ExitCode {
     ExitCode::from(status(outcome))
 }
 
-// The words whose answer is of the program itself.
-fn is_alone(words: &[Text], wanted: &[u8]) -> bool {
-    match words {
-        [word] => word.bytes() == wanted,
-        _ => false,
-    }
-}
-
 // Without a runtime for it there is no output, so nothing is said then.
 fn main(rt: HostRuntime) -> ExitCode {
     let Ok(output) = rt.clone() else {
         return ExitCode::from(status(&Outcome::OutOfMemory));
     };
     let mut out = RealSink::new(output);
-    let words = match words_of(&rt, rt.alloc()) {
+    let words = match words_given(&rt, rt.alloc()) {
         Ok(words) => words,
         Err(stop) => return ended(&rt, &printed(outcome_of(stop), &mut out)),
     };
@@ -141,7 +87,7 @@ fn main(rt: HostRuntime) -> ExitCode {
         return ExitCode::from(0);
     }
     if is_alone(&words, b"--version".as_slice()) {
-        put_version(&rt);
+        put_version(&rt, "logrotate");
         return ExitCode::from(0);
     }
     ended(&rt, &run(&rt, &words, &mut out))

@@ -26,9 +26,9 @@ use Rattle.lr_run.specs.declared.answer.RunStop.TheVariants as stop
 use Rattle.lr_cli.specs.declared.clock.ClockStop.{ClockStop}
 use Rattle.lr_cli.specs.declared.clock.ClockStop.TheVariants as clock_stop
 use Rattle.lr_cli.specs.declared.told.Told.{Told}
-use Rattle.lr_cli.specs.declared.outcome.Outcome.{Outcome}
-use Rattle.lr_cli.specs.declared.outcome.Outcome.TheVariants.{Done, BadWords, Held, OutOfMemory}
-use Rattle.lr_cli.specs.declared.outcome.Report.{Report}
+use Rattle.lr_report.specs.declared.outcome.Outcome.{Outcome}
+use Rattle.lr_report.specs.declared.outcome.Outcome.TheVariants.{Done, BadWords, Held, OutOfMemory}
+use Rattle.lr_report.specs.declared.outcome.Report.{Report}
 use Rattle.lr_command.specs.declared.request.Request.{Request}
 use Rattle.lr_command.specs.Words.{asked}
 use Rattle.lr_cli.specs.Answer.{Answers, AnswersAt, no_clock, no_memory, called, Answered, not_read, read}

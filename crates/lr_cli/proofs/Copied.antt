@@ -25,8 +25,8 @@ use Rattle.lr_run.specs.Copied.{IsCopyBy}
 use Rattle.lr_run.proofs.Drying.{holds_quiet, leaves_copied, lacks_copied}
 use Rattle.lr_run.proofs.Made.{AreMade, are_made, made_later}
 use Rattle.lr_cli.specs.declared.clock.ClockStop.TheVariants as stop
-use Rattle.lr_cli.specs.declared.outcome.Outcome.{Outcome}
-use Rattle.lr_cli.specs.declared.outcome.Outcome.TheVariants.{Done, BadWords, Held, OutOfMemory}
+use Rattle.lr_report.specs.declared.outcome.Outcome.{Outcome}
+use Rattle.lr_report.specs.declared.outcome.Outcome.TheVariants.{Done, BadWords, Held, OutOfMemory}
 use Rattle.lr_command.specs.declared.request.Request.{Request}
 use Rattle.lr_cli.specs.Answer.{Reports, FindsLock, LacksMemory, at_confs, at_run, Answers, AnswersAt, no_clock, no_memory, called, Answered, not_read, read}
 use Rattle.lr_cli.specs.Asked.{AskFor}

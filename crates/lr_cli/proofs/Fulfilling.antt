@@ -26,9 +26,9 @@ use Rattle.lr_run.proofs.Called.{nothing_stops}
 use Rattle.lr_fulfilled.proofs.Failing.{worked_met_nothing}
 use Rattle.lr_fulfilled.proofs.Fulfilled.{fulfilled}
 use Rattle.lr_command.specs.declared.request.Request.{Request}
-use Rattle.lr_cli.specs.declared.outcome.Outcome.{Outcome}
-use Rattle.lr_cli.specs.declared.outcome.Outcome.TheVariants.{Done}
-use Rattle.lr_cli.specs.declared.outcome.Report.{Report}
+use Rattle.lr_report.specs.declared.outcome.Outcome.{Outcome}
+use Rattle.lr_report.specs.declared.outcome.Outcome.TheVariants.{Done}
+use Rattle.lr_report.specs.declared.outcome.Report.{Report}
 use Rattle.lr_cli.specs.Answer.{Answered}
 use Rattle.lr_cli.specs.Asked.{AskFor}
 use Rattle.lr_cli.specs.Fulfilled.{FailNothing, MakesDirs, FulfillsPlan, plan_by}

@@ -9,8 +9,8 @@ use Rattle.lr_rules.specs.declared.fault.Notice.{Notice}
 use Rattle.lr_host.specs.declared.entry.Entry.{Entry}
 use Rattle.lr_host.specs.declared.journal.Journal.{Journal}
 use Rattle.lr_host.specs.Told.{Left}
-use Rattle.lr_cli.specs.declared.outcome.Outcome.{Outcome}
-use Rattle.lr_cli.specs.declared.outcome.Outcome.TheVariants.{Done, BadWords, Held, OutOfMemory}
+use Rattle.lr_report.specs.declared.outcome.Outcome.{Outcome}
+use Rattle.lr_report.specs.declared.outcome.Outcome.TheVariants.{Done, BadWords, Held, OutOfMemory}
 use Rattle.lr_cli.specs.Faults.{HasFault}
 use Rattle.lr_cli.specs.Printed.{no_out, but_out, without_out}
 

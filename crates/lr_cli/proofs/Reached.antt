@@ -35,9 +35,9 @@ use Rattle.lr_reached.proofs.Reached.{unseen, came_to, reached_saw, reached_none
 use Rattle.lr_reached.proofs.Standing.{cut_at}
 use Rattle.lr_reached.proofs.Start.{behind_quiet, none_behind}
 use Rattle.lr_cli.specs.declared.clock.ClockStop.TheVariants as stop
-use Rattle.lr_cli.specs.declared.outcome.Outcome.{Outcome}
-use Rattle.lr_cli.specs.declared.outcome.Outcome.TheVariants.{Done}
-use Rattle.lr_cli.specs.declared.outcome.Report.{Report}
+use Rattle.lr_report.specs.declared.outcome.Outcome.{Outcome}
+use Rattle.lr_report.specs.declared.outcome.Outcome.TheVariants.{Done}
+use Rattle.lr_report.specs.declared.outcome.Report.{Report}
 use Rattle.lr_command.specs.declared.request.Request.{Request}
 use Rattle.lr_cli.specs.Answer.{Reports, AnswersAt, no_clock, no_memory, called, Answered, not_read, read}
 use Rattle.lr_cli.specs.Clock.{ShowsClock, LacksClock, out_of_range, no_text, refused}

@@ -32,9 +32,9 @@ use Rattle.lr_fulfilled.specs.Fulfilled.{NothingFailed}
 use Rattle.lr_spared.specs.Smooth.{NoneRose}
 use Rattle.lr_spared.proofs.Smooth.{none_rose, nothing_fails}
 use Rattle.lr_command.specs.declared.request.Request.{Request}
-use Rattle.lr_cli.specs.declared.outcome.Outcome.{Outcome}
-use Rattle.lr_cli.specs.declared.outcome.Outcome.TheVariants.{Done}
-use Rattle.lr_cli.specs.declared.outcome.Report.{Report}
+use Rattle.lr_report.specs.declared.outcome.Outcome.{Outcome}
+use Rattle.lr_report.specs.declared.outcome.Outcome.TheVariants.{Done}
+use Rattle.lr_report.specs.declared.outcome.Report.{Report}
 use Rattle.lr_cli.specs.declared.told.Told.{Told}
 use Rattle.lr_cli.specs.Answer.{Answered}
 use Rattle.lr_cli.specs.Asked.{AskFor}

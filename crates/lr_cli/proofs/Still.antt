@@ -30,7 +30,8 @@ use Rattle.lr_plan.specs.Asked.{asking}
 use Rattle.lr_plan.specs.declared.plan.Plan.{Plan}
 use Rattle.lr_run.specs.Answers.{Leaves, Holds, Lacks}
 use Rattle.lr_run.specs.Dry.{IsSight, AreSights}
-use Rattle.lr_run.specs.Runs.{Inside, SomeSeen, in_looks, in_acts, LacksMemory as RunLacks, at_first as run_at_first}
+use Rattle.lr_looks.specs.Inside.{Inside}
+use Rattle.lr_run.specs.Runs.{SomeSeen, in_looks, in_acts, LacksMemory as RunLacks, at_first as run_at_first}
 use Rattle.lr_run.specs.Scripts.{RunNothing}
 use Rattle.lr_run.proofs.Drying.{tries_so, lacks_so}
 use Rattle.lr_run.proofs.Scriptless.{never_broke_off}
@@ -38,8 +39,8 @@ use Rattle.lr_run.proofs.Seeing.{some_so}
 use Rattle.lr_cli.specs.declared.clock.ClockStop.{ClockStop}
 use Rattle.lr_cli.specs.declared.clock.ClockStop.TheVariants as stop
 use Rattle.lr_cli.specs.Clock.{ShowsClock, LacksClock, out_of_range, no_text, refused, ClockStopped}
-use Rattle.lr_cli.specs.declared.outcome.Outcome.{Outcome}
-use Rattle.lr_cli.specs.declared.outcome.Outcome.TheVariants.{Done, BadWords, Held, OutOfMemory}
+use Rattle.lr_report.specs.declared.outcome.Outcome.{Outcome}
+use Rattle.lr_report.specs.declared.outcome.Outcome.TheVariants.{Done, BadWords, Held, OutOfMemory}
 use Rattle.lr_command.specs.declared.request.Request.{Request}
 use Rattle.lr_cli.specs.Answer.{Answers, LacksMemory, at_confs, at_run, AnswersAt, no_clock, no_memory, called, Answered, not_read, read}
 use Rattle.lr_cli.specs.Still.{IsStill, AreStill, WasShort, all_still, broke_off}

@@ -19,9 +19,9 @@ use Rattle.lr_reached.specs.Tried.{EndsTry, NoneEndsTry}
 use Rattle.lr_reached.proofs.Ends.{last_in}
 use Rattle.lr_reached.proofs.Tried.{none_try, try_both, last_tries, reached_try, ended_try}
 use Rattle.lr_command.specs.declared.request.Request.{Request}
-use Rattle.lr_cli.specs.declared.outcome.Outcome.{Outcome}
-use Rattle.lr_cli.specs.declared.outcome.Outcome.TheVariants.{Done}
-use Rattle.lr_cli.specs.declared.outcome.Report.{Report}
+use Rattle.lr_report.specs.declared.outcome.Outcome.{Outcome}
+use Rattle.lr_report.specs.declared.outcome.Outcome.TheVariants.{Done}
+use Rattle.lr_report.specs.declared.outcome.Report.{Report}
 use Rattle.lr_cli.specs.Answer.{Reports, AnswersAt, no_clock, no_memory, called, Answered, not_read, read}
 use Rattle.lr_cli.specs.Asked.{AskFor}
 use Rattle.lr_cli.specs.Clock.{ShowsClock, LacksClock, out_of_range, no_text, refused}

@@ -12,8 +12,8 @@ use Rattle.lr_run.specs.Copied.{NoneOfCopy}
 use Rattle.lr_reached.specs.Ending.{NoneEnds}
 use Rattle.lr_cli.specs.declared.clock.ClockStop.{ClockStop}
 use Rattle.lr_cli.specs.declared.clock.ClockStop.TheVariants as clock_stop
-use Rattle.lr_cli.specs.declared.outcome.Outcome.{Outcome}
-use Rattle.lr_cli.specs.declared.outcome.Outcome.TheVariants.{Done, Held, OutOfMemory}
+use Rattle.lr_report.specs.declared.outcome.Outcome.{Outcome}
+use Rattle.lr_report.specs.declared.outcome.Outcome.TheVariants.{Done, Held, OutOfMemory}
 use Rattle.lr_cli.specs.declared.told.Told.{Told}
 
 -- the answer of a run that told this, or stopped so

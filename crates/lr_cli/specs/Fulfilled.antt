@@ -15,7 +15,7 @@ use Rattle.lr_plan.specs.declared.plan.Plan.{Plan}
 use Rattle.lr_run.specs.Met.{IsNoOther}
 use Rattle.lr_run.specs.Runs.{plan_in, dirs_in}
 use Rattle.lr_fulfilled.specs.Fulfilled.{IsFulfilled}
-use Rattle.lr_cli.specs.declared.outcome.Report.{Report}
+use Rattle.lr_report.specs.declared.outcome.Report.{Report}
 use Rattle.lr_command.specs.declared.request.Request.{Request}
 use Rattle.lr_cli.specs.Faults.{StopNothing}
 use Rattle.lr_cli.specs.Reached.{ReachesPlan}

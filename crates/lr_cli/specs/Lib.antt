@@ -12,6 +12,5 @@ pub mod Safe
 pub mod Says
 pub mod Smooth
 pub mod State
-pub mod Status
 pub mod Still
 pub mod Zone

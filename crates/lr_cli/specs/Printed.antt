@@ -1,10 +1,10 @@
 -- What a call prints, and what its report says beside the output's own fault.
-use Rattle.std.specs.Prelude.{ℕ, List, [], ◌∷◌, ◌++◌, codes}
+use Rattle.std.specs.Prelude.{ℕ, List, [], ◌∷◌, ◌++◌}
 use Rattle.lr_rules.specs.declared.fault.Fault.{Fault}
 use Rattle.lr_rules.specs.declared.fault.Fault.TheVariants as fault
-use Rattle.lr_report.specs.Lines.{line, lines}
-use Rattle.lr_cli.specs.declared.outcome.Outcome.{Outcome}
-use Rattle.lr_cli.specs.declared.outcome.Outcome.TheVariants.{Done, BadWords, Held, OutOfMemory}
+use Rattle.lr_report.specs.declared.outcome.Outcome.{Outcome}
+use Rattle.lr_report.specs.declared.outcome.Outcome.TheVariants.{Done, BadWords, Held, OutOfMemory}
+use Rattle.lr_report.specs.Outcome.{text_of}
 
 -- the fault alone, and nothing for `Out`
 abbrev pub no_out : Fault → List Fault
@@ -23,13 +23,6 @@ without_out (Done report) = Done (record { notices = report.notices; faults = bu
 without_out BadWords = BadWords
 without_out Held = Held
 without_out OutOfMemory = OutOfMemory
-
--- all that there is to say of an answer: the lines of its report, or one line
-abbrev pub text_of : Outcome → List ℕ
-text_of (Done report) = lines report.notices report.faults
-text_of BadWords = line (codes "bad command line")
-text_of Held = line (codes "state file is locked")
-text_of OutOfMemory = line (codes "out of memory")
 
 -- What is printed of an answer: the text of the plan, where there is one to print, and then its own text but for the line of `Out`, which only comes where the output failed.
 abbrev pub printed_of : List ℕ → Outcome → List ℕ

@@ -20,7 +20,7 @@ use Rattle.lr_reached.specs.Ending.{EndsRun, NoneEnds, MayEnd}
 use Rattle.lr_reached.specs.Tried.{EndsTry, NoneEndsTry, MayEndTry}
 use Rattle.lr_reached.specs.Looked.{behind_start, SawState}
 use Rattle.lr_reached.specs.Reached.{IsReached}
-use Rattle.lr_cli.specs.declared.outcome.Report.{Report}
+use Rattle.lr_report.specs.declared.outcome.Report.{Report}
 use Rattle.lr_command.specs.declared.request.Request.{Request}
 use Rattle.lr_cli.specs.Clock.{ShowsClock}
 

@@ -9,7 +9,7 @@ use Rattle.lr_due.specs.declared.tz.Zone.{Zone}
 use Rattle.lr_laws_targets.specs.Target.{Target}
 use Rattle.lr_run.specs.Rotated.{rotated_in, IsTurnedAmong}
 use Rattle.lr_plan.specs.Asked.{asking}
-use Rattle.lr_cli.specs.declared.outcome.Report.{Report}
+use Rattle.lr_report.specs.declared.outcome.Report.{Report}
 use Rattle.lr_command.specs.declared.request.Request.{Request}
 use Rattle.lr_cli.specs.Reached.{ReachesPlan}
 

@@ -13,7 +13,7 @@ use Rattle.lr_emptied.specs.Jobs.{jobs_of}
 use Rattle.lr_run.specs.Runs.{dirs_in}
 use Rattle.lr_spared.specs.Smooth.{IsSmooth, AreToldApart}
 use Rattle.lr_command.specs.declared.request.Request.{Request}
-use Rattle.lr_cli.specs.declared.outcome.Report.{Report}
+use Rattle.lr_report.specs.declared.outcome.Report.{Report}
 use Rattle.lr_cli.specs.Fulfilled.{FailNothing, FulfillsPlan, plan_by}
 use Rattle.lr_cli.specs.Reached.{ReachesPlan}
 

@@ -9,7 +9,8 @@ use Rattle.lr_host.specs.Told.{Each, Then}
 use Rattle.lr_conf.specs.Meaning.{Meaning}
 use Rattle.lr_include.specs.Stages.{Reads}
 use Rattle.lr_due.specs.declared.tz.Zone.{Zone}
-use Rattle.lr_run.specs.Runs.{Inside, BrokeOff}
+use Rattle.lr_looks.specs.Inside.{Inside}
+use Rattle.lr_run.specs.Runs.{BrokeOff}
 use Rattle.lr_run.specs.Scripts.{RunNothing}
 use Rattle.lr_command.specs.declared.request.Request.{Request}
 use Rattle.lr_plan.specs.Asked.{asking}

@@ -12,7 +12,6 @@
 #![tactic(auto)]
 
 mod clock;
-mod outcome;
 mod report;
 mod run;
 mod told;
@@ -21,8 +20,7 @@ mod zone;
 
 pub use clock::{ClockStop, clock_in};
 pub use lr_due::{Zone, zone_of};
-pub use outcome::{Outcome, Report, status};
-pub use report::{printed, put_outcome, put_report};
+pub use lr_report::{Outcome, Report, printed, put_outcome, put_report, status};
 pub use run::{run_at, run_confs};
 pub use told::Told;
 pub use top::logrotate;

@@ -1,4 +1,4 @@
-// What a call prints, and the report that it answers.
+// What a run prints, and the report that it answers.
 ghost use Rattle.std.specs.Prelude.{◌≡◌, ◌≤◌, ◌<◌, ◌+◌, ◌++◌, ◌⊎◌, ◌||◌, [], Contains, IfOk, OnErr, OnOk, vec_len, vec_capacity, if◌then◌else◌};
 ghost use Rattle.lr_rules.specs.declared.fault.Fault.TheVariants as fault;
 ghost use Rattle.lr_host.specs.Told.{Rose};
@@ -6,59 +6,20 @@ ghost use Rattle.lr_report.specs.Lines.{lines};
 ghost use Rattle.lr_report.specs.Puts.{Took, TookPart};
 ghost use Rattle.lr_shown.specs.Lines.{plan_text};
 ghost use Rattle.lr_shown.specs.Puts.{Puts};
-ghost use Rattle.lr_cli.specs.declared.outcome.Report.{Report};
+ghost use Rattle.lr_report.specs.declared.outcome.Report.{Report};
 ghost use Rattle.lr_cli.specs.Asked.{planned_text};
 ghost use Rattle.lr_cli.specs.Faults.{answer_of, plan_told, HasFault};
-ghost use Rattle.lr_cli.specs.Printed.{printed_of, text_of, without_out};
+ghost use Rattle.lr_cli.specs.Printed.{printed_of, without_out};
 ghost use Rattle.lr_cli.specs.Says.{Prints};
 
-use crate::outcome::{Outcome, Report};
 use crate::told::Told;
 use lr_command::Request;
 use lr_host::{Sink, SinkFault};
 use lr_plan::Plan;
-use lr_report::{put_lines, put_said};
+use lr_report::{Outcome, Report, printed, put_lines};
 use lr_rules::{Fault, Listed, Notice};
 use lr_run::RunStop;
 use lr_shown::print;
-
-/// Puts the lines of a report: of its notices, then of its faults, each in order. It takes no memory, and stops at the
-/// first fault of the output.
-pub fn put_report<K: Sink>(report: &Report, out: &mut K) -> Result<(), SinkFault>
-    ensures whole { OnOk result (Took (lines report.now.notices report.now.faults) (K.taken out.old) (K.taken out.new)) }
-    ensures part { TookPart (lines report.now.notices report.now.faults) (K.taken out.old) (K.taken out.new) }
-    ensures cause { OnErr result (Rose (K.faults out.old) (K.faults out.new)) }
-    ensures counts { K.faults out.old ≤ K.faults out.new }
-{
-    put_lines(report.notices.as_slice(), report.faults.as_slice(), out)
-}
-
-/// Puts all that there is to say of an outcome: the lines of its report, or its one line.
-pub fn put_outcome<K: Sink>(outcome: &Outcome, out: &mut K) -> Result<(), SinkFault>
-    ensures whole { OnOk result (Took (text_of outcome.now) (K.taken out.old) (K.taken out.new)) }
-    ensures part { TookPart (text_of outcome.now) (K.taken out.old) (K.taken out.new) }
-    ensures cause { OnErr result (Rose (K.faults out.old) (K.faults out.new)) }
-    ensures counts { K.faults out.old ≤ K.faults out.new }
-{
-    match outcome {
-        Outcome::Done(report) => put_report(report, out),
-        Outcome::BadWords => put_said(b"bad command line", out),
-        Outcome::Held => put_said(b"state file is locked", out),
-        Outcome::OutOfMemory => put_said(b"out of memory", out),
-    }
-}
-
-/// The outcome, of which all that there is to say was put. The output's faults are ignored: so ends a call that has no
-/// report.
-pub fn printed<K: Sink>(outcome: Outcome, out: &mut K) -> Outcome
-    ensures same { result ≡ outcome }
-    ensures printed { TookPart (text_of outcome) (K.taken out.old) (K.taken out.new) }
-    ensures whole { Took (text_of outcome) (K.taken out.old) (K.taken out.new) ⊎ Rose (K.faults out.old) (K.faults out.new) }
-    ensures counts { K.faults out.old ≤ K.faults out.new }
-{
-    let _ = put_outcome(&outcome, out);
-    outcome
-}
 
 #[tactic(auto, using(crate::proofs::OutAside::all_stay))]
 fn report_of(notices: Listed<Notice>, faults: Vec<Fault>) -> Outcome

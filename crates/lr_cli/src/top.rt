@@ -10,7 +10,7 @@ ghost use Rattle.lr_run.specs.Dry.{AreSights};
 ghost use Rattle.lr_reached.specs.Ending.{NoneEnds};
 ghost use Rattle.lr_spared.specs.Smooth.{NoneRose};
 ghost use Rattle.lr_command.specs.declared.request.Request.{Request};
-ghost use Rattle.lr_cli.specs.declared.outcome.Report.{Report};
+ghost use Rattle.lr_report.specs.declared.outcome.Report.{Report};
 ghost use Rattle.lr_cli.specs.Asked.{AskFor, AskForNone};
 ghost use Rattle.lr_cli.specs.Clock.{IsClocked};
 ghost use Rattle.lr_cli.specs.Copied.{CopiesWhole};
@@ -25,12 +25,12 @@ ghost use Rattle.lr_cli.specs.Smooth.{IsDone, IsSmoothCall};
 ghost use Rattle.lr_cli.specs.State.{IsNewText};
 ghost use Rattle.lr_cli.specs.Still.{WasShort};
 
-use crate::outcome::Outcome;
-use crate::report::{finish, printed};
+use crate::report::finish;
 use crate::run::run_at;
 use lr_command::{WordsFault, request_of};
 use lr_due::Zone;
 use lr_host::{Host, Sink};
+use lr_report::{Outcome, printed};
 use lr_rules::{Path, Text};
 use std::alloc::Global;
 

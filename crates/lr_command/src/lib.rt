@@ -13,4 +13,5 @@ mod found;
 mod paths;
 mod request;
 
+pub use paths::{can_be_state, path_of, path_or, paths_of};
 pub use request::{Request, WordsFault, request_of};

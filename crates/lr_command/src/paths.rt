@@ -2,14 +2,15 @@
 ghost use Rattle.std.specs.Prelude.{◌≡◌, ◌≢◌, ◌++◌, ◌∷◌, [], IfOk, OnOk, map, option_map, true, false};
 ghost use Rattle.std.specs.List.{list_all};
 ghost use Rattle.lr_rules.specs.Path.{cleaned};
+ghost use Rattle.lr_rules.specs.StatePath.{can_be_state};
 ghost use Rattle.lr_command.specs.Words.{is_path, may_be_path, path_or};
 
 use crate::request::WordsFault;
 use lr_rules::{Listed, Path, PathFault};
 use std::alloc::Global;
 
-// The path that the word names.
-fn path_of(alloc: Global, here: &Path, word: &str) -> Result<Path, WordsFault>
+/// The path that the word names.
+pub fn path_of(alloc: Global, here: &Path, word: &str) -> Result<Path, WordsFault>
     ensures path { IfOk result (λ path. path ≡ cleaned here.now word.now) }
     ensures is_path { IfOk result (λ path. is_path here.now word.now ≡ true) }
     ensures refused { result ≡ Err WordsFault.Refused → is_path here.now word.now ≡ false }
@@ -74,4 +75,11 @@ pub fn paths_of(alloc: Global, here: &Path, words: &[&str]) -> Result<Listed<Pat
         add_path(alloc, here, &mut paths, word)?;
     }
     Ok(Listed::from_vec(paths))
+}
+
+/// Whether a state file may have the path: it has at most 4,000 bytes, and a last part.
+pub fn can_be_state(path: &Path) -> bool
+    ensures { result ≡ can_be_state path.now }
+{
+    path.bytes().len() <= 4000 && path.last().len() >= 1
 }

@@ -6,7 +6,7 @@ ghost use Rattle.lr_command.specs.Words.{asked, confs_in, has_confs, has_mailer,
 ghost use Rattle.lr_rules.specs.StatePath.{can_be_state};
 
 use crate::found::{find, has_flag, texts_of, value_of};
-use crate::paths::{path_or, paths_of};
+use crate::paths::{can_be_state, path_or, paths_of};
 use clap::ArgMatches;
 use lr_rules::{Listed, Path, Settings, Text};
 use std::alloc::Global;
@@ -25,13 +25,6 @@ pub enum WordsFault {
     /// `clap` refuses them, or a path that they name is none, or the state file can't have its own.
     Refused,
     Memory,
-}
-
-// Whether a state file may have the path.
-fn can_be_state(path: &Path) -> bool
-    ensures { result ≡ can_be_state path.now }
-{
-    path.bytes().len() <= 4000 && path.last().len() >= 1
 }
 
 // The path of the state file.

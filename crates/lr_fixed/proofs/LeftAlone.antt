@@ -38,7 +38,8 @@ use Rattle.lr_seen.proofs.Ready.{plans_have_logs}
 use Rattle.lr_seen.proofs.Seen.{targets_seen}
 use Rattle.lr_run.specs.Rotated.{rotated_in}
 use Rattle.lr_plan.specs.declared.plan.Plan.{Plan}
-use Rattle.lr_run.specs.Runs.{Inside, Worked, Works, not_known, too_big, worked, Runs, no_directory, not_seen, not_begun, began}
+use Rattle.lr_looks.specs.Inside.{Inside}
+use Rattle.lr_run.specs.Runs.{Worked, Works, not_known, too_big, worked, Runs, no_directory, not_seen, not_begun, began}
 use Rattle.lr_run.proofs.Shape.{all_of_state, ended, in_parts, seen_later, seen_quiet, written}
 use Rattle.lr_fixed.specs.Unplanned.{IsUnplannedWork, IsUnplanned}
 

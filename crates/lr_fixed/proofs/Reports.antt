@@ -30,8 +30,8 @@ use Rattle.lr_plan.specs.Asked.{Asked, asking}
 use Rattle.lr_plan.specs.declared.plan.Plan.{Plan}
 use Rattle.lr_run.specs.Answers.{Leaves}
 use Rattle.lr_run.specs.Runs.{Runs, no_directory, not_seen, not_begun, began}
-use Rattle.lr_cli.specs.declared.outcome.Outcome.TheVariants.{Done}
-use Rattle.lr_cli.specs.declared.outcome.Report.{Report}
+use Rattle.lr_report.specs.declared.outcome.Outcome.TheVariants.{Done}
+use Rattle.lr_report.specs.declared.outcome.Report.{Report}
 use Rattle.lr_command.specs.declared.request.Request.{Request}
 use Rattle.lr_cli.specs.Answer.{Reports, AnswersAt, no_clock, no_memory, called, Answered, not_read, read}
 use Rattle.lr_cli.specs.Clock.{ShowsClock, LacksClock, out_of_range, no_text, refused}

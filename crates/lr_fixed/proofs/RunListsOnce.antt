@@ -19,7 +19,8 @@ use Rattle.lr_plan.specs.Planned.{decision}
 use Rattle.lr_looks.specs.Shown.{ShowsLooks}
 use Rattle.lr_seen.specs.Free.{reserved_by}
 use Rattle.lr_plan.specs.declared.plan.Plan.{Plan}
-use Rattle.lr_run.specs.Runs.{Looked, Worked, Works, not_known, too_big, worked, Inside, Runs, no_directory, not_seen, not_begun, began}
+use Rattle.lr_looks.specs.Inside.{Inside}
+use Rattle.lr_run.specs.Runs.{Looked, Worked, Works, not_known, too_big, worked, Runs, no_directory, not_seen, not_begun, began}
 use Rattle.lr_reached.proofs.Standing.{cut_at}
 use Rattle.lr_glob.specs.Listings.{listings_of}
 use Rattle.lr_fixed.specs.Listings.{wildcards_of}

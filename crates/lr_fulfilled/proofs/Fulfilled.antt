@@ -48,7 +48,8 @@ use Rattle.lr_seen.proofs.Seen.{targets_have_names}
 use Rattle.lr_writing.specs.Named.{IsNamed}
 use Rattle.lr_writing.proofs.Named.{named_whole}
 use Rattle.lr_run.specs.Dry.{IsSight, AreSights}
-use Rattle.lr_run.specs.Runs.{Inside, Looked, Worked, plan_in, logs_in, dirs_in, state_text}
+use Rattle.lr_looks.specs.Inside.{Inside}
+use Rattle.lr_run.specs.Runs.{Looked, Worked, plan_in, logs_in, dirs_in, state_text}
 use Rattle.lr_run.proofs.Made.{are_made}
 use Rattle.lr_run.proofs.Renewing.{behind_quiet, between_made, worked_may}
 use Rattle.lr_run.proofs.Turning.{run_turned}

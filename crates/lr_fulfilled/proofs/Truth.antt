@@ -14,7 +14,8 @@ use Rattle.lr_host.specs.World.{Past, ◌▸◌, world}
 use Rattle.lr_host.proofs.Made.{Cut, cut, CutAt, cut_one, made_on, made_journal}
 use Rattle.lr_reading.proofs.Quiet.{state_quiet}
 use Rattle.lr_laws_family.proofs.OrMade.{made_behind}
-use Rattle.lr_run.specs.Runs.{Inside, Looked, Worked}
+use Rattle.lr_looks.specs.Inside.{Inside}
+use Rattle.lr_run.specs.Runs.{Looked, Worked}
 use Rattle.lr_stood.specs.True.{AreTrue}
 use Rattle.lr_stood.proofs.All.{looks_true}
 use Rattle.lr_plan.specs.Asked.{Asked}

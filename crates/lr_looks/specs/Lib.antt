@@ -2,6 +2,7 @@ pub mod Asked
 pub mod Choices
 pub mod Families
 pub mod Found
+pub mod Inside
 pub mod Internal
 pub mod Ready
 pub mod Sets

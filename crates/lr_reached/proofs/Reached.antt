@@ -20,7 +20,8 @@ use Rattle.lr_host.proofs.Lists.{in_append, in_front}
 use Rattle.lr_host.proofs.Quiet.{sees_quiet}
 use Rattle.lr_plan.specs.Asked.{Asked}
 use Rattle.lr_plan.specs.declared.plan.Plan.{Plan}
-use Rattle.lr_run.specs.Runs.{Inside, Worked, Works, not_known, too_big, worked, Runs, no_directory, not_seen, not_begun, began, plan_in}
+use Rattle.lr_looks.specs.Inside.{Inside}
+use Rattle.lr_run.specs.Runs.{Worked, Works, not_known, too_big, worked, Runs, no_directory, not_seen, not_begun, began, plan_in}
 use Rattle.lr_reached.specs.Ending.{EndsRun, NoneEnds, MayEnd, SaysWhy}
 use Rattle.lr_reached.specs.Looked.{behind_start, SawState}
 use Rattle.lr_reached.specs.Reached.{IsReached}

@@ -5,7 +5,8 @@ use Rattle.lr_rules.specs.declared.clock.Clock.{Clock}
 use Rattle.lr_rules.specs.declared.fault.Fault.{Fault}
 use Rattle.lr_rules.specs.declared.rules.Rules.{Rules}
 use Rattle.lr_host.specs.declared.entry.Entry.{Entry}
-use Rattle.lr_run.specs.Runs.{Inside, Worked}
+use Rattle.lr_looks.specs.Inside.{Inside}
+use Rattle.lr_run.specs.Runs.{Worked}
 use Rattle.lr_plan.specs.Asked.{Asked}
 
 -- The run began, and its work came to the plan and carried it out, whatever failed then.

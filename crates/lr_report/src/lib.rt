@@ -10,8 +10,12 @@
 
 mod kinds;
 mod lines;
+mod outcome;
 mod put;
+mod report;
 
 pub use kinds::phase_name;
 pub use lines::{put_fault, put_lines, put_notice, put_said};
+pub use outcome::{Outcome, Report, status};
 pub use put::{put_five, put_four, put_one, put_three, put_two};
+pub use report::{printed, put_outcome, put_report};

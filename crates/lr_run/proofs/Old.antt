@@ -45,7 +45,8 @@ use Rattle.lr_run.specs.Halt.{Halt, Halts, LacksState, OfFaults, OfLock, OfMemor
 use Rattle.lr_run.specs.Internal.{saw_too_big, came_to, WorksOn, knows_none, knows}
 use Rattle.lr_run.specs.Ran.{RanSo, RunEnds, halted, came, AnswersHalt, Reports, TellsNamesOf}
 use Rattle.lr_run.specs.Runs as runs
-use Rattle.lr_run.specs.Runs.{Looked, Works, Worked, Inside, BrokeOff, logs_in}
+use Rattle.lr_looks.specs.Inside.{Inside}
+use Rattle.lr_run.specs.Runs.{Looked, Works, Worked, BrokeOff, logs_in}
 use Rattle.lr_run.specs.Saw.{Saw, ShowsStateText, ShowsStateFile, by_dir, by_none, ShowsSets, plan_by, text_by, measured_by}
 use Rattle.lr_run.specs.Taken.{AddsTaken, TakenBy}
 use Rattle.lr_run.specs.Work.{Work, act_faults, IsPlanOf, ShowsWork, CarriesOut, BreaksOff}

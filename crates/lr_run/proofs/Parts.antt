@@ -31,6 +31,7 @@ use Rattle.lr_run.specs.Halt as halt
 use Rattle.lr_run.specs.Halt.{Halts, LacksState, OfFaults, OfLock, OfMemory}
 use Rattle.lr_run.specs.Internal.{NotSeen, dir_fault_of, CameTo, WorksTo, SeesTooBig, saw_too_big, came_to, ReadsText, WorksOn, knows_none, knows, SomeWork, some_seen, some_done, Begun, Goes, begun, not_begun, Stopped, StopsSo}
 use Rattle.lr_run.specs.Ran.{RanSo, RunEnds, halted, came, TellsNamesOf}
+use Rattle.lr_looks.specs.Inside.{Inside}
 use Rattle.lr_run.specs.Runs as runs
 use Rattle.lr_run.specs.Saw.{Saw, by_dir}
 use Rattle.lr_run.specs.Work.{Work, entries_of}
@@ -59,10 +60,10 @@ goes_not state asked clock rules plan name a b none e f l = record {
 
 -- ---- behind the look at the state's directory
 
-abbrev inside : (state : Path) (clock : Clock) (rules : Rules) (P : List Entry → Type 0) (ts us : List Entry) → Sees (parent_of state) IsDir ts → Begun state clock rules P us → runs.Inside state clock rules P (ts ++ us)
+abbrev inside : (state : Path) (clock : Clock) (rules : Rules) (P : List Entry → Type 0) (ts us : List Entry) → Sees (parent_of state) IsDir ts → Begun state clock rules P us → Inside state clock rules P (ts ++ us)
 inside state clock rules P ts us s b = record { before = ts; between = b.between; entries = ap (λ xs. ts ++ xs) b.entries; directory = s; within = b.within }
 
-inside_as : (state : Path) (clock : Clock) (rules : Rules) (P Q : List Entry → Type 0) (ts : List Entry) → (i : runs.Inside state clock rules P ts) → Q i.between → runs.Inside state clock rules Q ts
+inside_as : (state : Path) (clock : Clock) (rules : Rules) (P Q : List Entry → Type 0) (ts : List Entry) → (i : Inside state clock rules P ts) → Q i.between → Inside state clock rules Q ts
 inside_as state clock rules P Q ts i q = record { before = i.before; between = i.between; entries = i.entries; directory = i.directory; within = q }
 
 -- what it came to, with the entries of that look
@@ -128,7 +129,7 @@ pub behind_dir : (state : Path) (asked : Asked) (clock : Clock) (rules : Rules) 
 behind_dir state asked clock rules earlier ran dir (Ok x) {o} {m} n e l h = dir_so state asked clock rules earlier ran (subst (λ (x : Path). Left (Sees x IsDir) o m) e l) h
 behind_dir state asked clock rules earlier ran dir (Err x) n e l h = tt
 
-lacked : (state : Path) (asked : Asked) (clock : Clock) (rules : Rules) (ts : List Entry) → (i : runs.Inside state clock rules (SomeWork state rules.sets clock asked) ts) → SomeWork state rules.sets clock asked i.between → runs.LacksMemory state asked clock rules ts
+lacked : (state : Path) (asked : Asked) (clock : Clock) (rules : Rules) (ts : List Entry) → (i : Inside state clock rules (SomeWork state rules.sets clock asked) ts) → SomeWork state rules.sets clock asked i.between → runs.LacksMemory state asked clock rules ts
 lacked state asked clock rules ts i (some_seen s) = runs.in_looks (inside_as state clock rules (SomeWork state rules.sets clock asked) (runs.SomeSeen state rules.sets) ts i s)
 lacked state asked clock rules ts i (some_done b) = runs.in_acts (inside_as state clock rules (SomeWork state rules.sets clock asked) (runs.BrokeOff state rules.sets clock asked) ts i b)
 
@@ -170,7 +171,7 @@ module _ (state : Path) (asked : Asked) (clock : Clock) (rules : Rules) (earlier
   none_left : {why : RunStop} {o n : Option Journal} → Left (Stops why None) o n → RanSo false state rules clock asked earlier (Err why) o n
   none_left l = record { work = None; shows = l; names = λ w r bad. absurd (none-some w bad) }
 
-  broken : (ts : List Entry) → (i : runs.Inside state clock rules (runs.BrokeOff state rules.sets clock asked) ts) → (w : Work) × Stops stop.Memory (Some w) ts
+  broken : (ts : List Entry) → (i : Inside state clock rules (runs.BrokeOff state rules.sets clock asked) ts) → (w : Work) × Stops stop.Memory (Some w) ts
   broken ts i = (
     w,
     came w refl

@@ -46,7 +46,8 @@ use Rattle.lr_seen.proofs.Apart.{targets_apart, targets_dont_meet}
 use Rattle.lr_seen.proofs.Free.{targets_free}
 use Rattle.lr_seen.proofs.Ready.{plans_have_logs}
 use Rattle.lr_seen.proofs.Seen.{targets_seen, targets_have_names}
-use Rattle.lr_run.specs.Runs.{Inside, Looked, Worked, plan_in}
+use Rattle.lr_looks.specs.Inside.{Inside}
+use Rattle.lr_run.specs.Runs.{Looked, Worked, plan_in}
 use Rattle.lr_run.proofs.Shape.{sees_quiet, ended_whole, written_whole, seen_later, seen_quiet, in_parts, all_of_state}
 
 -- ---- one of the logs

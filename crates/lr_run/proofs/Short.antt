@@ -21,7 +21,8 @@ use Rattle.lr_run.specs.declared.answer.RunStop.{RunStop}
 use Rattle.lr_run.specs.declared.answer.RunStop.TheVariants as stop
 use Rattle.lr_run.specs.Answers.{Answers, HasShortReads}
 use Rattle.lr_run.specs.Ran.{RanSo}
-use Rattle.lr_run.specs.Runs.{Inside, Runs, no_directory, not_seen, not_begun, began, LacksMemory, at_first, in_looks, in_acts}
+use Rattle.lr_looks.specs.Inside.{Inside}
+use Rattle.lr_run.specs.Runs.{Runs, no_directory, not_seen, not_begun, began, LacksMemory, at_first, in_looks, in_acts}
 use Rattle.lr_run.proofs.Entries.{first_so, works_so, broke_so}
 use Rattle.lr_run.proofs.Sighted.{ends_so}
 use Rattle.lr_run.proofs.Working.{IsDoing}

@@ -28,7 +28,8 @@ use Rattle.lr_turned.proofs.Stands.{stands_first, plan_stands, plan_empties}
 use Rattle.lr_seen.specs.Targets.{groups_of}
 use Rattle.lr_seen.proofs.Apart.{targets_apart}
 use Rattle.lr_seen.proofs.Ready.{plans_have_logs}
-use Rattle.lr_run.specs.Runs.{Inside, Worked, plan_in}
+use Rattle.lr_looks.specs.Inside.{Inside}
+use Rattle.lr_run.specs.Runs.{Worked, plan_in}
 use Rattle.lr_run.proofs.Members.{HasMembers, job_part, has_members}
 use Rattle.lr_run.proofs.Rotating as rotating
 use Rattle.lr_laws_family.specs.Made.{HasJob, AreOutside, RotatesAmong}

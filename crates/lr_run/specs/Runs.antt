@@ -11,7 +11,7 @@ use Rattle.lr_rules.specs.declared.fault.Fault.TheVariants as fault
 use Rattle.lr_rules.specs.declared.fault.StateKind.TheVariants as kind
 use Rattle.lr_rules.specs.Path.{parent_of}
 use Rattle.lr_host.specs.declared.entry.Entry.{Entry}
-use Rattle.lr_host.specs.declared.entry.Entry.TheVariants.{Starts, Ends}
+use Rattle.lr_host.specs.declared.entry.Entry.TheVariants.{Starts}
 use Rattle.lr_host.specs.Told.{Then, Maybe}
 use Rattle.lr_host.specs.Looks.{Sees, IsDir, IsNotDir}
 use Rattle.lr_state.specs.Written.{text_of}
@@ -27,6 +27,7 @@ use Rattle.lr_plan.specs.Cut.{SetsCut}
 use Rattle.lr_plan.specs.Planned.{plan_of}
 use Rattle.lr_plan.specs.Steps.{steps_of_plan}
 use Rattle.lr_looks.specs.Found.{paths_of}
+use Rattle.lr_looks.specs.Inside.{Inside}
 use Rattle.lr_looks.specs.Shown.{ShowsLooks, ShowsSomeLooks}
 use Rattle.lr_reading.specs.declared.remembered.Remembered.{Remembered}
 use Rattle.lr_reading.specs.Answers.{IsKnown}
@@ -106,14 +107,6 @@ pub data Works (state : Path) (rules : List Rule) (clock : Clock) (asked : Asked
   not_known : (sights : StateSights) (f : Fault) → IsKnown state sights (Err f) → plan ≡ None → faults ≡ f ∷ [] → ShowsState state 65_536 sights ts → Works state rules clock asked plan faults ts
   too_big : (l : Looked state rules ts) → 67_108_864 < length (measured_in state rules ts l clock asked) → plan ≡ None → faults ≡ l.of_looks ++ fault.State 0 kind.TooBig ∷ [] → l.acts ≡ [] → Works state rules clock asked plan faults ts
   worked : (w : Worked state rules clock asked faults ts) → plan ≡ Some (plan_in state rules ts w.looked clock asked) → Works state rules clock asked plan faults ts
-
--- The state's directory was seen, the run began and ended, and of the entries between the two this holds.
-pub record Inside (state : Path) (clock : Clock) (rules : Rules) (P : List Entry → Type 0) (ts : List Entry) : Type 0 where
-  pub before : List Entry
-  pub between : List Entry
-  pub entries : ts ≡ before ++ (Starts state clock.now rules ∷ (between ++ Ends ∷ []))
-  pub directory : Sees (parent_of state) IsDir before
-  pub within : P between
 
 -- A run with these faults of its own, that came to this plan: the state's directory isn't there, or the look at it failed; the begin failed, with its entry or without; or it began, and ended.
 pub data Runs (state : Path) (asked : Asked) (clock : Clock) (rules : Rules) (plan : Option Plan) (faults : List Fault) (ts : List Entry) : Type 0 where

@@ -13,7 +13,8 @@ ghost use Rattle.lr_host.specs.Told.{Made};
 ghost use Rattle.lr_laws_targets.specs.Target.{Target};
 ghost use Rattle.lr_plan.specs.Asked.{Asked};
 ghost use Rattle.lr_run.specs.Rotated.{rotated_in, IsTurnedAmong};
-ghost use Rattle.lr_run.specs.Runs.{Inside, Worked};
+ghost use Rattle.lr_looks.specs.Inside.{Inside};
+ghost use Rattle.lr_run.specs.Runs.{Worked};
 
 /// A run that came to its plan and of which no step of a log failed, behind reads that change nothing, turns whole the family of
 /// each log of its plan to whose members, and to whose copy's part file, no writer is attached, whatever else it tells: of a

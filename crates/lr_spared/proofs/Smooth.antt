@@ -72,7 +72,8 @@ use Rattle.lr_seen.proofs.Ready.{plans_have_logs}
 use Rattle.lr_seen.proofs.Seen.{targets_have_names, targets_seen}
 use Rattle.lr_stood.specs.True.{AreTrue}
 use Rattle.lr_run.specs.Copied.{IsOfCopy}
-use Rattle.lr_run.specs.Runs.{Inside, Looked, Worked, dirs_in, plan_in, state_text}
+use Rattle.lr_looks.specs.Inside.{Inside}
+use Rattle.lr_run.specs.Runs.{Looked, Worked, dirs_in, plan_in, state_text}
 use Rattle.lr_run.proofs.Hindered.{taken_member}
 use Rattle.lr_run.proofs.Shape.{sees_quiet, seen_quiet, looked_parts, all_of_state}
 use Rattle.lr_run.proofs.Taken.{IsOfNew, looks_none}

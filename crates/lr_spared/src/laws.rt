@@ -13,7 +13,8 @@ ghost use Rattle.lr_host.specs.Told.{Made};
 ghost use Rattle.lr_host.specs.World.{past};
 ghost use Rattle.lr_emptied.specs.Jobs.{jobs_of};
 ghost use Rattle.lr_plan.specs.Asked.{Asked};
-ghost use Rattle.lr_run.specs.Runs.{Inside, Worked, dirs_in, plan_in};
+ghost use Rattle.lr_looks.specs.Inside.{Inside};
+ghost use Rattle.lr_run.specs.Runs.{Worked, dirs_in, plan_in};
 ghost use Rattle.lr_fulfilled.specs.Fulfilled.{NothingFailed};
 ghost use Rattle.lr_spared.specs.Smooth.{AreToldApart, IsSmooth, WereTaken};
 

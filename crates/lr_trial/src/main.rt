@@ -15,11 +15,8 @@ mod trial;
 
 use crate::trial::trial;
 use lr_adapt::RealSink;
+use lr_given::{GivenStop, words_given};
 use lr_nights::{TrialStop, trial_host, trial_words};
-use lr_rules::Text;
-use std::alloc::Global;
-use std::env;
-use std::io::ErrorKind;
 use std::process::ExitCode;
 
 const OUT: u8 = 1;
@@ -28,29 +25,11 @@ const BAD_WORDS: u8 = 2;
 
 const NO_MEMORY: u8 = 4;
 
-// The words of the command line behind the program's name, or the status that says why there are none.
-fn words_of(rt: &HostRuntime, alloc: Global) -> Result<Vec<Text>, u8> {
-    let mut args = match env::args(rt) {
-        Ok(args) => args,
-        Err(e) if e.kind() == ErrorKind::OutOfMemory => return Err(NO_MEMORY),
-        Err(_) => return Err(BAD_WORDS),
-    };
-    let _name = args.next();
-    let mut words = Vec::new(alloc);
-    for arg in args {
-        add_word(alloc, &mut words, arg.as_bytes())?;
-    }
-    Ok(words)
-}
-
-// An argument is a text, so all that is refused here is memory.
-fn add_word(alloc: Global, words: &mut Vec<Text>, arg: &[u8]) -> Result<(), u8> {
-    let Ok(word) = Text::new(alloc, arg) else {
-        return Err(NO_MEMORY);
-    };
-    match words.push(word) {
-        Ok(()) => Ok(()),
-        Err(_) => Err(NO_MEMORY),
+// The status of a call whose words the machine doesn't give.
+fn status_of(stop: GivenStop) -> u8 {
+    match stop {
+        GivenStop::BadWords => BAD_WORDS,
+        GivenStop::Memory => NO_MEMORY,
     }
 }
 
@@ -74,9 +53,9 @@ fn run(rt: &HostRuntime, logs: u32) -> u8
 }
 
 fn main(rt: HostRuntime) -> ExitCode {
-    let words = match words_of(&rt, rt.alloc()) {
+    let words = match words_given(&rt, rt.alloc()) {
         Ok(words) => words,
-        Err(status) => return ExitCode::from(status),
+        Err(stop) => return ExitCode::from(status_of(stop)),
     };
     match trial_words(&words) {
         Some(logs) => ExitCode::from(run(&rt, logs)),

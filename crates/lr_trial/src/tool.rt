@@ -1,5 +1,6 @@
 // The tool, as it is called each night.
 use lr_cli::{Outcome, Zone, logrotate};
+use lr_given::{path_of, text_of};
 use lr_memhost::{MemHost, MemSink};
 use lr_nights::Run;
 use lr_rules::{Memory, Path, Text};
@@ -12,26 +13,17 @@ pub struct Tool {
     here: Path,
 }
 
-fn text_of(alloc: Global, bytes: &[u8]) -> Result<Text, Memory> {
-    match Text::new(alloc, bytes) {
-        Ok(text) => Ok(text),
-        Err(_) => Err(Memory),
-    }
-}
-
-fn path_of(alloc: Global, bytes: &[u8]) -> Result<Path, Memory> {
-    match Path::new(alloc, bytes) {
-        Ok(path) => Ok(path),
-        Err(_) => Err(Memory),
-    }
-}
-
 impl Tool {
     /// The call with the word `/etc/c`.
     pub fn new(alloc: Global) -> Result<Tool, Memory> {
+        let Ok(word) = text_of(alloc, b"/etc/c") else {
+            return Err(Memory);
+        };
+        let Ok(here) = path_of(alloc, b"/") else {
+            return Err(Memory);
+        };
         let mut words = Vec::new(alloc);
-        words.push(text_of(alloc, b"/etc/c")?)?;
-        let here = path_of(alloc, b"/")?;
+        words.push(word)?;
         Ok(Tool { words, here })
     }
 }

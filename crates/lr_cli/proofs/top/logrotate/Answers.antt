@@ -1,7 +1,7 @@
 use Rattle.std.proofs.Common.{None, inl, inr, refl, ap, ◌∙◌, Err}
 use Rattle.lr_host.proofs.Left.{left_first}
 use Rattle.lr_run.specs.Dry.{AreSights}
-use Rattle.lr_cli.specs.declared.outcome.Outcome.TheVariants.{BadWords, OutOfMemory}
+use Rattle.lr_report.specs.declared.outcome.Outcome.TheVariants.{BadWords, OutOfMemory}
 use Rattle.lr_cli.specs.Faults.{answer_of, plan_told}
 use Rattle.lr_cli.specs.Printed.{without_out}
 use Rattle.lr_cli.specs.Still.{WasShort, all_still}

@@ -1,6 +1,6 @@
-// What the top call answers.
+// What a call of the program answers.
 ghost use Rattle.std.specs.Prelude.{◌≡◌};
-ghost use Rattle.lr_cli.specs.Status.{status_of};
+ghost use Rattle.lr_report.specs.Outcome.{status_of};
 
 use lr_rules::{Fault, Listed, Notice};
 

@@ -1,0 +1,21 @@
+//! What the machine gives a program: the words of its command line, its directory, the zone and the time, and what programs
+//! tell of themselves.
+//!
+//! The contract above it: none, since nothing can be said of what a machine gives; it is safe and ends. Begin with
+//! `words_given`:
+//!
+//! ```text
+//! let words = words_given(&rt, rt.alloc())?;
+//! let here = here_given(&rt, rt.alloc())?;
+//! ```
+#![tactic(auto)]
+
+mod given;
+mod said;
+mod stop;
+mod zone;
+
+pub use given::{here_given, is_alone, path_of, seconds, text_of, words_given};
+pub use said::put_version;
+pub use stop::GivenStop;
+pub use zone::zone_given;

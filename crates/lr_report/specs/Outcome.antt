@@ -1,0 +1,23 @@
+-- What an outcome says: the exit status, and what is printed of it.
+use Rattle.std.specs.Prelude.{ℕ, List, [], ◌∷◌, codes}
+use Rattle.lr_report.specs.declared.outcome.Outcome.{Outcome}
+use Rattle.lr_report.specs.declared.outcome.Outcome.TheVariants.{Done, BadWords, Held, OutOfMemory}
+use Rattle.lr_report.specs.Lines.{line, lines}
+
+-- 0 where there is no fault, else 1
+abbrev pub some_fault : {A : Type 0} → List A → ℕ
+some_fault [] = 0
+some_fault (f ∷ fs) = 1
+
+abbrev pub status_of : Outcome → ℕ
+status_of (Done report) = some_fault report.faults
+status_of BadWords = 2
+status_of Held = 3
+status_of OutOfMemory = 4
+
+-- all that there is to say of an answer: the lines of its report, or one line
+abbrev pub text_of : Outcome → List ℕ
+text_of (Done report) = lines report.notices report.faults
+text_of BadWords = line (codes "bad command line")
+text_of Held = line (codes "state file is locked")
+text_of OutOfMemory = line (codes "out of memory")

@@ -1,0 +1,48 @@
+// What there is to say of an outcome, printed.
+ghost use Rattle.std.specs.Prelude.{◌≡◌, ◌≤◌, ◌⊎◌, OnErr, OnOk};
+ghost use Rattle.lr_host.specs.Told.{Rose};
+ghost use Rattle.lr_report.specs.Lines.{lines};
+ghost use Rattle.lr_report.specs.Outcome.{text_of};
+ghost use Rattle.lr_report.specs.Puts.{Took, TookPart};
+
+use crate::lines::{put_lines, put_said};
+use crate::outcome::{Outcome, Report};
+use lr_host::{Sink, SinkFault};
+
+/// Puts the lines of a report: of its notices, then of its faults, each in order. It takes no memory, and stops at the
+/// first fault of the output.
+pub fn put_report<K: Sink>(report: &Report, out: &mut K) -> Result<(), SinkFault>
+    ensures whole { OnOk result (Took (lines report.now.notices report.now.faults) (K.taken out.old) (K.taken out.new)) }
+    ensures part { TookPart (lines report.now.notices report.now.faults) (K.taken out.old) (K.taken out.new) }
+    ensures cause { OnErr result (Rose (K.faults out.old) (K.faults out.new)) }
+    ensures counts { K.faults out.old ≤ K.faults out.new }
+{
+    put_lines(report.notices.as_slice(), report.faults.as_slice(), out)
+}
+
+/// Puts all that there is to say of an outcome: the lines of its report, or its one line.
+pub fn put_outcome<K: Sink>(outcome: &Outcome, out: &mut K) -> Result<(), SinkFault>
+    ensures whole { OnOk result (Took (text_of outcome.now) (K.taken out.old) (K.taken out.new)) }
+    ensures part { TookPart (text_of outcome.now) (K.taken out.old) (K.taken out.new) }
+    ensures cause { OnErr result (Rose (K.faults out.old) (K.faults out.new)) }
+    ensures counts { K.faults out.old ≤ K.faults out.new }
+{
+    match outcome {
+        Outcome::Done(report) => put_report(report, out),
+        Outcome::BadWords => put_said(b"bad command line", out),
+        Outcome::Held => put_said(b"state file is locked", out),
+        Outcome::OutOfMemory => put_said(b"out of memory", out),
+    }
+}
+
+/// The outcome, of which all that there is to say was put. The output's faults are ignored: so ends a call that has no
+/// report.
+pub fn printed<K: Sink>(outcome: Outcome, out: &mut K) -> Outcome
+    ensures same { result ≡ outcome }
+    ensures printed { TookPart (text_of outcome) (K.taken out.old) (K.taken out.new) }
+    ensures whole { Took (text_of outcome) (K.taken out.old) (K.taken out.new) ⊎ Rose (K.faults out.old) (K.faults out.new) }
+    ensures counts { K.faults out.old ≤ K.faults out.new }
+{
+    let _ = put_outcome(&outcome, out);
+    outcome
+}
