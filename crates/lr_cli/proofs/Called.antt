@@ -23,8 +23,8 @@ use Rattle.lr_report.specs.Puts.{Took, TookPart}
 use Rattle.lr_shown.specs.Puts.{Puts}
 use Rattle.lr_run.specs.declared.answer.RunStop.{RunStop}
 use Rattle.lr_run.specs.declared.answer.RunStop.TheVariants as stop
-use Rattle.lr_cli.specs.declared.clock.ClockStop.{ClockStop}
-use Rattle.lr_cli.specs.declared.clock.ClockStop.TheVariants as clock_stop
+use Rattle.lr_clock.specs.declared.clock.ClockStop.{ClockStop}
+use Rattle.lr_clock.specs.declared.clock.ClockStop.TheVariants as clock_stop
 use Rattle.lr_cli.specs.declared.told.Told.{Told}
 use Rattle.lr_report.specs.declared.outcome.Outcome.{Outcome}
 use Rattle.lr_report.specs.declared.outcome.Outcome.TheVariants.{Done, BadWords, Held, OutOfMemory}
@@ -32,15 +32,17 @@ use Rattle.lr_report.specs.declared.outcome.Report.{Report}
 use Rattle.lr_command.specs.declared.request.Request.{Request}
 use Rattle.lr_command.specs.Words.{asked}
 use Rattle.lr_cli.specs.Answer.{Answers, AnswersAt, no_clock, no_memory, called, Answered, not_read, read}
-use Rattle.lr_cli.specs.Clock.{ShowsClock, ClockStopped, HasClock, IsClockFault, IsClocked, with_clock, without_clock}
-use Rattle.lr_cli.specs.Faults.{answer_of, clock_answer, IsOut, HasNoOut, AreReported, HasCounted, HasFault}
+use Rattle.lr_clock.specs.Clock.{ShowsClock, ClockStopped, HasClock, IsClockFault, IsClocked, with_clock, without_clock}
+use Rattle.lr_report.specs.Reported.{IsOut, HasNoOut, AreReported}
+use Rattle.lr_cli.specs.Faults.{answer_of, clock_answer, HasCounted, HasFault}
 use Rattle.lr_cli.specs.Asked.{AskFor, planned_text}
 use Rattle.lr_cli.specs.Internal.{TurnsByClock, only_looked, ran}
 use Rattle.lr_cli.specs.Safe.{HadClock, KeepsSafeByClock, no_clock as safe_without, by_clock}
-use Rattle.lr_cli.specs.Printed.{text_of, without_out, printed_of}
+use Rattle.lr_report.specs.Outcome.{text_of}
+use Rattle.lr_cli.specs.Printed.{without_out, printed_of}
 use Rattle.lr_cli.specs.Says.{asked_text, Prints, Says}
 use Rattle.lr_cli.proofs.OutAside.{report_with}
-use Rattle.lr_cli.specs.Zone.{at_first}
+use Rattle.lr_clock.specs.Zone.{at_first}
 use Rattle.lr_cli.proofs.Reading.{no_out_among, run_behind}
 use Rattle.lr_cli.proofs.Still.{clock_quiet, stop_quiet}
 use Rattle.lr_cli.specs.Smooth.{TellsTaken}

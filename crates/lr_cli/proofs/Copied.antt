@@ -24,13 +24,13 @@ use Rattle.lr_plan.specs.declared.plan.Plan.{Plan}
 use Rattle.lr_run.specs.Copied.{IsCopyBy}
 use Rattle.lr_run.proofs.Drying.{holds_quiet, leaves_copied, lacks_copied}
 use Rattle.lr_run.proofs.Made.{AreMade, are_made, made_later}
-use Rattle.lr_cli.specs.declared.clock.ClockStop.TheVariants as stop
+use Rattle.lr_clock.specs.declared.clock.ClockStop.TheVariants as stop
 use Rattle.lr_report.specs.declared.outcome.Outcome.{Outcome}
 use Rattle.lr_report.specs.declared.outcome.Outcome.TheVariants.{Done, BadWords, Held, OutOfMemory}
 use Rattle.lr_command.specs.declared.request.Request.{Request}
 use Rattle.lr_cli.specs.Answer.{Reports, FindsLock, LacksMemory, at_confs, at_run, Answers, AnswersAt, no_clock, no_memory, called, Answered, not_read, read}
 use Rattle.lr_cli.specs.Asked.{AskFor}
-use Rattle.lr_cli.specs.Clock.{ShowsClock}
+use Rattle.lr_clock.specs.Clock.{ShowsClock}
 use Rattle.lr_cli.specs.Copied.{ReadsRules, CopiesWhole, none_read, by_rules}
 use Rattle.lr_cli.proofs.Still.{clock_quiet, stop_quiet, same_Some}
 

@@ -1,5 +1,4 @@
 pub mod Called
-pub mod Clocked
 mod Copied
 mod Fulfilling
 pub mod OutAside
@@ -10,4 +9,3 @@ pub mod Smooth
 pub mod Still
 mod Tried
 mod Whole
-pub mod Zoned

@@ -34,17 +34,17 @@ use Rattle.lr_reached.proofs.Ends.{none_both, last_ends, last_in}
 use Rattle.lr_reached.proofs.Reached.{unseen, came_to, reached_saw, reached_none, in_order}
 use Rattle.lr_reached.proofs.Standing.{cut_at}
 use Rattle.lr_reached.proofs.Start.{behind_quiet, none_behind}
-use Rattle.lr_cli.specs.declared.clock.ClockStop.TheVariants as stop
+use Rattle.lr_clock.specs.declared.clock.ClockStop.TheVariants as stop
 use Rattle.lr_report.specs.declared.outcome.Outcome.{Outcome}
 use Rattle.lr_report.specs.declared.outcome.Outcome.TheVariants.{Done}
 use Rattle.lr_report.specs.declared.outcome.Report.{Report}
 use Rattle.lr_command.specs.declared.request.Request.{Request}
 use Rattle.lr_cli.specs.Answer.{Reports, AnswersAt, no_clock, no_memory, called, Answered, not_read, read}
-use Rattle.lr_cli.specs.Clock.{ShowsClock, LacksClock, out_of_range, no_text, refused}
+use Rattle.lr_clock.specs.Clock.{ShowsClock, LacksClock, out_of_range, no_text, refused}
 use Rattle.lr_cli.specs.Fulfilled.{plan_by}
 use Rattle.lr_cli.specs.Reached.{ReachesPlan, IsOfZone, MayEndCall, TellsOfPlan}
 use Rattle.lr_cli.specs.Asked.{AskFor}
-use Rattle.lr_cli.specs.Zone.{LacksText, not_file, too_big, look_failed as text_look_failed, read_failed as text_read_failed}
+use Rattle.lr_clock.specs.Zone.{LacksText, not_file, too_big, look_failed as text_look_failed, read_failed as text_read_failed}
 use Rattle.lr_cli.proofs.Still.{clock_quiet, stop_quiet, same_Some}
 
 -- what it tells is of no new file

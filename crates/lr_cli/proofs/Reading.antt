@@ -29,7 +29,8 @@ use Rattle.lr_run.specs.Answers.{Leaves, Holds, Lacks, Answers as RunAnswers}
 use Rattle.lr_run.specs.declared.answer.RunStop.{RunStop}
 use Rattle.lr_run.specs.declared.answer.RunStop.TheVariants as stop
 use Rattle.lr_command.specs.declared.request.Request.{Request}
-use Rattle.lr_cli.specs.Faults.{answer_of, IsOut, HasNoOut}
+use Rattle.lr_report.specs.Reported.{IsOut, HasNoOut}
+use Rattle.lr_cli.specs.Faults.{answer_of}
 use Rattle.lr_cli.proofs.OutAside.{Contains-only}
 use Rattle.lr_report.specs.declared.outcome.Outcome.TheVariants.{OutOfMemory}
 use Rattle.lr_cli.specs.Answer.{Answers, Reports, FindsLock, LacksMemory, at_confs, at_run}

@@ -38,7 +38,8 @@ use Rattle.lr_report.specs.declared.outcome.Report.{Report}
 use Rattle.lr_cli.specs.declared.told.Told.{Told}
 use Rattle.lr_cli.specs.Answer.{Answered}
 use Rattle.lr_cli.specs.Asked.{AskFor}
-use Rattle.lr_cli.specs.Faults.{answer_of, plan_told, AreReported, HasCounted}
+use Rattle.lr_report.specs.Reported.{AreReported}
+use Rattle.lr_cli.specs.Faults.{answer_of, plan_told, HasCounted}
 use Rattle.lr_cli.specs.Fulfilled.{plan_by}
 use Rattle.lr_cli.specs.Reached.{ReachesPlan}
 use Rattle.lr_cli.specs.Smooth.{TellsTaken, IsDone, IsSmoothCall}

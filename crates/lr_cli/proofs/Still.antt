@@ -36,16 +36,16 @@ use Rattle.lr_run.specs.Scripts.{RunNothing}
 use Rattle.lr_run.proofs.Drying.{tries_so, lacks_so}
 use Rattle.lr_run.proofs.Scriptless.{never_broke_off}
 use Rattle.lr_run.proofs.Seeing.{some_so}
-use Rattle.lr_cli.specs.declared.clock.ClockStop.{ClockStop}
-use Rattle.lr_cli.specs.declared.clock.ClockStop.TheVariants as stop
-use Rattle.lr_cli.specs.Clock.{ShowsClock, LacksClock, out_of_range, no_text, refused, ClockStopped}
+use Rattle.lr_clock.specs.declared.clock.ClockStop.{ClockStop}
+use Rattle.lr_clock.specs.declared.clock.ClockStop.TheVariants as stop
+use Rattle.lr_clock.specs.Clock.{ShowsClock, LacksClock, out_of_range, no_text, refused, ClockStopped}
 use Rattle.lr_report.specs.declared.outcome.Outcome.{Outcome}
 use Rattle.lr_report.specs.declared.outcome.Outcome.TheVariants.{Done, BadWords, Held, OutOfMemory}
 use Rattle.lr_command.specs.declared.request.Request.{Request}
 use Rattle.lr_cli.specs.Answer.{Answers, LacksMemory, at_confs, at_run, AnswersAt, no_clock, no_memory, called, Answered, not_read, read}
 use Rattle.lr_cli.specs.Still.{IsStill, AreStill, WasShort, all_still, broke_off}
 use Rattle.lr_cli.specs.Asked.{AskFor}
-use Rattle.lr_cli.specs.Zone.{LacksZoneMemory, ShowsZone, LacksText, not_file, too_big, look_failed as text_look_failed, read_failed as text_read_failed, at_first as zone_at_first, at_file}
+use Rattle.lr_clock.specs.Zone.{LacksZoneMemory, ShowsZone, LacksText, not_file, too_big, look_failed as text_look_failed, read_failed as text_read_failed, at_first as zone_at_first, at_file}
 
 pub reads_quiet : (conf : Path) (ts : List Entry) → Each (IsReadOf conf) ts → AreQuiet ts
 reads_quiet conf [] each = tt

@@ -24,9 +24,9 @@ use Rattle.lr_report.specs.declared.outcome.Outcome.TheVariants.{Done}
 use Rattle.lr_report.specs.declared.outcome.Report.{Report}
 use Rattle.lr_cli.specs.Answer.{Reports, AnswersAt, no_clock, no_memory, called, Answered, not_read, read}
 use Rattle.lr_cli.specs.Asked.{AskFor}
-use Rattle.lr_cli.specs.Clock.{ShowsClock, LacksClock, out_of_range, no_text, refused}
+use Rattle.lr_clock.specs.Clock.{ShowsClock, LacksClock, out_of_range, no_text, refused}
 use Rattle.lr_cli.specs.Reached.{IsOfZone, TriesPlan, MayEndDry, SaysWhyDry, TellsOfTry}
-use Rattle.lr_cli.specs.Zone.{LacksText, not_file, too_big, look_failed as text_look_failed, read_failed as text_read_failed}
+use Rattle.lr_clock.specs.Zone.{LacksText, not_file, too_big, look_failed as text_look_failed, read_failed as text_read_failed}
 use Rattle.lr_cli.proofs.Reached.{means_none}
 use Rattle.lr_cli.proofs.Still.{same_Some}
 

@@ -20,13 +20,13 @@ use Rattle.lr_run.specs.State.{IsNewText as IsTextOfRun}
 use Rattle.lr_run.proofs.Drying.{leaves_may, lacks_may, holds_quiet}
 use Rattle.lr_run.proofs.Made.{AreMade, made_later}
 use Rattle.lr_run.proofs.Renewing.{quiet_alone, behind_quiet, left_whole}
-use Rattle.lr_cli.specs.declared.clock.ClockStop.TheVariants as stop
+use Rattle.lr_clock.specs.declared.clock.ClockStop.TheVariants as stop
 use Rattle.lr_report.specs.declared.outcome.Outcome.{Outcome}
 use Rattle.lr_report.specs.declared.outcome.Outcome.TheVariants.{Done, BadWords, Held, OutOfMemory}
 use Rattle.lr_report.specs.declared.outcome.Report.{Report}
 use Rattle.lr_command.specs.declared.request.Request.{Request}
 use Rattle.lr_cli.specs.Answer.{Reports, FindsLock, LacksMemory, at_confs, at_run, Answers, AnswersAt, no_clock, no_memory, called, Answered, not_read, read}
-use Rattle.lr_cli.specs.Clock.{ShowsClock}
+use Rattle.lr_clock.specs.Clock.{ShowsClock}
 use Rattle.lr_cli.specs.State.{IsNewText}
 use Rattle.lr_cli.specs.Asked.{AskFor}
 use Rattle.lr_include.proofs.AllQuiet.{reads_quiet as confs_quiet, lacking_quiet}

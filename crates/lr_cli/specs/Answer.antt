@@ -18,8 +18,8 @@ use Rattle.lr_command.specs.declared.request.Request.{Request}
 use Rattle.lr_report.specs.declared.outcome.Outcome.{Outcome}
 use Rattle.lr_report.specs.declared.outcome.Outcome.TheVariants.{Done, BadWords, Held, OutOfMemory}
 use Rattle.lr_cli.specs.Asked.{AskFor}
-use Rattle.lr_cli.specs.Clock.{ShowsClock, LacksClock}
-use Rattle.lr_cli.specs.Zone.{LacksZoneMemory}
+use Rattle.lr_clock.specs.Clock.{ShowsClock, LacksClock}
+use Rattle.lr_clock.specs.Zone.{LacksZoneMemory}
 
 -- The configuration was read, and a run was made over its rules, a dry one or one that acts, which came to this plan. The report has the notices of the configuration, and its faults before those of the run.
 pub record Reports (request : Request) (clock : Clock) (plan : Option Plan) (notices : List Notice) (faults : List Fault) (ts : List Entry) : Type 0 where

@@ -11,7 +11,7 @@ use Rattle.lr_due.specs.declared.tz.Zone.{Zone}
 use Rattle.lr_emptied.specs.Emptied.{EmptiesWhole}
 use Rattle.lr_run.specs.Copied.{IsCopyBy}
 use Rattle.lr_command.specs.declared.request.Request.{Request}
-use Rattle.lr_cli.specs.Clock.{ShowsClock}
+use Rattle.lr_clock.specs.Clock.{ShowsClock}
 
 -- what was done behind the reading is left open
 abbrev pub Whatever : List Entry → Type 0

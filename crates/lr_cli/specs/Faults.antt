@@ -5,13 +5,14 @@ use Rattle.lr_rules.specs.declared.fault.Fault.TheVariants as fault
 use Rattle.lr_rules.specs.declared.path.Path.{Path}
 use Rattle.lr_plan.specs.declared.plan.Plan.{Plan}
 use Rattle.lr_host.specs.Told.{Counts}
-use Rattle.lr_host.specs.Counted.{calls_in, scripts_in, RoseBy}
+use Rattle.lr_host.specs.Counted.{calls_in, scripts_in}
+use Rattle.lr_report.specs.Reported.{AreReported}
 use Rattle.lr_run.specs.declared.answer.RunStop.{RunStop}
 use Rattle.lr_run.specs.declared.answer.RunStop.TheVariants as stop
 use Rattle.lr_run.specs.Copied.{NoneOfCopy}
 use Rattle.lr_reached.specs.Ending.{NoneEnds}
-use Rattle.lr_cli.specs.declared.clock.ClockStop.{ClockStop}
-use Rattle.lr_cli.specs.declared.clock.ClockStop.TheVariants as clock_stop
+use Rattle.lr_clock.specs.declared.clock.ClockStop.{ClockStop}
+use Rattle.lr_clock.specs.declared.clock.ClockStop.TheVariants as clock_stop
 use Rattle.lr_report.specs.declared.outcome.Outcome.{Outcome}
 use Rattle.lr_report.specs.declared.outcome.Outcome.TheVariants.{Done, Held, OutOfMemory}
 use Rattle.lr_cli.specs.declared.told.Told.{Told}
@@ -36,21 +37,6 @@ clock_answer clock_stop.Memory = OutOfMemory
 abbrev pub HasFault : Outcome → Fault → Type 0
 HasFault (Done report) f = Contains report.faults f
 HasFault _ f = ⊥
-
--- none is of the output
-abbrev pub IsOut : Fault → Type 0
-IsOut fault.Out = Unit {0}
-IsOut _ = ⊥
-
-abbrev pub HasNoOut : List Fault → Type 0
-HasNoOut [] = Unit {0}
-HasNoOut (f ∷ fs) = (IsOut f → ⊥) × HasNoOut fs
-
--- These faults came: no more failed calls, and no more bad ends, than the counts of the host rose by, and none of the output.
-pub record AreReported (faults : List Fault) (counted counts : Counts) : Type 0 where
-  pub calls : RoseBy (calls_in faults) counted.faults counts.faults
-  pub scripts : RoseBy (scripts_in faults) counted.bad_ends counts.bad_ends
-  pub no_out : HasNoOut faults
 
 -- the faults of the report
 abbrev pub HasCounted : Outcome → Counts → Counts → Type 0

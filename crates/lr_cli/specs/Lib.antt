@@ -1,6 +1,5 @@
 pub mod Answer
 pub mod Asked
-pub mod Clock
 pub mod Copied
 pub mod Faults
 pub mod Fulfilled
@@ -13,4 +12,3 @@ pub mod Says
 pub mod Smooth
 pub mod State
 pub mod Still
-pub mod Zone

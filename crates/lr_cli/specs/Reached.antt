@@ -22,7 +22,7 @@ use Rattle.lr_reached.specs.Looked.{behind_start, SawState}
 use Rattle.lr_reached.specs.Reached.{IsReached}
 use Rattle.lr_report.specs.declared.outcome.Report.{Report}
 use Rattle.lr_command.specs.declared.request.Request.{Request}
-use Rattle.lr_cli.specs.Clock.{ShowsClock}
+use Rattle.lr_clock.specs.Clock.{ShowsClock}
 
 -- The call came to its plan: the zone's clock was had, the configuration was read, and a run over its rules by this clock came to its plan and carried it out, whatever failed then. The report has the notices of the configuration, and its faults before those of the run.
 pub record ReachesPlan (request : Request) (zone : Zone) (seconds : ℤ) (report : Report) (ts : List Entry) : Type 0 where

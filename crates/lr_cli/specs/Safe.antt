@@ -7,7 +7,7 @@ use Rattle.lr_host.specs.Safe.{KeepsSafe}
 use Rattle.lr_host.specs.Told.{Left, Then}
 use Rattle.lr_laws.specs.Forward.{IsForwardFor}
 use Rattle.lr_laws.specs.Stays.{KeepsSafeWhere}
-use Rattle.lr_cli.specs.Clock.{ShowsClock}
+use Rattle.lr_clock.specs.Clock.{ShowsClock}
 use Rattle.lr_cli.specs.Copied.{Whatever}
 
 -- the first entries show this clock of the zone at these seconds

@@ -10,7 +10,7 @@ use Rattle.lr_due.specs.declared.tz.Zone.{Zone}
 use Rattle.lr_run.specs.State.{IsNewText as IsTextOfRun}
 use Rattle.lr_command.specs.declared.request.Request.{Request}
 use Rattle.lr_plan.specs.Asked.{asking}
-use Rattle.lr_cli.specs.Clock.{ShowsClock}
+use Rattle.lr_clock.specs.Clock.{ShowsClock}
 
 -- The zone's clock was had, the configuration was read, and this is the text of the run that was made over its rules by this clock.
 pub record IsNewText (request : Request) (zone : Zone) (seconds : ℤ) (ts : List Entry) (text : List ℕ) : Type 0 where

@@ -15,7 +15,7 @@ use Rattle.lr_run.specs.Scripts.{RunNothing}
 use Rattle.lr_command.specs.declared.request.Request.{Request}
 use Rattle.lr_plan.specs.Asked.{asking}
 use Rattle.lr_cli.specs.Asked.{AskFor}
-use Rattle.lr_cli.specs.Clock.{ShowsClock}
+use Rattle.lr_clock.specs.Clock.{ShowsClock}
 
 -- a look, a listing or a read, or the begin or the end of a run: it leaves the disk as it is, and starts no program
 abbrev pub IsStill : Entry → Type 0

@@ -11,17 +11,14 @@
 //! ```
 #![tactic(auto)]
 
-mod clock;
 mod report;
 mod run;
 mod told;
 mod top;
-mod zone;
 
-pub use clock::{ClockStop, clock_in};
+pub use lr_clock::{ClockStop, clock_in, zone_text};
 pub use lr_due::{Zone, zone_of};
 pub use lr_report::{Outcome, Report, printed, put_outcome, put_report, status};
 pub use run::{run_at, run_confs};
 pub use told::Told;
 pub use top::logrotate;
-pub use zone::zone_text;

@@ -7,12 +7,13 @@ ghost use Rattle.lr_laws_targets.specs.Runs.{IsWholeRunBy};
 ghost use Rattle.lr_run.specs.Anew.{NamesAnew};
 ghost use Rattle.lr_cli.specs.Internal.{TurnsByClock};
 ghost use Rattle.lr_cli.specs.Answer.{Answers, AnswersAt};
-ghost use Rattle.lr_cli.specs.Clock.{IsClocked};
-ghost use Rattle.lr_cli.specs.Faults.{AreReported, answer_of, clock_answer, plan_told};
+ghost use Rattle.lr_clock.specs.Clock.{IsClocked};
+ghost use Rattle.lr_report.specs.Reported.{AreReported};
+ghost use Rattle.lr_cli.specs.Faults.{answer_of, clock_answer, plan_told};
 ghost use Rattle.lr_cli.specs.Smooth.{TellsTaken};
 
-use crate::clock::{ClockStop, clock_in};
 use crate::told::Told;
+use lr_clock::{ClockStop, clock_in};
 use lr_command::Request;
 use lr_due::Zone;
 use lr_host::Host;

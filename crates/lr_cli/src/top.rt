@@ -12,7 +12,7 @@ ghost use Rattle.lr_spared.specs.Smooth.{NoneRose};
 ghost use Rattle.lr_command.specs.declared.request.Request.{Request};
 ghost use Rattle.lr_report.specs.declared.outcome.Report.{Report};
 ghost use Rattle.lr_cli.specs.Asked.{AskFor, AskForNone};
-ghost use Rattle.lr_cli.specs.Clock.{IsClocked};
+ghost use Rattle.lr_clock.specs.Clock.{IsClocked};
 ghost use Rattle.lr_cli.specs.Copied.{CopiesWhole};
 ghost use Rattle.lr_cli.specs.Faults.{HasFault, HasCounted, StopNothing};
 ghost use Rattle.lr_cli.specs.Fulfilled.{FailNothing, MakesDirs, FulfillsPlan};

@@ -19,7 +19,7 @@ use Rattle.lr_plan.specs.Planned.{all_plans}
 use Rattle.lr_plan.specs.Steps.{steps_of_set}
 use Rattle.lr_acts.specs.Making.{all_of_sets}
 use Rattle.lr_looks.specs.Shown.{ShowsLooks}
-use Rattle.lr_seen.specs.Free.{reserved_by}
+use Rattle.lr_looks.specs.Reserved.{reserved_by}
 use Rattle.lr_run.proofs.Simple.{plan_simple}
 use Rattle.lr_run.proofs.Stating.{IsWriting}
 use Rattle.lr_fixed.proofs.Keys.{Key, Made, keys_of, shown_by, shown, shown_joined, Keep, sets_keep, Agree}

@@ -13,7 +13,7 @@ use Rattle.lr_plan.specs.Planned.{plan_of}
 use Rattle.lr_reading.specs.Answers.{Known}
 use Rattle.lr_record.specs.After.{after}
 use Rattle.lr_record.specs.Measured.{measured_text}
-use Rattle.lr_seen.specs.Free.{reserved_by}
+use Rattle.lr_looks.specs.Reserved.{reserved_by}
 use Rattle.lr_run.specs.Runs.{Looked, all_logs_of, logs_in, plan_in, kept_in, measured_in}
 use Rattle.lr_fixed.specs.Alike.{AreAlike}
 use Rattle.lr_fixed.proofs.Planned.{faults_alike, plans_alike}

@@ -39,7 +39,8 @@ use Rattle.lr_weave.specs.Parts.{MakesOnly, MakesOne}
 use Rattle.lr_weave.proofs.Parting.{sets_parts}
 use Rattle.lr_weave.proofs.Planning.{ready_planned}
 use Rattle.lr_looks.specs.Shown.{ShowsLooks}
-use Rattle.lr_seen.specs.Free.{reserved_by, AreFreeOf}
+use Rattle.lr_looks.specs.Reserved.{reserved_by}
+use Rattle.lr_seen.specs.Free.{AreFreeOf}
 use Rattle.lr_seen.specs.Targets.{groups_of, all_targets}
 use Rattle.lr_seen.proofs.Apart.{targets_apart}
 use Rattle.lr_seen.proofs.Free.{targets_free}

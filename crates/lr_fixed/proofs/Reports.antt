@@ -34,9 +34,9 @@ use Rattle.lr_report.specs.declared.outcome.Outcome.TheVariants.{Done}
 use Rattle.lr_report.specs.declared.outcome.Report.{Report}
 use Rattle.lr_command.specs.declared.request.Request.{Request}
 use Rattle.lr_cli.specs.Answer.{Reports, AnswersAt, no_clock, no_memory, called, Answered, not_read, read}
-use Rattle.lr_cli.specs.Clock.{ShowsClock, LacksClock, out_of_range, no_text, refused}
+use Rattle.lr_clock.specs.Clock.{ShowsClock, LacksClock, out_of_range, no_text, refused}
 use Rattle.lr_cli.specs.Asked.{AskFor}
-use Rattle.lr_cli.specs.Zone.{IsNotFile, ShowsZone, GivesBytes, LacksText, not_file, too_big, look_failed, read_failed}
+use Rattle.lr_clock.specs.Zone.{IsNotFile, ShowsZone, GivesBytes, LacksText, not_file, too_big, look_failed, read_failed}
 use Rattle.lr_run.proofs.Called.{none_before, none_behind}
 use Rattle.lr_fixed.proofs.Called.{one_called, one_uncalled, no_call}
 use Rattle.lr_fixed.proofs.Peeled.{front_same, then_same, joined_same, one_look}

@@ -17,7 +17,7 @@ use Rattle.lr_plan.specs.Asked.{Asked}
 use Rattle.lr_plan.specs.declared.looks.SetLooks.{SetLooks}
 use Rattle.lr_plan.specs.Planned.{decision}
 use Rattle.lr_looks.specs.Shown.{ShowsLooks}
-use Rattle.lr_seen.specs.Free.{reserved_by}
+use Rattle.lr_looks.specs.Reserved.{reserved_by}
 use Rattle.lr_plan.specs.declared.plan.Plan.{Plan}
 use Rattle.lr_looks.specs.Inside.{Inside}
 use Rattle.lr_run.specs.Runs.{Looked, Worked, Works, not_known, too_big, worked, Runs, no_directory, not_seen, not_begun, began}

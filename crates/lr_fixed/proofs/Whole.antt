@@ -16,7 +16,7 @@ use Rattle.lr_looks.specs.Sets.{HaveLooksFrom}
 use Rattle.lr_looks.specs.Shown.{ShowsLooks}
 use Rattle.lr_looks.specs.Sights.{faults_of, found_of}
 use Rattle.lr_looks.proofs.Holding.{kept_bounds}
-use Rattle.lr_seen.proofs.Built.{asks_all}
+use Rattle.lr_looks.proofs.Built.{asks_all}
 use Rattle.lr_run.proofs.Called.{none_before, none_behind}
 use Rattle.lr_fixed.specs.Alike.{AreAlikeFrom, AreAlike}
 use Rattle.lr_fixed.proofs.Families.{families_one}

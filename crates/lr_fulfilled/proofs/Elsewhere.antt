@@ -32,7 +32,7 @@ use Rattle.lr_laws_targets.specs.Target.{Target}
 use Rattle.lr_laws_targets.specs.Apart.{HaveNames}
 use Rattle.lr_laws_targets.specs.Runs.{AllTurnsBy}
 use Rattle.lr_laws_targets.proofs.LogSeen.{have_names}
-use Rattle.lr_seen.specs.Free.{reserved_by}
+use Rattle.lr_looks.specs.Reserved.{reserved_by}
 use Rattle.lr_seen.specs.Targets.{all_targets}
 use Rattle.lr_seen.proofs.Kept.{kept_has_none, kept_meets_none}
 use Rattle.lr_seen.proofs.Coming.{Comes, comes_from}

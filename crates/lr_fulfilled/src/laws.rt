@@ -30,7 +30,7 @@ ghost use Rattle.lr_laws_targets.specs.Runs.{AllTurnsBy};
 ghost use Rattle.lr_run.specs.Dry.{AreSights};
 ghost use Rattle.lr_looks.specs.Inside.{Inside};
 ghost use Rattle.lr_run.specs.Runs.{Worked, logs_in, dirs_in, plan_in};
-ghost use Rattle.lr_seen.specs.Free.{reserved_by};
+ghost use Rattle.lr_looks.specs.Reserved.{reserved_by};
 ghost use Rattle.lr_seen.specs.Targets.{all_targets};
 ghost use Rattle.lr_fulfilled.specs.Acts.{is_act, AreActsOf};
 ghost use Rattle.lr_fulfilled.specs.Fulfilled.{NothingFailed, IsElsewhere, HasNone, IsFulfilled};

@@ -6,4 +6,5 @@ mod Known
 pub mod Behind
 mod Adding
 pub mod Holding
-mod Whole
+pub mod Whole
+pub mod Built

@@ -9,7 +9,7 @@ use Rattle.lr_rules.specs.declared.rule.Rule.{Rule}
 use Rattle.lr_host.specs.declared.entry.Entry.{Entry}
 use Rattle.lr_host.specs.declared.journal.Journal.{Journal}
 use Rattle.lr_host.specs.Told.{Counts, NoneFell, Left}
-use Rattle.lr_host.proofs.Left.{left_as, left_then}
+use Rattle.lr_host.proofs.Left.{left_as, left_first, left_then}
 use Rattle.lr_plan.specs.declared.looks.Looks.{Looks}
 use Rattle.lr_host.specs.Counted.{AddsFaults}
 use Rattle.lr_host.proofs.Counts.{AreFree, free_none, free_on, adds_on, adds_free}
@@ -20,6 +20,7 @@ use Rattle.lr_looks.specs.Choices.{duplicate, overlap, barred, choice_fault, cho
 use Rattle.lr_looks.specs.Families.{LookedLog, family_faults, LooksAtFamilies, LookedAtSomeFamilies}
 use Rattle.lr_looks.specs.Found.{FoundLog, paths_of, HaveLogPaths}
 use Rattle.lr_looks.specs.Internal.{LooksBySets}
+use Rattle.lr_looks.specs.Reserved.{reserved_by}
 use Rattle.lr_looks.specs.Shown.{LooksAtAll, ShowsSomeLooks, at_words, at_families}
 use Rattle.lr_looks.specs.Sights.{faults_of, ShowWords, LookedAt, LookedAtSome}
 use Rattle.lr_looks.proofs.Looking.{shown_many}
@@ -149,3 +150,15 @@ pub all_at_families : {T E : Type 0} (r : Result T E) (reserved : List Path) (ru
 all_at_families (Ok x) reserved rules found kept a b c n l k s = tt
 all_at_families (Err x) reserved rules found kept a b c n l k s = left_then l s (λ ts us h g. at_families found (faults_of (asked_by rules) h.sights) kept (faults_of (asked_by rules) h.sights ++ kept_faults reserved found b c kept k) (own_kept reserved found b c (faults_of (asked_by rules) h.sights) kept k)
     (record { front = ts; back = us; joined = refl; first = own_words (asked_by rules) a b found ts h; second = g }))
+
+-- ---- behind the paths that are reserved
+
+-- no look was made
+pub none_looked : {T E : Type 0} (r : Result T E) (state : Path) (rules : List Rule) (o : Option Journal) → OnErr r (Left (ShowsSomeLooks (reserved_by state) rules) o o)
+none_looked (Ok x) state rules o = tt
+none_looked (Err x) state rules o = left_first (ShowsSomeLooks (reserved_by state) rules) o (at_words (record { sights = []; few = omega arith; shown = refl }))
+
+-- a first part of them
+pub some_looked : {T E : Type 0} (r : Result T E) (state : Path) (reserved : List Path) (rules : List Rule) {o n : Option Journal} → reserved ≡ reserved_by state → Left (ShowsSomeLooks reserved rules) o n → OnErr r (Left (ShowsSomeLooks (reserved_by state) rules) o n)
+some_looked (Ok x) state reserved rules e l = tt
+some_looked (Err x) state reserved rules e l = left_as l (λ ts h. subst (λ (ps : List Path). ShowsSomeLooks ps rules ts) e h)

@@ -5,6 +5,7 @@ pub mod Found
 pub mod Inside
 pub mod Internal
 pub mod Ready
+pub mod Reserved
 pub mod Sets
 pub mod Shown
 pub mod Sights

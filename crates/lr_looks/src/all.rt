@@ -1,38 +1,34 @@
 // All looks of a run.
-ghost use Rattle.std.specs.Prelude.{◌≡◌, OnErr, IfOk, length};
-ghost use Rattle.lr_host.specs.Told.{Left, Onward};
-ghost use Rattle.lr_looks.specs.Asked.{CanAskAll};
+ghost use Rattle.std.specs.Prelude.{IfOk, OnErr};
 ghost use Rattle.lr_host.specs.Counted.{AddsFaults};
-ghost use Rattle.lr_looks.specs.Ready.{AreReady};
+ghost use Rattle.lr_host.specs.Told.{Left, Onward};
 ghost use Rattle.lr_looks.specs.Shown.{LooksAtAll, ShowsSomeLooks};
+ghost use Rattle.lr_plan.specs.Planned.{CanPlanAll};
+ghost use Rattle.lr_looks.specs.Reserved.{reserved_by};
 
-use crate::families::look_at_families;
-use crate::keeping::keep;
-use crate::words::look_at_words;
+use crate::reserved::reserved_paths;
+use crate::unreserved::look_at_unreserved;
 use lr_host::Host;
 use lr_plan::Looks;
 use lr_rules::{Fault, Memory, Path, Rules};
 use std::alloc::Global;
 
-/// Looks at what the words of the rules give, and at the families of the logs that are kept: for each definition its logs
-/// that were looked at whole. The faults of the others are added: those of the words, of the choice, of the kinds and of the
-/// families, in this order. No log is kept of which a name is one of the reserved paths.
+/// Looks at the logs that the rules ask for, and at their families, but for those of which a name is one that a run with
+/// this state reserves for itself.
 pub fn look_all<H: Host>(
     alloc: Global,
     host: &mut H,
     rules: &Rules,
-    reserved: &[Path],
+    state: &Path,
     faults: &mut Vec<Fault>,
 ) -> Result<Looks, Memory>
-    requires { CanAskAll rules.now.sets }
-    ensures told { IfOk result (λ looks. Left (LooksAtAll reserved.now rules.now.sets looks faults.old.items faults.new.items) (H.told host.old) (H.told host.new)) }
-    ensures some { OnErr result (Left (ShowsSomeLooks reserved.now rules.now.sets) (H.told host.old) (H.told host.new)) }
-    ensures many { IfOk result (λ looks. length looks.sets ≡ length rules.now.sets) }
-    ensures ready { IfOk result (λ looks. AreReady looks.sets) }
+    ensures told { IfOk result (λ looks. Left (LooksAtAll (reserved_by state.now) rules.now.sets looks faults.old.items faults.new.items) (H.told host.old) (H.told host.new)) }
+    ensures some { OnErr result (Left (ShowsSomeLooks (reserved_by state.now) rules.now.sets) (H.told host.old) (H.told host.new)) }
+    ensures planned { IfOk result (λ looks. CanPlanAll rules.now.sets looks.sets) }
     ensures counted { IfOk result (λ looks. AddsFaults faults.old.items faults.new.items (H.counts host.old) (H.counts host.new)) }
     ensures counts { Onward (H.counts host.old) (H.counts host.new) }
 {
-    let found = look_at_words(alloc, host, rules, faults)?;
-    let kept = keep(alloc, found, reserved, faults)?;
-    look_at_families(alloc, host, kept, rules.sets.len(), faults)
+    let reserved = reserved_paths(alloc, state)?;
+    let looks = look_at_unreserved(alloc, host, rules, &reserved, faults)?;
+    Ok(looks)
 }

@@ -19,10 +19,13 @@ mod keeping;
 mod listing;
 mod listings;
 mod naming;
+mod reserved;
+mod unreserved;
 mod words;
 
 pub use all::look_all;
 pub use families::look_at_families;
 pub use found::Found;
 pub use keeping::keep;
+pub use reserved::reserved_paths;
 pub use words::look_at_words;

@@ -34,7 +34,8 @@ use Rattle.lr_weave.specs.Parts.{ArePlanned}
 use Rattle.lr_weave.specs.Planned.{HaveLogs}
 use Rattle.lr_weave.proofs.Marked.{marked_stands}
 use Rattle.lr_weave.proofs.Planning.{ready_planned}
-use Rattle.lr_seen.specs.Free.{reserved_by, AreFreeOf}
+use Rattle.lr_looks.specs.Reserved.{reserved_by}
+use Rattle.lr_seen.specs.Free.{AreFreeOf}
 use Rattle.lr_seen.specs.Targets.{groups_of, all_targets}
 use Rattle.lr_seen.proofs.Apart.{targets_apart}
 use Rattle.lr_seen.proofs.Quiet.{whole_quiet}

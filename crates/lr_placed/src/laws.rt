@@ -19,7 +19,7 @@ ghost use Rattle.lr_plan.specs.Planned.{all_plans};
 ghost use Rattle.lr_plan.specs.Steps.{steps_of_set};
 ghost use Rattle.lr_reading.specs.declared.remembered.Remembered.{Remembered};
 ghost use Rattle.lr_reading.specs.Answers.{ReadsState};
-ghost use Rattle.lr_seen.specs.Free.{reserved_by};
+ghost use Rattle.lr_looks.specs.Reserved.{reserved_by};
 ghost use Rattle.lr_writing.specs.Fits.{CanBegin};
 ghost use Rattle.lr_synced.specs.Synced.{AreSynced};
 ghost use Rattle.lr_placed.specs.Looked.{LooksCameTo};

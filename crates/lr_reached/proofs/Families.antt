@@ -24,7 +24,7 @@ use Rattle.lr_family.proofs.Names.{placed_member}
 use Rattle.lr_looks.specs.Families.{FamilySight, Stood, Stopped, ShowsMembersIn, ShowsFamily, behind_listing, with_listing, not_listed, ShowFamilies, stop_fault, family_fault, family_faults}
 use Rattle.lr_looks.specs.Found.{FoundLog, Hold}
 use Rattle.lr_laws_rotations.proofs.Outside.{place_name}
-use Rattle.lr_seen.specs.Free.{reserved_by}
+use Rattle.lr_looks.specs.Reserved.{reserved_by}
 use Rattle.lr_reached.specs.Ending.{NoneEnds}
 use Rattle.lr_reached.proofs.Ends.{none_both, IsLooking, looking_ends}
 use Rattle.lr_reached.proofs.Kept.{IsFreeLog, free_ends}

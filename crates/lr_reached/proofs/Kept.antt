@@ -12,7 +12,7 @@ use Rattle.lr_kept.specs.declared.choice.Choice.{Choice}
 use Rattle.lr_kept.specs.declared.choice.Choice.TheVariants.{Kept, Again, MemberOf, Reserved, Meets}
 use Rattle.lr_looks.specs.Choices.{names_of, found_names, IsChoiceAmong, duplicate, overlap, barred, choice_fault, choice_faults, kept_of, is_file, kind_fault, where_file}
 use Rattle.lr_looks.specs.Found.{FoundLog, Hold}
-use Rattle.lr_seen.specs.Free.{reserved_by}
+use Rattle.lr_looks.specs.Reserved.{reserved_by}
 use Rattle.lr_seen.proofs.Apart.{kept_each}
 use Rattle.lr_seen.proofs.Elements.{map_at, unmap_at}
 use Rattle.lr_reached.specs.Ending.{EndsRun, NoneEnds}

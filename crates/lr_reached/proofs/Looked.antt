@@ -18,7 +18,7 @@ use Rattle.lr_looks.specs.Families.{LookedLog, looked_at, family_faults}
 use Rattle.lr_looks.specs.Found.{FoundLog, Hold}
 use Rattle.lr_looks.specs.Sets.{where_in, of_set, looked_in, HaveLooksFrom}
 use Rattle.lr_looks.specs.Shown.{ShowsLooks}
-use Rattle.lr_seen.specs.Free.{reserved_by}
+use Rattle.lr_looks.specs.Reserved.{reserved_by}
 use Rattle.lr_seen.proofs.Coming.{in_looked}
 use Rattle.lr_seen.proofs.Free.{HasNone}
 use Rattle.lr_seen.proofs.Kept.{kept_has_none}

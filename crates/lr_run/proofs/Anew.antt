@@ -38,7 +38,8 @@ use Rattle.lr_acts.specs.Named.{IsNamed, CreatesAt, OneCreates, LastsBehind, IsC
 use Rattle.lr_looks.specs.Shown.{ShowsLooks, LooksAtAll}
 use Rattle.lr_laws_targets.proofs.LogSeen.{log_among}
 use Rattle.lr_reading.specs.declared.remembered.Remembered.{Remembered}
-use Rattle.lr_seen.specs.Free.{reserved_by, IsFreeOf}
+use Rattle.lr_looks.specs.Reserved.{reserved_by}
+use Rattle.lr_seen.specs.Free.{IsFreeOf}
 use Rattle.lr_seen.specs.Targets.{groups_of, all_targets}
 use Rattle.lr_seen.proofs.Apart.{targets_dont_meet}
 use Rattle.lr_seen.proofs.Elements.{in_each}

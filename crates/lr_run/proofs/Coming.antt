@@ -35,7 +35,7 @@ use Rattle.lr_record.specs.After.{after}
 use Rattle.lr_record.specs.Measured.{measured_text}
 use Rattle.lr_state.specs.Table.{Entry as Row}
 use Rattle.lr_state.specs.Written.{text_of}
-use Rattle.lr_seen.specs.Free.{reserved_by}
+use Rattle.lr_looks.specs.Reserved.{reserved_by}
 use Rattle.lr_synced.specs.Synced.{AreSynced}
 use Rattle.lr_run.specs.Internal.{plan_for, steps_behind, ActsBy, outgrew, acted, Carries, CameTo, WorksTo, SeesTooBig, LooksAndActs, saw_too_big, came_to, IsBehind, ReadsText, WorksOn, knows_none, knows, EndsWork, Begun, Goes, begun}
 use Rattle.lr_run.specs.Ran.{TellsNames, TellsNamesOf}

@@ -30,7 +30,8 @@ use Rattle.lr_laws_targets.specs.Target.{Target, IsReadyBy}
 use Rattle.lr_laws_targets.proofs.LogSeen.{any_names}
 use Rattle.lr_laws_targets.proofs.Own.{target_member, family_change, any_change}
 use Rattle.lr_laws_targets.proofs.PartFile.{member_parent, part_parent}
-use Rattle.lr_seen.specs.Free.{reserved_by, AreFreeOf}
+use Rattle.lr_looks.specs.Reserved.{reserved_by}
+use Rattle.lr_seen.specs.Free.{AreFreeOf}
 
 -- ---- entries that change nothing
 

@@ -60,7 +60,7 @@ use Rattle.lr_laws_targets.specs.Apart.{HasNames, HaveNames}
 use Rattle.lr_laws_targets.proofs.Own.{member_own}
 use Rattle.lr_weave.proofs.Parting.{done_some}
 use Rattle.lr_weave.proofs.Planning.{ready_planned}
-use Rattle.lr_seen.specs.Free.{reserved_by}
+use Rattle.lr_looks.specs.Reserved.{reserved_by}
 use Rattle.lr_seen.specs.Targets.{groups_of, all_targets}
 use Rattle.lr_seen.proofs.Apart.{OffLooked, kept_off, looked_pairs, targets_apart}
 use Rattle.lr_seen.proofs.Coming.{Comes, comes_from, was_looked, in_looked}

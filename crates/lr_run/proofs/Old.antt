@@ -33,7 +33,7 @@ use Rattle.lr_looks.specs.Found.{FoundLog, paths_of}
 use Rattle.lr_reading.specs.Answers.{TextSaysOnly}
 use Rattle.lr_record.specs.After.{after}
 use Rattle.lr_record.specs.Measured.{measured_text}
-use Rattle.lr_seen.specs.Free.{reserved_by}
+use Rattle.lr_looks.specs.Reserved.{reserved_by}
 use Rattle.lr_synced.specs.Synced.{AreSynced}
 use Rattle.lr_run.specs.declared.answer.Ran.{Ran}
 use Rattle.lr_run.specs.declared.answer.RunStop.{RunStop}

@@ -18,7 +18,7 @@ use Rattle.lr_looks.specs.Shown.{LooksAtAll}
 use Rattle.lr_reading.specs.declared.remembered.Remembered.{Remembered}
 use Rattle.lr_writing.specs.Target.{Target}
 use Rattle.lr_writing.proofs.Fits.{writing_fits}
-use Rattle.lr_seen.specs.Free.{reserved_by}
+use Rattle.lr_looks.specs.Reserved.{reserved_by}
 use Rattle.lr_seen.proofs.Free.{targets_free}
 use Rattle.lr_placed.proofs.Placed.{AllAreFree, state_placed}
 use Rattle.lr_run.specs.declared.ready.Ready.{Ready}

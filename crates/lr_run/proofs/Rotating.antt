@@ -40,7 +40,8 @@ use Rattle.lr_laws_targets.specs.Seen.{IsLogSeen}
 use Rattle.lr_weave.specs.Fitting.{NoneMeets, DontMeet}
 use Rattle.lr_weave.proofs.Planning.{ready_planned}
 use Rattle.lr_weave.proofs.Turned.{done_turned}
-use Rattle.lr_seen.specs.Free.{reserved_by, IsFreeOf, AreFreeOf}
+use Rattle.lr_looks.specs.Reserved.{reserved_by}
+use Rattle.lr_seen.specs.Free.{IsFreeOf, AreFreeOf}
 use Rattle.lr_seen.specs.Targets.{groups_of}
 use Rattle.lr_seen.proofs.Apart.{targets_apart, targets_dont_meet}
 use Rattle.lr_seen.proofs.Free.{targets_free}

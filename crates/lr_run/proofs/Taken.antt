@@ -35,7 +35,7 @@ use Rattle.lr_plan.specs.Course.{Course}
 use Rattle.lr_plan.specs.Done.{SetsDone, rotated_logs}
 use Rattle.lr_record.specs.After.{after}
 use Rattle.lr_state.specs.Written.{text_of}
-use Rattle.lr_seen.specs.Free.{reserved_by}
+use Rattle.lr_looks.specs.Reserved.{reserved_by}
 use Rattle.lr_acts.specs.Taken.{WasTaken, no_journal}
 use Rattle.lr_acts.proofs.Taking.{taken_later}
 use Rattle.lr_reading.specs.declared.remembered.Remembered.{Remembered}

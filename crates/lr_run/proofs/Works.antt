@@ -54,10 +54,10 @@ use Rattle.lr_record.specs.After.{after}
 use Rattle.lr_record.specs.Measured.{measured_text}
 use Rattle.lr_weave.proofs.Seen.{seen_fit}
 use Rattle.lr_weave.proofs.Sets.{can_sets}
-use Rattle.lr_seen.specs.Free.{reserved_by}
+use Rattle.lr_looks.specs.Reserved.{reserved_by}
 use Rattle.lr_seen.specs.Targets.{groups_of, all_targets}
 use Rattle.lr_seen.proofs.Apart.{targets_dont_meet}
-use Rattle.lr_seen.proofs.Built.{can_plan_set}
+use Rattle.lr_looks.proofs.Built.{can_plan_set}
 use Rattle.lr_seen.proofs.Hindrances.{each_hindrance}
 use Rattle.lr_seen.proofs.Quiet.{whole_quiet}
 use Rattle.lr_seen.proofs.Ready.{plans_have_logs, plans_read_own}
@@ -68,16 +68,6 @@ use Rattle.lr_run.specs.Runs as runs
 use Rattle.lr_run.specs.Runs.{logs_in}
 use Rattle.lr_run.specs.Work.{act_faults}
 use Rattle.lr_run.proofs.Simple.{AreSimple, plan_simple}
-
--- ---- rules within their limits can be planned for
-
-pub can_plan : (rules : List Rule) (sets : List SetLooks) → list_all meets_limits rules ≡ true → AreReady sets → length sets ≡ length rules → CanPlanAll rules sets
-can_plan [] [] limits r e = record {}
-can_plan [] (s ∷ ss) limits r e = absurd (omega (arith, e))
-can_plan (x ∷ xs) [] limits r e = absurd (omega (arith, e))
-can_plan (x ∷ xs) (s ∷ ss) limits r e =
-    let both = and_parts (meets_limits x) (list_all meets_limits xs) limits in
-    (can_plan_set x s.logs both.0 r.0, can_plan xs ss both.1 r.1 (omega (arith, e)))
 
 -- ---- the faults of a plan
 
@@ -248,16 +238,6 @@ some_acted (Err u) state rules looks remembered clock asked ready x y m n r p h 
     part = subst (λ (ss : List SetSteps). SetsCut ss c.marks c.faults us) r.is.steps c.part;
   });
 })
-
--- no look was made
-pub none_looked : {T E : Type 0} (r : Result T E) (state : Path) (rules : List Rule) (o : Option Journal) → OnErr r (Left (ShowsSomeLooks (reserved_by state) rules) o o)
-none_looked (Ok x) state rules o = tt
-none_looked (Err x) state rules o = left_first (ShowsSomeLooks (reserved_by state) rules) o (at_words (record { sights = []; few = omega arith; shown = refl }))
-
--- a first part of them
-pub some_looked : {T E : Type 0} (r : Result T E) (state : Path) (reserved : List Path) (rules : List Rule) {o n : Option Journal} → reserved ≡ reserved_by state → Left (ShowsSomeLooks reserved rules) o n → OnErr r (Left (ShowsSomeLooks (reserved_by state) rules) o n)
-some_looked (Ok x) state reserved rules e l = tt
-some_looked (Err x) state reserved rules e l = left_as l (λ ts h. subst (λ (ps : List Path). ShowsSomeLooks ps rules ts) e h)
 
 -- a first part of the looks was made, or none
 pub lacks_looks : {T E : Type 0} (r : Result T E) (state : Path) (rules : List Rule) (clock : Clock) (asked : Asked) (remembered : Remembered) {o n : Option Journal} → Left (ShowsSomeLooks (reserved_by state) rules) o n → OnErr r (Left (EndsBehindState state rules clock asked remembered) o n)

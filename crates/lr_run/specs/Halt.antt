@@ -17,7 +17,7 @@ use Rattle.lr_plan.specs.Asked.{Asked}
 use Rattle.lr_looks.specs.Shown.{ShowsSomeLooks}
 use Rattle.lr_reading.specs.Answers.{IsKnown}
 use Rattle.lr_reading.specs.Sights.{StateSights, ShowsState}
-use Rattle.lr_seen.specs.Free.{reserved_by}
+use Rattle.lr_looks.specs.Reserved.{reserved_by}
 use Rattle.lr_looks.specs.Inside.{Inside}
 use Rattle.lr_run.specs.Runs.{SomeSeen}
 use Rattle.lr_run.specs.Saw.{Saw, ShowsSaw, plan_by, measured_by}

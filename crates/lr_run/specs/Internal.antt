@@ -48,7 +48,7 @@ use Rattle.lr_reading.specs.Sights.{StateSights, ShowsState}
 use Rattle.lr_record.specs.After.{after, stamped}
 use Rattle.lr_record.specs.Measured.{measured_text}
 use Rattle.lr_writing.specs.Target.{Target}
-use Rattle.lr_seen.specs.Free.{reserved_by}
+use Rattle.lr_looks.specs.Reserved.{reserved_by}
 use Rattle.lr_synced.specs.Before.{IsBy}
 use Rattle.lr_synced.specs.Synced.{AreSynced}
 use Rattle.lr_run.specs.declared.answer.RunStop.{RunStop}

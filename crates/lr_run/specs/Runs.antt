@@ -34,7 +34,7 @@ use Rattle.lr_reading.specs.Answers.{IsKnown}
 use Rattle.lr_reading.specs.Sights.{StateSights, ShowsState}
 use Rattle.lr_record.specs.After.{after}
 use Rattle.lr_record.specs.Measured.{measured_text}
-use Rattle.lr_seen.specs.Free.{reserved_by}
+use Rattle.lr_looks.specs.Reserved.{reserved_by}
 use Rattle.lr_synced.specs.Synced.{all_to_make_of, AreSynced}
 
 -- ---- the paths of a plan

@@ -20,7 +20,7 @@ use Rattle.lr_reading.specs.Answers.{TextSaysOnly, text_of as read_of}
 use Rattle.lr_reading.specs.Sights.{StateSights, ShowsState, found}
 use Rattle.lr_record.specs.After.{after}
 use Rattle.lr_record.specs.Measured.{measured_text}
-use Rattle.lr_seen.specs.Free.{reserved_by}
+use Rattle.lr_looks.specs.Reserved.{reserved_by}
 use Rattle.lr_run.specs.Runs.{logs_in}
 
 -- ---- the value

@@ -9,7 +9,7 @@ ghost use Rattle.lr_host.specs.Told.{Left, Onward};
 ghost use Rattle.lr_looks.specs.Shown.{ShowsSomeLooks};
 ghost use Rattle.lr_plan.specs.Asked.{asking};
 ghost use Rattle.lr_plan.specs.Planned.{CanPlanAll};
-ghost use Rattle.lr_seen.specs.Free.{reserved_by};
+ghost use Rattle.lr_looks.specs.Reserved.{reserved_by};
 ghost use Rattle.lr_run.specs.Dry.{Follows, measured_by};
 ghost use Rattle.lr_run.specs.Halt.{OfMemory, Halts};
 ghost use Rattle.lr_run.specs.Internal.{plan_if, faults_if};
@@ -20,10 +20,10 @@ ghost use Rattle.lr_run.specs.Trying.{PlansOn, PlansByOn, TriesOn};
 use crate::answer::{Ran, RunStop};
 use crate::directory::{DirStop, dir_fault, look_for_dir};
 use crate::known::known_state;
-use crate::looking::look_at_logs;
 use crate::ready::{add_all, bring_up_to};
 use crate::work::add_too_big;
 use lr_host::Host;
+use lr_looks::look_all;
 use lr_plan::{Looks, Plan};
 use lr_planning::plan;
 use lr_reading::part_path;
@@ -120,7 +120,7 @@ fn look_and_plan<H: Host>(
     ensures counted { OnOk result (AddsFaults faults.old.items faults.new.items (H.counts host.old) (H.counts host.new)) }
     ensures counts { Onward (H.counts host.old) (H.counts host.new) }
 {
-    let looks = look_at_logs(alloc, host, rules, &settings.state, faults)?;
+    let looks = look_all(alloc, host, rules, &settings.state, faults)?;
     plan_dry(alloc, rules, settings, clock, &looks, table, faults)
 }
 

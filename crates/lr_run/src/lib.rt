@@ -19,7 +19,6 @@ mod dry;
 mod known;
 mod laws;
 mod locked;
-mod looking;
 mod paths;
 mod ready;
 mod whole;

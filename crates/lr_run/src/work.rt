@@ -15,10 +15,10 @@ ghost use Rattle.lr_run.specs.Internal.{CameTo, Carries, EndsBehindLooks, EndsBe
 
 use crate::acting::carry_out;
 use crate::known::known_state;
-use crate::looking::look_at_logs;
 use crate::ready::make_ready;
 use lr_acts::Progress;
 use lr_host::Host;
+use lr_looks::look_all;
 use lr_plan::{Looks, Plan};
 use lr_planning::plan;
 use lr_reading::{Remembered, part_path};
@@ -110,7 +110,7 @@ fn look_and_act<H: Host>(
     ensures counted { OnOk result (AddsFaults progress.old.faults.items progress.new.faults.items (H.counts host.old) (H.counts host.new)) }
     ensures counts { Onward (H.counts host.old) (H.counts host.new) }
 {
-    let looks = look_at_logs(alloc, host, rules, &settings.state, &mut progress.faults)?;
+    let looks = look_all(alloc, host, rules, &settings.state, &mut progress.faults)?;
     plan_and_act(
         alloc, host, rules, settings, clock, &looks, part, remembered, reached, progress,
     )

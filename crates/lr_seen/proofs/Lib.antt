@@ -1,5 +1,4 @@
 pub mod Apart
-pub mod Built
 pub mod Coming
 mod Directory
 pub mod Elements

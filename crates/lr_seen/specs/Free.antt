@@ -1,14 +1,10 @@
 -- No name of a log of a plan is one that the run reserves for itself.
-use Rattle.std.specs.Prelude.{List, [], ◌∷◌, ◌++◌, codes}
+use Rattle.std.specs.Prelude.{List}
 use Rattle.std.specs.List.{AllByRecursion}
 use Rattle.lr_rules.specs.declared.path.Path.{Path}
 use Rattle.lr_rules.specs.Names.{IsName}
 use Rattle.lr_host.specs.Lists.{IsIn}
 use Rattle.lr_laws_targets.specs.Target.{Target}
-
--- the paths that a run reserves for itself: its state's, that of the file that a new state is first written to, and its lock's
-abbrev pub reserved_by : Path → List Path
-reserved_by state = state ∷ (state ++ codes ".tmp") ∷ (state ++ codes ".lock") ∷ []
 
 abbrev pub IsFreeOf : List Path → Target → Type 0
 IsFreeOf reserved t = (path : Path) → IsIn path reserved → IsName t.log t.naming path → ⊥

@@ -62,7 +62,8 @@ use Rattle.lr_weave.specs.Fitting.{DontMeet}
 use Rattle.lr_weave.specs.Planned.{AreReadyFor}
 use Rattle.lr_weave.proofs.Parting.{done_some}
 use Rattle.lr_weave.proofs.Planning.{ready_planned}
-use Rattle.lr_seen.specs.Free.{reserved_by, IsFreeOf}
+use Rattle.lr_looks.specs.Reserved.{reserved_by}
+use Rattle.lr_seen.specs.Free.{IsFreeOf}
 use Rattle.lr_seen.specs.Targets.{groups_of, all_targets}
 use Rattle.lr_seen.proofs.Apart.{targets_apart, targets_dont_meet}
 use Rattle.lr_seen.proofs.Coming.{Comes, comes_from}

@@ -3,7 +3,7 @@ use Rattle.lr_host.proofs.Left.{left_first}
 use Rattle.lr_host.specs.Quiet.{AreQuiet}
 use Rattle.lr_cli.specs.Faults.{answer_of, plan_told}
 use Rattle.lr_cli.specs.Internal.{only_looked}
-use Rattle.lr_cli.proofs.Clocked.{own_seconds}
+use Rattle.lr_clock.proofs.Clocked.{own_seconds}
 use Rattle.lr_cli.proofs.Called.{at_none, at_stop, stop_shape, stop_clocked, at_clock, clock_shape, clock_clocked, clock_reported}
 use Rattle.lr_cli.proofs.Smooth.{clock_taken, none_told, none_anew}
 use Rattle.lr_cli.proofs.run.run_at.Goals as goal

@@ -5,7 +5,7 @@ use Rattle.lr_report.specs.declared.outcome.Outcome.TheVariants.{BadWords, OutOf
 use Rattle.lr_cli.specs.Faults.{answer_of, plan_told}
 use Rattle.lr_cli.specs.Printed.{without_out}
 use Rattle.lr_cli.specs.Still.{WasShort, all_still}
-use Rattle.lr_cli.proofs.Clocked.{own_seconds}
+use Rattle.lr_clock.proofs.Clocked.{own_seconds}
 use Rattle.lr_cli.proofs.Copied.{answered_copies}
 use Rattle.lr_cli.proofs.Called.{nothing_called, answered, has_counted, has_clocked, not_counted, none_out, says_nothing, says_so, safe_alone, turns_safe}
 use Rattle.lr_cli.proofs.Fulfilling.{answered_fulfilled}

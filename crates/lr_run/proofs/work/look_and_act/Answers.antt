@@ -7,12 +7,12 @@ pub returns-in_err-looks-clause-some : goal.returns-in_err-looks-clause-some
 returns-in_err-looks-clause-some g c = lacks_looks c.from_residual.result c.args.settings.now.state c.args.rules.now.sets c.args.clock.now (asking c.args.settings.now.force c.args.settings.now.mailer) c.args.remembered c.in_err-looks.ensures.some
 
 pub returns-clause-told : goal.returns-clause-told
-returns-clause-told g c = looked_done c.plan_and_act.result c.args.settings.now.state c.args.rules.now c.in_ok-looks.looks c.args.remembered c.args.clock.now (asking c.args.settings.now.force c.args.settings.now.mailer) c.plan_and_act.new.reached c.args.progress.now.faults.items c.look_at_logs.new.faults.items c.plan_and_act.new.progress.faults.items _
+returns-clause-told g c = looked_done c.plan_and_act.result c.args.settings.now.state c.args.rules.now c.in_ok-looks.looks c.args.remembered c.args.clock.now (asking c.args.settings.now.force c.args.settings.now.mailer) c.plan_and_act.new.reached c.args.progress.now.faults.items c.look_all.new.faults.items c.plan_and_act.new.progress.faults.items _
     c.in_ok-looks.ensures.told c.plan_and_act.ensures.told
 
 pub returns-clause-some : goal.returns-clause-some
-returns-clause-some g c = behind_looks c.plan_and_act.result c.args.settings.now.state c.args.rules.now c.in_ok-looks.looks c.args.remembered c.args.clock.now (asking c.args.settings.now.force c.args.settings.now.mailer) c.args.progress.now.faults.items c.look_at_logs.new.faults.items _
+returns-clause-some g c = behind_looks c.plan_and_act.result c.args.settings.now.state c.args.rules.now c.in_ok-looks.looks c.args.remembered c.args.clock.now (asking c.args.settings.now.force c.args.settings.now.mailer) c.args.progress.now.faults.items c.look_all.new.faults.items _
     c.in_ok-looks.ensures.told c.plan_and_act.ensures.some
 
 pub returns-clause-counted : goal.returns-clause-counted
-returns-clause-counted g c = looked_counted c.plan_and_act.result c.args.progress.now.faults.items c.look_at_logs.new.faults.items c.plan_and_act.new.progress.faults.items _ _ _ c.in_ok-looks.ensures.counted c.plan_and_act.ensures.counted
+returns-clause-counted g c = looked_counted c.plan_and_act.result c.args.progress.now.faults.items c.look_all.new.faults.items c.plan_and_act.new.progress.faults.items _ _ _ c.in_ok-looks.ensures.counted c.plan_and_act.ensures.counted

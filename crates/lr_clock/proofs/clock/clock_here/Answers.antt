@@ -1,8 +1,8 @@
 use Rattle.std.proofs.Common.{IfOk, subst}
 use Rattle.std.specs.Prelude.{ℤ}
 use Rattle.lr_due.specs.Zone.{IsClockIn}
-use Rattle.lr_cli.proofs.Clocked.{own_seconds, text_stopped, clock_told, clock_stopped, has_clock, refused_fault}
-use Rattle.lr_cli.proofs.clock.clock_here.Goals as goal
+use Rattle.lr_clock.proofs.Clocked.{own_seconds, text_stopped, clock_told, clock_stopped, has_clock, refused_fault}
+use Rattle.lr_clock.proofs.clock.clock_here.Goals as goal
 
 pub returns-in-Ok-clause-told : goal.returns-in-Ok-clause-told
 returns-in-Ok-clause-told g c = clock_told c.args.zone.now c.args.seconds c.in-Ok.text c.clock_by.result _ _ c.requires c.in-Ok.ensures.told

@@ -1,5 +1,5 @@
-use Rattle.lr_cli.proofs.Zoned.{utc_shown, rule_shown, rule_stopped, file_stopped}
-use Rattle.lr_cli.proofs.zone.zone_text.Goals as goal
+use Rattle.lr_clock.proofs.Zoned.{utc_shown, rule_shown, rule_stopped, file_stopped}
+use Rattle.lr_clock.proofs.zone.zone_text.Goals as goal
 
 pub returns-in-Utc-clause-told : goal.returns-in-Utc-clause-told
 returns-in-Utc-clause-told g c = utc_shown c.args.zone.now _ c.in-Utc.is

@@ -16,10 +16,10 @@ use Rattle.lr_due.specs.declared.tz.Zone.{Zone}
 use Rattle.lr_due.specs.declared.tz.Zone.TheVariants.{Utc, Rule, File}
 use Rattle.lr_due.specs.declared.zone.ZoneText.{ZoneText}
 use Rattle.lr_due.specs.declared.zone.ZoneText.TheVariants as text
-use Rattle.lr_cli.specs.declared.clock.ClockStop.{ClockStop}
-use Rattle.lr_cli.specs.declared.clock.ClockStop.TheVariants as clock_stop
-use Rattle.lr_cli.specs.declared.zone.ZoneFileStop.{ZoneFileStop}
-use Rattle.lr_cli.specs.declared.zone.ZoneFileStop.TheVariants as stop
+use Rattle.lr_clock.specs.declared.clock.ClockStop.{ClockStop}
+use Rattle.lr_clock.specs.declared.clock.ClockStop.TheVariants as clock_stop
+use Rattle.lr_clock.specs.declared.zone.ZoneFileStop.{ZoneFileStop}
+use Rattle.lr_clock.specs.declared.zone.ZoneFileStop.TheVariants as stop
 
 -- nothing was seen, or something else than a regular file
 abbrev pub IsNotFile : Option Seen → Type 0

@@ -10,9 +10,9 @@ use Rattle.lr_host.specs.Counted.{NoneAround}
 use Rattle.lr_due.specs.declared.tz.Zone.{Zone}
 use Rattle.lr_due.specs.declared.zone.ZoneText.{ZoneText}
 use Rattle.lr_due.specs.Zone.{IsInRange, IsRefusedZone, IsClockIn}
-use Rattle.lr_cli.specs.declared.clock.ClockStop.{ClockStop}
-use Rattle.lr_cli.specs.declared.clock.ClockStop.TheVariants as stop
-use Rattle.lr_cli.specs.Zone.{ShowsZone, LacksText, LacksZoneMemory, IsTextOf, IsTextFault}
+use Rattle.lr_clock.specs.declared.clock.ClockStop.{ClockStop}
+use Rattle.lr_clock.specs.declared.clock.ClockStop.TheVariants as stop
+use Rattle.lr_clock.specs.Zone.{ShowsZone, LacksText, LacksZoneMemory, IsTextOf, IsTextFault}
 
 -- The clock at these seconds is that of the zone's text, which the entries show.
 pub record ShowsClock (zone : Zone) (seconds : ℤ) (clock : Clock) (ts : List Entry) : Type 0 where

@@ -5,9 +5,9 @@ ghost use Rattle.lr_rules.specs.declared.fault.Fault.TheVariants as fault;
 ghost use Rattle.lr_rules.specs.declared.fault.ZoneWhy.TheVariants as why;
 ghost use Rattle.lr_host.specs.Told.{Left, Onward};
 ghost use Rattle.lr_due.specs.Zone.{IsInRange, IsRefusedZone, IsTable, IsClockIn};
-ghost use Rattle.lr_cli.specs.declared.clock.ClockStop.TheVariants as stop;
-ghost use Rattle.lr_cli.specs.Faults.{AreReported};
-ghost use Rattle.lr_cli.specs.Clock.{ShowsClock, ClockStopped, HasClock, IsClockFault};
+ghost use Rattle.lr_clock.specs.declared.clock.ClockStop.TheVariants as stop;
+ghost use Rattle.lr_report.specs.Reported.{AreReported};
+ghost use Rattle.lr_clock.specs.Clock.{ShowsClock, ClockStopped, HasClock, IsClockFault};
 
 use crate::zone::zone_text;
 use lr_due::{Zone, ZoneStop, ZoneText, clock_of};

@@ -1,5 +1,5 @@
 -- What the calls of a run ask of rules.
-use Rattle.std.proofs.Common.{◌≡◌, true, List, [], ◌∷◌, All, arith, rules}
+use Rattle.std.proofs.Common.{◌≡◌, true, List, [], ◌∷◌, length, All, arith, rules}
 use Rattle.std.specs.List.{list_all}
 use Rattle.std.proofs.lemmas.Bool.{and_parts}
 use Rattle.std.proofs.lemmas.Bool.Decides.{nat_tests}
@@ -10,8 +10,10 @@ use Rattle.lr_rules.specs.declared.rule.Rule.{Rule}
 use Rattle.lr_rules.specs.Limits.{is_log_word, is_criterion, is_count, meets_limits}
 use Rattle.lr_chain.specs.Ready.{IsCount}
 use Rattle.lr_plan.specs.declared.looks.LogLook.{LogLook}
-use Rattle.lr_plan.specs.Planned.{CanPlan, CanPlanSet}
+use Rattle.lr_plan.specs.declared.looks.SetLooks.{SetLooks}
+use Rattle.lr_plan.specs.Planned.{CanPlan, CanPlanSet, CanPlanAll}
 use Rattle.lr_looks.specs.Asked.{CanAsk, CanAskAll}
+use Rattle.lr_looks.specs.Ready.{AreReady}
 
 -- its logs can be asked for
 pub asks_all : (rules : List Rule) → list_all meets_limits rules ≡ true → CanAskAll rules
@@ -28,7 +30,7 @@ small : (c : Count) → is_count c ≡ true → IsCount c
 small (count.Keep n) h = grind (arith, nat_tests)
 small count.Always h = tt
 
-pub small_count : (rule : Rule) → meets_limits rule ≡ true → IsCount rule.count
+small_count : (rule : Rule) → meets_limits rule ≡ true → IsCount rule.count
 small_count rule h =
     let behind_words = (and_parts (list_all is_log_word rule.words) _ h).1 in
     let behind_criterion = (and_parts (is_criterion rule.criterion) _ behind_words).1 in
@@ -37,3 +39,11 @@ small_count rule h =
 -- its logs can be planned for
 pub can_plan_set : (rule : Rule) (looks : List LogLook) → meets_limits rule ≡ true → All CanPlan looks → CanPlanSet rule looks
 can_plan_set rule looks limits each = record { count = small_count rule limits; each = each }
+
+pub can_plan : (rules : List Rule) (sets : List SetLooks) → list_all meets_limits rules ≡ true → AreReady sets → length sets ≡ length rules → CanPlanAll rules sets
+can_plan [] [] limits r e = record {}
+can_plan [] (s ∷ ss) limits r e = absurd (omega (arith, e))
+can_plan (x ∷ xs) [] limits r e = absurd (omega (arith, e))
+can_plan (x ∷ xs) (s ∷ ss) limits r e =
+    let both = and_parts (meets_limits x) (list_all meets_limits xs) limits in
+    (can_plan_set x s.logs both.0 r.0, can_plan xs ss both.1 r.1 (omega (arith, e)))

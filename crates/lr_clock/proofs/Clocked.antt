@@ -16,11 +16,11 @@ use Rattle.lr_due.specs.declared.tz.Zone.{Zone}
 use Rattle.lr_due.specs.declared.tz.Zone.TheVariants.{Utc, Rule, File}
 use Rattle.lr_due.specs.declared.zone.ZoneText.{ZoneText}
 use Rattle.lr_due.specs.Zone.{IsInRange, IsRefusedZone, IsTable, IsClockIn}
-use Rattle.lr_cli.specs.declared.clock.ClockStop.{ClockStop}
-use Rattle.lr_cli.specs.declared.clock.ClockStop.TheVariants as stop
-use Rattle.lr_cli.specs.Faults.{AreReported}
-use Rattle.lr_cli.specs.Clock.{ShowsClock, ClockStopped, out_of_range, no_text, refused, HasClock, IsClockFault, is_refused}
-use Rattle.lr_cli.specs.Zone.{ShowsZone, ZoneStopped, LacksZoneMemory, at_file, IsTextOf}
+use Rattle.lr_clock.specs.declared.clock.ClockStop.{ClockStop}
+use Rattle.lr_clock.specs.declared.clock.ClockStop.TheVariants as stop
+use Rattle.lr_report.specs.Reported.{AreReported}
+use Rattle.lr_clock.specs.Clock.{ShowsClock, ClockStopped, out_of_range, no_text, refused, HasClock, IsClockFault, is_refused}
+use Rattle.lr_clock.specs.Zone.{ShowsZone, ZoneStopped, LacksZoneMemory, at_file, IsTextOf}
 
 -- a number of the type is what its bits say
 pub own_seconds : (z : ℤ) → mag z < 2 ^ 63 → to_z w64 (of_z w64 z) ≡ z

@@ -6,16 +6,16 @@ ghost use Rattle.lr_host.specs.Told.{Left, Are, Can, Onward, Rose};
 ghost use Rattle.lr_host.specs.Looks.{Sees, IsFile};
 ghost use Rattle.lr_due.specs.declared.tz.Zone.TheVariants as asked;
 ghost use Rattle.lr_due.specs.declared.zone.ZoneText.TheVariants as text;
-ghost use Rattle.lr_cli.specs.declared.clock.ClockStop.TheVariants as clock_stop;
-ghost use Rattle.lr_cli.specs.declared.zone.ZoneFileStop.TheVariants as stop;
-ghost use Rattle.lr_cli.specs.Faults.{AreReported};
-ghost use Rattle.lr_cli.specs.Zone.{IsNotFile, GivesBytes, ReadStopped, FileStopped, ShowsZone, ZoneStopped, file_stop, IsTextOf, IsFileFault, IsTextFault};
+ghost use Rattle.lr_clock.specs.declared.clock.ClockStop.TheVariants as clock_stop;
+ghost use Rattle.lr_clock.specs.declared.zone.ZoneFileStop.TheVariants as stop;
+ghost use Rattle.lr_report.specs.Reported.{AreReported};
+ghost use Rattle.lr_clock.specs.Zone.{IsNotFile, GivesBytes, ReadStopped, FileStopped, ShowsZone, ZoneStopped, file_stop, IsTextOf, IsFileFault, IsTextFault};
 
 use crate::clock::ClockStop;
 use lr_due::{Zone, ZoneText};
 use lr_host::{CallFault, Host, Kind};
-use lr_include::{ReadStop, read_text};
 use lr_rules::{CallKind, Fault, Listed, Path, Text, ZoneWhy};
+use lr_visits::{ReadStop, read_text};
 use std::alloc::Global;
 
 // A file of more bytes is too big.

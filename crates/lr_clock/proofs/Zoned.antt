@@ -15,11 +15,11 @@ use Rattle.lr_due.specs.declared.tz.Zone.{Zone}
 use Rattle.lr_due.specs.declared.tz.Zone.TheVariants.{Utc, Rule, File}
 use Rattle.lr_due.specs.declared.zone.ZoneText.{ZoneText}
 use Rattle.lr_due.specs.declared.zone.ZoneText.TheVariants as text
-use Rattle.lr_cli.specs.declared.clock.ClockStop.{ClockStop}
-use Rattle.lr_cli.specs.declared.clock.ClockStop.TheVariants as clock_stop
-use Rattle.lr_cli.specs.declared.zone.ZoneFileStop.{ZoneFileStop}
-use Rattle.lr_cli.specs.declared.zone.ZoneFileStop.TheVariants as stop
-use Rattle.lr_cli.specs.Zone.{IsNotFile, GivesBytes, ReadStopped, FileStopped, ShowsZone, ZoneStopped, not_file, too_big, look_failed, read_failed, LacksZoneMemory, at_first, at_file, file_stop}
+use Rattle.lr_clock.specs.declared.clock.ClockStop.{ClockStop}
+use Rattle.lr_clock.specs.declared.clock.ClockStop.TheVariants as clock_stop
+use Rattle.lr_clock.specs.declared.zone.ZoneFileStop.{ZoneFileStop}
+use Rattle.lr_clock.specs.declared.zone.ZoneFileStop.TheVariants as stop
+use Rattle.lr_clock.specs.Zone.{IsNotFile, GivesBytes, ReadStopped, FileStopped, ShowsZone, ZoneStopped, not_file, too_big, look_failed, read_failed, LacksZoneMemory, at_first, at_file, file_stop}
 
 -- one look, and what it saw
 pub sees : (x : Path) (P : Option Seen → Type 0) (seen : Option Seen) {o n : Option Journal} → Left (λ ts. ts ≡ entry.Look x seen ∷ []) o n → P seen → Left (Sees x P) o n

@@ -1,10 +1,10 @@
 use Rattle.std.proofs.Common.{[], ◌∷◌, IfErr, subst}
 use Rattle.std.specs.Prelude.{ℤ}
 use Rattle.lr_host.specs.Told.{Left}
-use Rattle.lr_cli.specs.Clock.{ClockStopped, IsClockFault}
-use Rattle.lr_cli.specs.Faults.{AreReported}
-use Rattle.lr_cli.proofs.Clocked.{own_seconds, is_out, range_told}
-use Rattle.lr_cli.proofs.clock.clock_in.Goals as goal
+use Rattle.lr_clock.specs.Clock.{ClockStopped, IsClockFault}
+use Rattle.lr_report.specs.Reported.{AreReported}
+use Rattle.lr_clock.proofs.Clocked.{own_seconds, is_out, range_told}
+use Rattle.lr_clock.proofs.clock.clock_in.Goals as goal
 
 pub returns-then-not-is_in_range-clause-stopped : goal.returns-then-not-is_in_range-clause-stopped
 returns-then-not-is_in_range-clause-stopped g c = range_told c.args.zone.now c.args.seconds _ (is_out _ c.args.seconds c.is_in_range.result (own_seconds c.args.seconds c.ranges.seconds.sfits) c.is_in_range.ensures c.if-not-is_in_range.true)

@@ -1,6 +1,6 @@
 use Rattle.lr_due.specs.declared.tz.Zone.TheVariants.{File}
-use Rattle.lr_cli.proofs.Zoned.{memory_first, file_told}
-use Rattle.lr_cli.proofs.zone.told_text.Goals as goal
+use Rattle.lr_clock.proofs.Zoned.{memory_first, file_told}
+use Rattle.lr_clock.proofs.zone.told_text.Goals as goal
 
 pub returns-in_default-clause-stopped : goal.returns-in_default-clause-stopped
 returns-in_default-clause-stopped g c = memory_first (File c.args.path.now) _

@@ -1,0 +1,2 @@
+pub mod Clocked
+pub mod Zoned
