@@ -1,6 +1,7 @@
 -- The answers of a call of the program.
 use Rattle.std.proofs.Common.{◌≡◌, ◌≤◌, ◌⊎◌, inl, inr, arith, ℕ, List, [], ◌∷◌, ◌++◌, Option, Some, None, Result, Ok, Err, IfOk, OnOk, OnErr, refl, sym, ap, ◌∙◌, subst, false}
 use Rattle.std.specs.Prelude.{ℤ, Contains}
+use Rattle.std.proofs.lemmas.Option.{none-some}
 use Rattle.lr_rules.specs.declared.clock.Clock.{Clock}
 use Rattle.lr_rules.specs.declared.path.Path.{Path}
 use Rattle.lr_rules.specs.declared.fault.Fault.{Fault}
@@ -10,8 +11,9 @@ use Rattle.lr_host.specs.declared.journal.Journal.{Journal}
 use Rattle.lr_host.specs.declared.sink.SinkFault.{SinkFault}
 use Rattle.lr_host.specs.Quiet.{AreQuiet}
 use Rattle.lr_host.specs.Safe.{KeepsSafe}
-use Rattle.lr_host.specs.Told.{Counts, NoneFell, Left, Rose}
-use Rattle.lr_host.proofs.Left.{left_as, left_first, left_both, left_then}
+use Rattle.lr_host.specs.Opening.{IsJournal}
+use Rattle.lr_host.specs.Told.{Counts, NoneFell, Left, Rose, WhereTold}
+use Rattle.lr_host.proofs.Left.{left_as, left_first, left_then}
 use Rattle.lr_due.specs.declared.tz.Zone.{Zone}
 use Rattle.lr_host.specs.Counted.{AreCounted, IsAround, NoneAround}
 use Rattle.lr_laws_targets.proofs.Safety.{quiet_call_safe}
@@ -21,6 +23,7 @@ use Rattle.lr_plan.specs.declared.plan.Plan.{Plan}
 use Rattle.lr_report.specs.Lines.{lines}
 use Rattle.lr_report.specs.Puts.{Took, TookPart}
 use Rattle.lr_shown.specs.Puts.{Puts}
+use Rattle.lr_run.specs.Ran.{TellsNamesOf}
 use Rattle.lr_run.specs.declared.answer.RunStop.{RunStop}
 use Rattle.lr_run.specs.declared.answer.RunStop.TheVariants as stop
 use Rattle.lr_clock.specs.declared.clock.ClockStop.{ClockStop}
@@ -31,34 +34,23 @@ use Rattle.lr_report.specs.declared.outcome.Outcome.TheVariants.{Done, BadWords,
 use Rattle.lr_report.specs.declared.outcome.Report.{Report}
 use Rattle.lr_command.specs.declared.request.Request.{Request}
 use Rattle.lr_command.specs.Words.{asked}
-use Rattle.lr_cli.specs.Answer.{Answers, AnswersAt, no_clock, no_memory, called, Answered, not_read, read}
+use Rattle.lr_cli.specs.Called.{Came, CallEnds, CallShows, not_read, read}
 use Rattle.lr_clock.specs.Clock.{ShowsClock, ClockStopped, HasClock, IsClockFault, IsClocked, with_clock, without_clock}
 use Rattle.lr_report.specs.Reported.{IsOut, HasNoOut, AreReported}
 use Rattle.lr_cli.specs.Faults.{answer_of, clock_answer, HasCounted, HasFault}
 use Rattle.lr_cli.specs.Asked.{AskFor, planned_text}
-use Rattle.lr_cli.specs.Internal.{TurnsByClock, only_looked, ran}
+use Rattle.lr_cli.specs.Internal.{CameTo, TurnsByClock, only_looked, ran}
 use Rattle.lr_cli.specs.Safe.{HadClock, KeepsSafeByClock, no_clock as safe_without, by_clock}
 use Rattle.lr_report.specs.Outcome.{text_of}
 use Rattle.lr_cli.specs.Printed.{without_out, printed_of}
 use Rattle.lr_cli.specs.Says.{asked_text, Prints, Says}
 use Rattle.lr_cli.proofs.OutAside.{report_with}
-use Rattle.lr_clock.specs.Zone.{at_first}
 use Rattle.lr_cli.proofs.Reading.{no_out_among, run_behind}
-use Rattle.lr_cli.proofs.Still.{clock_quiet, stop_quiet}
-use Rattle.lr_cli.specs.Smooth.{TellsTaken}
+use Rattle.lr_cli.proofs.Reached.{left_before}
+use Rattle.lr_cli.proofs.Result.{came_so, came_whole, came_copied}
+use Rattle.lr_cli.proofs.Still.{clock_quiet, stop_quiet, same_request}
 
 -- ---- a run where there is no clock
-
-pub at_none : (request : Request) (zone : Zone) (seconds : ℤ) (o : Option Journal) → Left (AnswersAt request zone seconds None OutOfMemory) o o
-at_none request zone seconds o = left_first (AnswersAt request zone seconds None OutOfMemory) o (no_memory refl refl (at_first refl))
-
-stopped_at : (request : Request) (zone : Zone) (seconds : ℤ) (why : ClockStop) {o n : Option Journal} → Left (ClockStopped zone seconds why) o n → Left (AnswersAt request zone seconds None (clock_answer why)) o n
-stopped_at request zone seconds (clock_stop.Fault f) l = left_as l (λ ts h. no_clock f refl refl h)
-stopped_at request zone seconds clock_stop.Memory l = left_as l (λ ts h. no_memory refl refl h)
-
-pub at_stop : (request : Request) (zone : Zone) (s seconds : ℤ) (why : ClockStop) (plan : Option Plan) (outcome : Outcome) {o n : Option Journal} → s ≡ seconds → plan ≡ None → outcome ≡ clock_answer why → Left (ClockStopped zone s why) o n → Left (AnswersAt request zone seconds plan outcome) o n
-at_stop request zone s seconds why plan outcome {o = o} {n = n} same none is l =
-    subst (λ (a : Outcome). Left (AnswersAt request zone seconds plan a) o n) (sym is) (subst (λ (p : Option Plan). Left (AnswersAt request zone seconds p (clock_answer why)) o n) (sym none) (stopped_at request zone seconds why (subst (λ (z : ℤ). Left (ClockStopped zone z why) o n) same l)))
 
 pub stop_shape : (zone : Zone) (s seconds : ℤ) (why : ClockStop) {o n : Option Journal} → Left (ClockStopped zone s why) o n → TurnsByClock zone seconds o n
 stop_shape zone s seconds why l = only_looked (left_as l (λ ts h. stop_quiet zone s why ts h))
@@ -82,9 +74,6 @@ stop_clocked zone s seconds (Ok told) c clock_stop.Memory Y same e is h = absurd
 stop_clocked zone s seconds (Err w) c why Y same e is h = tt
 
 -- ---- a run at a clock
-
-pub at_clock : (request : Request) (zone : Zone) (s seconds : ℤ) (clock : Clock) (plan : Option Plan) (outcome : Outcome) {o m n : Option Journal} → s ≡ seconds → Left (ShowsClock zone s clock) o m → Left (Answers request clock plan outcome) m n → Left (AnswersAt request zone seconds plan outcome) o n
-at_clock request zone s seconds clock plan outcome {o = o} {m = m} same a b = left_as (left_both (subst (λ (z : ℤ). Left (ShowsClock zone z clock) o m) same a) b) (λ ts t. called clock t)
 
 pub clock_shape : (zone : Zone) (s seconds : ℤ) (clock : Clock) {o m n : Option Journal} → s ≡ seconds → Left (ShowsClock zone s clock) o m → Left (IsWholeRunBy clock) m n → TurnsByClock zone seconds o n
 clock_shape zone s seconds clock same a b = ran clock
@@ -128,14 +117,6 @@ pub turns_safe : (zone : Zone) (s seconds : ℤ) {o n : Option Journal} → s �
 turns_safe zone s seconds same (only_looked l) = safe_without (quiet_keeps l)
 turns_safe zone s seconds {o = o} {n = n} same (ran clock had run) = by_clock clock (subst (λ (z : ℤ). HadClock zone z clock o n) same had) (all_safe clock o n run)
 
--- a call that called nothing
-pub nothing_called : (here : Path) (words : List (List ℕ)) (zone : Zone) (seconds : ℤ) (a o : Outcome) (j : Option Journal) → a ≡ o → (o ≡ BadWords) ⊎ (o ≡ OutOfMemory) → Left (Answered here words zone seconds None a) j j
-nothing_called here words zone seconds a o j same which = left_first (Answered here words zone seconds None a) j (not_read refl (subst (λ (r : Outcome). (r ≡ BadWords) ⊎ (r ≡ OutOfMemory)) (sym same) which) refl)
-
-pub answered : (here : Path) (words : List (List ℕ)) (zone : Zone) (s seconds : ℤ) (request : Request) (plan : Option Plan) (a o : Outcome) (j k : Option Journal) → s ≡ seconds → a ≡ o → AskFor here words request → Left (AnswersAt request zone s plan o) j k → Left (Answered here words zone seconds plan a) j k
-answered here words zone s seconds request plan a o j k at same w l =
-    subst (λ (z : ℤ). Left (Answered here words zone z plan a) j k) at (subst (λ (r : Outcome). Left (Answered here words zone s plan r) j k) (sym same) (left_as l (λ ts h. read request w h)))
-
 -- ---- what is printed
 
 -- no plan has no text
@@ -157,25 +138,48 @@ line_prints OutOfMemory x y low high i p w = record { printed = p; whole = w; br
 pub prints_line : (front : List ℕ) (o a : Outcome) (x y : Option (List ℕ)) (low high : ℕ) → IsLine o → front ≡ [] → a ≡ o → TookPart (text_of o) x y → Took (text_of o) x y ⊎ Rose low high → Prints (printed_of front a) a x y low high
 prints_line front o a x y low high i f e p w = subst (λ (b : Outcome). Prints (printed_of front b) b x y low high) (sym e) (subst (λ (t : List ℕ). Prints (printed_of t o) o x y low high) (sym f) (line_prints o x y low high i p w))
 
--- words that ask for nothing, or there was no memory for what they ask for
-pub says_nothing : (here : Path) (words : List (List ℕ)) (zone : Zone) (seconds : ℤ) (a o : Outcome) (j : Option Journal) (x y : Option (List ℕ)) (low high : ℕ) → a ≡ o → (o ≡ BadWords) ⊎ (o ≡ OutOfMemory) → IsLine o → without_out a ≡ without_out o → without_out o ≡ o → TookPart (text_of o) x y → Took (text_of o) x y ⊎ Rose low high
-    → Says here words zone seconds a j j x y low high
-says_nothing here words zone seconds a o j x y low high same which i w v p t = record {
-  plan = None;
-  shown = nothing_called here words zone seconds (without_out a) o j (w ∙ v) which;
-  prints = prints_line (asked_text (asked here words) None) o a x y low high i (none_asked (asked here words)) same p t;
-  taken = λ request report asks acts done p some. absurd (cc);
-}
+-- ---- all that is told of a call
 
--- a request's
-pub says_so : (here : Path) (words : List (List ℕ)) (zone : Zone) (seconds : ℤ) (request : Request) (plan : Option Plan) (a : Outcome) (j k : Option Journal) (x y : Option (List ℕ)) (low high : ℕ) → AskFor here words request → Left (Answered here words zone seconds plan (without_out a)) j k → Prints (printed_of (planned_text request plan) a) a x y low high
-    → ((other : Request) (report : Report) → AskFor here words other → other.settings.debug ≡ false → without_out a ≡ Done report → TellsTaken other.settings.state plan report.faults j k) → Says here words zone seconds a j k x y low high
-says_so here words zone seconds request plan a j k x y low high w l p t = record {
-  plan = plan;
-  shown = l;
-  prints = subst (λ (r : Option Request). Prints (printed_of (asked_text r plan) a) a x y low high) (sym w) p;
-  taken = t;
+-- words that ask for nothing, or there was no memory for what they ask for
+pub says_nothing : (here : Path) (words : List (List ℕ)) (zone : Zone) (seconds : ℤ) (a o : Outcome) (j : Option Journal) (counted counts : Counts) (x y : Option (List ℕ)) (low high : ℕ) → WhereTold j IsJournal → a ≡ o → (o ≡ BadWords) ⊎ (o ≡ OutOfMemory) → IsLine o → without_out a ≡ without_out o → without_out o ≡ o
+    → TookPart (text_of o) x y → Took (text_of o) x y ⊎ Rose low high → Says here words zone seconds a j j counted counts x y low high
+says_nothing here words zone seconds a o j counted counts x y low high disk same which i w v p t = record {
+  came = None;
+  plan = None;
+  shown = shown;
+  called = λ request c before after asks some told later. absurd (none-some c some);
+  ended = left_before here words zone seconds None (without_out a) None shown;
+  state = came_whole here words zone seconds None (without_out a) None shown;
+  copied = came_copied here words zone seconds None (without_out a) None disk shown;
+  prints = prints_line (asked_text (asked here words) None) o a x y low high i (none_asked (asked here words)) same p t;
 }
+  where
+    shown : Left (CallShows here words zone seconds None (without_out a) None) j j
+    shown = left_first (CallShows here words zone seconds None (without_out a) None) j (not_read refl refl (subst (λ (r : Outcome). (r ≡ BadWords) ⊎ (r ≡ OutOfMemory)) (sym (w ∙ v)) which) refl)
+
+-- a request's, by what the run at its clock came to
+pub says_so : (here : Path) (words : List (List ℕ)) (zone : Zone) (s seconds : ℤ) (request : Request) (plan : Option Plan) (a o : Outcome) (j k : Option Journal) (counted counts : Counts) (x y : Option (List ℕ)) (low high : ℕ) → WhereTold j IsJournal → s ≡ seconds → without_out a ≡ o → AskFor here words request
+    → CameTo (CallEnds request zone s plan o) request o j k → HasCounted (without_out a) counted counts → Prints (printed_of (planned_text request plan) a) a x y low high → Says here words zone seconds a j k counted counts x y low high
+says_so here words zone s seconds request plan a o j k counted counts x y low high disk at same asks h are p = record {
+  came = h.came;
+  plan = plan;
+  shown = shown;
+  called = came_so here words zone seconds plan (without_out a) h.came counted counts disk shown are
+      (λ other c report others some done acts. names_of (same_request here words request other asks others) c report some (sym same ∙ done) acts);
+  ended = left_before here words zone seconds plan (without_out a) h.came shown;
+  state = came_whole here words zone seconds plan (without_out a) h.came shown;
+  copied = came_copied here words zone seconds plan (without_out a) h.came disk shown;
+  prints = subst (λ (r : Option Request). Prints (printed_of (asked_text r plan) a) a x y low high) (sym asks) p;
+}
+  where
+    ends : Left (CallEnds request zone seconds plan (without_out a) h.came) j k
+    ends = subst (λ (r : Outcome). Left (CallEnds request zone seconds plan r h.came) j k) (sym same) (subst (λ (z : ℤ). Left (CallEnds request zone z plan o h.came) j k) at h.shows)
+
+    shown : Left (CallShows here words zone seconds plan (without_out a) h.came) j k
+    shown = left_as ends (λ ts e. read request asks e)
+
+    names_of : {other : Request} → request ≡ other → (c : Came) (report : Report) → h.came ≡ Some c → o ≡ Done report → other.settings.debug ≡ false → TellsNamesOf other.settings.state c.clock c.work j k
+    names_of e c report some done acts = subst (λ (r : Request). TellsNamesOf r.settings.state c.clock c.work j k) e (h.names c report some done (ap (λ (r : Request). r.settings.debug) e ∙ acts))
 
 -- what was put of a report
 pub report_prints : (put : Result (Unit {0}) SinkFault) (front : List ℕ) (ns : List Notice) (fs : List Fault) (o : Outcome) (x y : Option (List ℕ)) (low high : ℕ) → Puts (front ++ lines ns fs) put x y low high → without_out o ≡ report_with ns fs → OnErr put (HasFault o fault.Out) → Prints (printed_of front o) o x y low high

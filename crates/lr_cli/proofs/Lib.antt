@@ -1,11 +1,7 @@
-pub mod Called
-mod Copied
-mod Fulfilling
 pub mod OutAside
-pub mod Reached
 pub mod Reading
-pub mod Rotating
-pub mod Smooth
+pub mod Came
 pub mod Still
-mod Tried
-mod Whole
+pub mod Reached
+pub mod Result
+pub mod Called

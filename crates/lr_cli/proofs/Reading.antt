@@ -1,5 +1,5 @@
 -- What the reading of a configuration and the run behind it leave together.
-use Rattle.std.proofs.Common.{◌≡◌, ◌≤◌, ◌+◌, ⊎_elim, List, [], ◌∷◌, ◌++◌, Option, None, All, Contains, Err, refl, sym, ap, ◌∙◌, subst, append_assoc, arith}
+use Rattle.std.proofs.Common.{◌≡◌, ◌≤◌, ◌+◌, ⊎_elim, List, [], ◌∷◌, ◌++◌, Option, All, Contains, refl, sym, ap, ◌∙◌, subst, append_assoc, arith}
 use Rattle.std.specs.List.{AllByRecursion as Every}
 use Rattle.std.proofs.lemmas.List.Elements.{recursion_from_All, Contains-append_cases}
 use Rattle.lr_rules.specs.declared.path.Path.{Path}
@@ -10,65 +10,20 @@ use Rattle.lr_rules.specs.declared.fault.Fault.TheVariants as fault
 use Rattle.lr_host.specs.declared.entry.Entry.{Entry}
 use Rattle.lr_host.specs.declared.journal.Journal.{Journal}
 use Rattle.lr_host.specs.Told.{Counts, NoneFell, Left}
-use Rattle.lr_host.proofs.Left.{left_as, left_both, left_then}
+use Rattle.lr_host.proofs.Left.{left_as, left_then}
 use Rattle.lr_conf.specs.Meaning.{Meaning}
 use Rattle.lr_host.specs.Quiet.{AreQuiet}
 use Rattle.lr_host.proofs.Quiet.{quiet_both}
 use Rattle.lr_host.specs.Counted.{calls_in, scripts_in, NoneAround, RoseBy, AreCounted, AddsFaults}
 use Rattle.lr_host.proofs.Counts.{counted_on}
-use Rattle.lr_include.specs.declared.reading.Reading.{Reading}
-use Rattle.lr_include.specs.Readers.{meaning_of, IsConfOrCall}
+use Rattle.lr_include.specs.Readers.{IsConfOrCall}
 use Rattle.lr_include.specs.Stages.{Reads}
 use Rattle.lr_include.specs.Lacking.{LacksReading}
 use Rattle.lr_include.proofs.AllQuiet.{reads_quiet as confs_quiet, lacking_quiet}
 use Rattle.lr_laws_targets.specs.Runs.{IsWholeRunBy}
 use Rattle.lr_laws_targets.proofs.Shapes.{quiet_run_by}
-use Rattle.lr_plan.specs.Asked.{asking}
-use Rattle.lr_plan.specs.declared.plan.Plan.{Plan}
-use Rattle.lr_run.specs.Answers.{Leaves, Holds, Lacks, Answers as RunAnswers}
-use Rattle.lr_run.specs.declared.answer.RunStop.{RunStop}
-use Rattle.lr_run.specs.declared.answer.RunStop.TheVariants as stop
-use Rattle.lr_command.specs.declared.request.Request.{Request}
 use Rattle.lr_report.specs.Reported.{IsOut, HasNoOut}
-use Rattle.lr_cli.specs.Faults.{answer_of}
 use Rattle.lr_cli.proofs.OutAside.{Contains-only}
-use Rattle.lr_report.specs.declared.outcome.Outcome.TheVariants.{OutOfMemory}
-use Rattle.lr_cli.specs.Answer.{Answers, Reports, FindsLock, LacksMemory, at_confs, at_run}
-
--- ---- what was left
-
--- the report of a reading and of the run behind it
-pub reports : (request : Request) (clock : Clock) (plan : Option Plan) (r : Reading) (earlier faults : List Fault) {o m n : Option Journal} → earlier ≡ r.faults
-    → Left (Reads request.confs (meaning_of r)) o m → Left (λ ts. (own : List Fault) × (faults ≡ earlier ++ own) × Leaves request.settings.debug request.settings.state (asking request.settings.force request.settings.mailer) clock r.rules plan own ts) m n → Left (Reports request clock plan r.notices faults) o n
-reports request clock plan r earlier faults e a b = left_as (left_both a b) (λ ts t. record {
-  meaning = meaning_of r;
-  rules = r.rules;
-  own = t.second.0;
-  rules_are = refl;
-  notices_are = refl;
-  faults_are = t.second.1 ∙ ap (λ fs. fs ++ t.second.0) e;
-  entries = record { front = t.front; back = t.back; joined = t.joined; first = t.first; second = t.second.2 };
-})
-
-finds_lock : (request : Request) (r : Reading) {o m n : Option Journal} → Left (Reads request.confs (meaning_of r)) o m → Left (Holds request.settings.debug request.settings.state) m n → Left (FindsLock request) o n
-finds_lock request r a b = left_as (left_both a b) (λ ts t. record {
-  meaning = meaning_of r;
-  entries = record { front = t.front; back = t.back; joined = t.joined; first = t.first; second = t.second };
-})
-
-pub lacks_at_confs : (request : Request) (clock : Clock) (confs : List Path) {o n : Option Journal} → confs ≡ request.confs → Left (LacksReading confs) o n → Left (Answers request clock None OutOfMemory) o n
-lacks_at_confs request clock confs e l = left_as l (λ ts h. (refl, at_confs (subst (λ (ps : List Path). LacksReading ps ts) e h)))
-
-lacks_at_run : (request : Request) (clock : Clock) (r : Reading) {o m n : Option Journal}
-    → Left (Reads request.confs (meaning_of r)) o m → Left (Lacks request.settings.debug request.settings.state (asking request.settings.force request.settings.mailer) clock r.rules) m n → Left (LacksMemory request clock) o n
-lacks_at_run request clock r a b = left_as (left_both a b) (λ ts t.
-    at_run (meaning_of r) r.rules refl (record { front = t.front; back = t.back; joined = t.joined; first = t.first; second = t.second }))
-
--- what a run that stopped left
-pub stopped : (request : Request) (clock : Clock) (r : Reading) (earlier : List Fault) (s : RunStop) {o m n : Option Journal}
-    → Left (Reads request.confs (meaning_of r)) o m → Left (RunAnswers request.settings.state request.settings.debug (asking request.settings.force request.settings.mailer) clock r.rules earlier (Err s)) m n → Left (Answers request clock None (answer_of (Err s))) o n
-stopped request clock r earlier stop.Held a b = left_as (finds_lock request r a b) (λ ts h. (refl, h))
-stopped request clock r earlier stop.Memory a b = left_as (lacks_at_run request clock r a b) (λ ts h. (refl, h))
 
 -- ---- the faults, and the counts
 

@@ -1,19 +1,14 @@
 -- The faults of a call's answer.
-use Rattle.std.specs.Prelude.{◌≡◌, Contains, List, [], ◌∷◌, Option, None, Result, Ok, Err}
+use Rattle.std.specs.Prelude.{Contains, [], ◌∷◌, Option, None, Result, Ok, Err}
 use Rattle.lr_rules.specs.declared.fault.Fault.{Fault}
-use Rattle.lr_rules.specs.declared.fault.Fault.TheVariants as fault
-use Rattle.lr_rules.specs.declared.path.Path.{Path}
 use Rattle.lr_plan.specs.declared.plan.Plan.{Plan}
 use Rattle.lr_host.specs.Told.{Counts}
-use Rattle.lr_host.specs.Counted.{calls_in, scripts_in}
-use Rattle.lr_report.specs.Reported.{AreReported}
 use Rattle.lr_run.specs.declared.answer.RunStop.{RunStop}
 use Rattle.lr_run.specs.declared.answer.RunStop.TheVariants as stop
-use Rattle.lr_run.specs.Copied.{NoneOfCopy}
-use Rattle.lr_reached.specs.Ending.{NoneEnds}
 use Rattle.lr_clock.specs.declared.clock.ClockStop.{ClockStop}
 use Rattle.lr_clock.specs.declared.clock.ClockStop.TheVariants as clock_stop
 use Rattle.lr_report.specs.declared.outcome.Outcome.{Outcome}
+use Rattle.lr_report.specs.Reported.{AreReported}
 use Rattle.lr_report.specs.declared.outcome.Outcome.TheVariants.{Done, Held, OutOfMemory}
 use Rattle.lr_cli.specs.declared.told.Told.{Told}
 
@@ -42,10 +37,3 @@ HasFault _ f = ⊥
 abbrev pub HasCounted : Outcome → Counts → Counts → Type 0
 HasCounted (Done report) counted counts = AreReported report.faults counted counts
 HasCounted _ counted counts = Unit {0}
-
--- None of the faults ends a run, and none tells of a call that failed, of a program that ended badly, or of a copy that broke off. What they may tell of the acts is that something else stood where a directory was to be made, or at the path that a new state is first written to.
-pub record StopNothing (state : Path) (faults : List Fault) : Type 0 where
-  pub none_ends : NoneEnds state faults
-  pub no_call : calls_in faults ≡ 0
-  pub no_script : scripts_in faults ≡ 0
-  pub no_copy : NoneOfCopy faults

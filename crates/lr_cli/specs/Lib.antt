@@ -1,14 +1,9 @@
-pub mod Answer
 pub mod Asked
-pub mod Copied
+pub mod Before
+pub mod Called
 pub mod Faults
-pub mod Fulfilled
 pub mod Internal
 pub mod Printed
-pub mod Reached
-pub mod Rotated
+pub mod Result
 pub mod Safe
 pub mod Says
-pub mod Smooth
-pub mod State
-pub mod Still

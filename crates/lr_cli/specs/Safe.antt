@@ -1,14 +1,18 @@
 -- The promise of a call for sets that aren't ahead of its clock.
-use Rattle.std.specs.Prelude.{ℤ, Option}
+use Rattle.std.specs.Prelude.{ℤ, List, Option}
 use Rattle.lr_rules.specs.declared.clock.Clock.{Clock}
 use Rattle.lr_due.specs.declared.tz.Zone.{Zone}
+use Rattle.lr_host.specs.declared.entry.Entry.{Entry}
 use Rattle.lr_host.specs.declared.journal.Journal.{Journal}
 use Rattle.lr_host.specs.Safe.{KeepsSafe}
 use Rattle.lr_host.specs.Told.{Left, Then}
 use Rattle.lr_laws.specs.Forward.{IsForwardFor}
 use Rattle.lr_laws.specs.Stays.{KeepsSafeWhere}
 use Rattle.lr_clock.specs.Clock.{ShowsClock}
-use Rattle.lr_cli.specs.Copied.{Whatever}
+
+-- what was done behind the clock is left open
+abbrev pub Whatever : List Entry → Type 0
+Whatever ts = Unit {0}
 
 -- the first entries show this clock of the zone at these seconds
 abbrev pub HadClock : Zone → ℤ → Clock → Option Journal → Option Journal → Type 0

@@ -1,9 +1,8 @@
 // What a run prints, and the report that it answers.
-ghost use Rattle.std.specs.Prelude.{◌≡◌, ◌≤◌, ◌<◌, ◌+◌, ◌++◌, ◌⊎◌, ◌||◌, [], Contains, IfOk, OnErr, OnOk, vec_len, vec_capacity, if◌then◌else◌};
+ghost use Rattle.std.specs.Prelude.{◌≡◌, ◌≤◌, ◌<◌, ◌+◌, ◌++◌, ◌||◌, [], Contains, IfOk, OnErr, OnOk, vec_len, vec_capacity, if◌then◌else◌};
 ghost use Rattle.lr_rules.specs.declared.fault.Fault.TheVariants as fault;
 ghost use Rattle.lr_host.specs.Told.{Rose};
 ghost use Rattle.lr_report.specs.Lines.{lines};
-ghost use Rattle.lr_report.specs.Puts.{Took, TookPart};
 ghost use Rattle.lr_shown.specs.Lines.{plan_text};
 ghost use Rattle.lr_shown.specs.Puts.{Puts};
 ghost use Rattle.lr_report.specs.declared.outcome.Report.{Report};

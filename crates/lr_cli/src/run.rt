@@ -1,16 +1,14 @@
 // One run over the configuration of some paths.
-ghost use Rattle.std.specs.Prelude.{◌≡◌, ◌≤◌, ◌+◌, [], None, false, Err, IfOk, vec_len, vec_capacity};
+ghost use Rattle.std.specs.Prelude.{◌≡◌, ◌≤◌, ◌+◌, [], None, Err, IfOk, vec_len, vec_capacity};
 ghost use Rattle.lr_host.specs.Opening.{IsJournal};
 ghost use Rattle.lr_host.specs.Told.{Left, Onward, Rose, WhereTold};
 ghost use Rattle.lr_host.specs.Counted.{AreCounted};
 ghost use Rattle.lr_laws_targets.specs.Runs.{IsWholeRunBy};
-ghost use Rattle.lr_run.specs.Anew.{NamesAnew};
-ghost use Rattle.lr_cli.specs.Internal.{TurnsByClock};
-ghost use Rattle.lr_cli.specs.Answer.{Answers, AnswersAt};
+ghost use Rattle.lr_cli.specs.Called.{CallEnds};
 ghost use Rattle.lr_clock.specs.Clock.{IsClocked};
 ghost use Rattle.lr_report.specs.Reported.{AreReported};
 ghost use Rattle.lr_cli.specs.Faults.{answer_of, clock_answer, plan_told};
-ghost use Rattle.lr_cli.specs.Smooth.{TellsTaken};
+ghost use Rattle.lr_cli.specs.Internal.{CameTo, ConfsEnd, TurnsByClock};
 
 use crate::told::Told;
 use lr_clock::{ClockStop, clock_in};
@@ -31,10 +29,8 @@ pub fn run_confs<H: Host>(
     clock: &Clock,
 ) -> Result<Told, RunStop>
     requires disk { WhereTold (H.told host.old) IsJournal }
-    ensures told { Left (Answers request.now clock.entry.now (plan_told result) (answer_of result)) (H.told host.old) (H.told host.new) }
+    ensures told { CameTo (ConfsEnd request.now clock.entry.now (plan_told result) (answer_of result)) request.now (answer_of result) (H.told host.old) (H.told host.new) }
     ensures shape { Left (IsWholeRunBy clock.entry.now) (H.told host.old) (H.told host.new) }
-    ensures taken { request.now.settings.debug ≡ false → IfOk result (λ told. TellsTaken request.now.settings.state told.plan told.faults.items (H.told host.old) (H.told host.new)) }
-    ensures anew { request.now.settings.debug ≡ false → IfOk result (λ told. NamesAnew told.plan told.faults.items (H.told host.new)) }
     ensures counted { IfOk result (λ told. AreCounted told.faults.items (H.counts host.old) (H.counts host.new)) }
     ensures room { IfOk result (λ told. vec_len told.faults + 1 ≤ vec_capacity told.faults) }
     ensures held { result ≡ Err RunStop.Held → Rose (H.counts host.old).held (H.counts host.new).held }
@@ -96,11 +92,9 @@ pub fn run_at<H: Host>(
     seconds: i64,
 ) -> Result<Told, RunStop>
     requires disk { WhereTold (H.told host.old) IsJournal }
-    ensures told { Left (AnswersAt request.now zone.now seconds (plan_told result) (answer_of result)) (H.told host.old) (H.told host.new) }
+    ensures told { CameTo (CallEnds request.now zone.now seconds (plan_told result) (answer_of result)) request.now (answer_of result) (H.told host.old) (H.told host.new) }
     ensures clock { IfOk result (λ told. IsClocked zone.now seconds told.notices told.faults.items) }
     ensures shape { TurnsByClock zone.now seconds (H.told host.old) (H.told host.new) }
-    ensures taken { request.now.settings.debug ≡ false → IfOk result (λ told. TellsTaken request.now.settings.state told.plan told.faults.items (H.told host.old) (H.told host.new)) }
-    ensures anew { request.now.settings.debug ≡ false → IfOk result (λ told. NamesAnew told.plan told.faults.items (H.told host.new)) }
     ensures counted { IfOk result (λ told. AreReported told.faults.items (H.counts host.old) (H.counts host.new)) }
     ensures room { IfOk result (λ told. vec_len told.faults + 1 ≤ vec_capacity told.faults) }
     ensures held { result ≡ Err RunStop.Held → Rose (H.counts host.old).held (H.counts host.new).held }

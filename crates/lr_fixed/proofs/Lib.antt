@@ -1,6 +1,7 @@
 mod Rising
 mod Peeled
 mod Called
+mod Answer
 mod Members
 mod Parts
 mod Listings
@@ -18,15 +19,9 @@ mod Writing
 mod Keys
 mod PlanKeys
 mod Ends
-mod CountedListings
-mod Moves
-mod StateListsNone
+mod Makes
+mod StateEndsNone
 mod Agreeing
 mod Works
 mod Run
 mod Reports
-mod LooksListNone
-mod WordsListOnce
-mod FamiliesListOnce
-mod RunListsOnce
-mod LeftAlone

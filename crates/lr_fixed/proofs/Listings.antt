@@ -1,5 +1,5 @@
 -- The looks at one directory show one listing alone; and listings that two runs of looks know alike.
-use Rattle.std.proofs.Common.{◌≡◌, ℕ, zero, suc, Bool, true, false, inl, inr, ◌⊎◌, ⊎_elim, List, [], ◌∷◌, ◌++◌, length, Some, slice_get, refl, sym, ap, ◌∙◌, subst, append_assoc}
+use Rattle.std.proofs.Common.{◌≡◌, ℕ, Bool, true, false, inl, inr, ◌⊎◌, ⊎_elim, List, [], ◌∷◌, ◌++◌, Some, slice_get, refl, sym, ap, ◌∙◌, subst, append_assoc}
 use Rattle.std.specs.List.Sorted.{IsPermutation}
 use Rattle.std.proofs.lemmas.List.Sorted.{IsPermutation-refl, IsPermutation-sym, IsPermutation-trans}
 use Rattle.lr_rules.specs.declared.path.Path.{Path}
@@ -12,6 +12,7 @@ use Rattle.lr_family.specs.declared.listing.Listing.{Listing}
 use Rattle.lr_family.specs.Listed.{ShowsListing, ShowsNoDir}
 use Rattle.lr_kept.proofs.Elements.{read_push_cases}
 use Rattle.lr_looks.specs.Families.{WasListed, WasNotListed}
+use Rattle.lr_fulfilled.proofs.FamiliesListOnce.{listed_last, listed_more}
 use Rattle.lr_fixed.proofs.Peeled.{front_same, then_same, joined_same, names_same, OneLook, one_look, dir_or_not, dir_or_nothing, not_or_nothing}
 
 -- ---- one directory
@@ -105,26 +106,6 @@ none_listed dir l w = absurd (cc w.there)
 -- none are known in both
 pub none_alike : KnownAlike [] []
 none_alike = record { forth = λ dir l w. absurd (none_listed dir l w); back = λ dir l w. absurd (none_listed dir l w); same = λ dir l m w v. absurd (none_listed dir l w) }
-
--- the last of a list that it was added to
-read_last : (xs : List Listing) (y : Listing) → slice_get (xs ++ y ∷ []) (length xs) ≡ Some y
-read_last [] y = refl
-read_last (x ∷ xs) y = read_last xs y
-
--- what stood in it before
-read_before : (xs : List Listing) (y x : Listing) (k : ℕ) → slice_get xs k ≡ Some x → slice_get (xs ++ y ∷ []) k ≡ Some x
-read_before [] y x zero h = absurd (cc h)
-read_before [] y x (suc k) h = absurd (cc h)
-read_before (z ∷ xs) y x zero h = h
-read_before (z ∷ xs) y x (suc k) h = read_before xs y x k h
-
--- a directory whose listing comes is listed
-pub listed_last : (known : List Listing) (l : Listing) (dir : Path) → l.dir ≡ dir → WasListed (known ++ l ∷ []) dir l
-listed_last known l dir e = record { place = length known; there = read_last known l; same = e }
-
--- one that was listed still is
-pub listed_more : (known : List Listing) (l x : Listing) (dir : Path) → WasListed known dir x → WasListed (known ++ l ∷ []) dir x
-listed_more known l x dir w = record { place = w.place; there = read_before known l x w.place w.there; same = w.same }
 
 -- one that is listed was so before, or its listing has just come
 listed_cases : (known : List Listing) (l x : Listing) (dir : Path) → WasListed (known ++ l ∷ []) dir x → WasListed known dir x ⊎ ((x ≡ l) × (l.dir ≡ dir))

@@ -33,7 +33,8 @@ use Rattle.lr_run.specs.Runs.{Runs, no_directory, not_seen, not_begun, began}
 use Rattle.lr_report.specs.declared.outcome.Outcome.TheVariants.{Done}
 use Rattle.lr_report.specs.declared.outcome.Report.{Report}
 use Rattle.lr_command.specs.declared.request.Request.{Request}
-use Rattle.lr_cli.specs.Answer.{Reports, AnswersAt, no_clock, no_memory, called, Answered, not_read, read}
+use Rattle.lr_cli.specs.Called.{Came, CallShows}
+use Rattle.lr_fixed.proofs.Answer.{Reports, AnswersAt, no_clock, no_memory, called, Answered, not_read, read, shown_answers}
 use Rattle.lr_clock.specs.Clock.{ShowsClock, LacksClock, out_of_range, no_text, refused}
 use Rattle.lr_cli.specs.Asked.{AskFor}
 use Rattle.lr_clock.specs.Zone.{IsNotFile, ShowsZone, GivesBytes, LacksText, not_file, too_big, look_failed, read_failed}
@@ -258,3 +259,8 @@ answers_one here words request zone seconds plan another one other ts asks dry (
 answers_one here words request zone seconds plan another one other ts asks dry (read r w h) (not_read gone (inr e) none) c d = absurd (cc)
 answers_one here words request zone seconds plan another one other ts asks dry (read r w h) (read s v g) c d = at_one request dry zone seconds plan another one other ts
     (subst (λ (x : Request). AnswersAt x zone seconds plan (Done one) ts) (same_Some r request (sym w ∙ asks)) h) (subst (λ (x : Request). AnswersAt x zone seconds another (Done other) ts) (same_Some s request (sym v ∙ asks)) g) c d
+
+-- by what the calls came to
+pub reports_one : (here : Path) (words : List (List ℕ)) (request : Request) (zone : Zone) (seconds : ℤ) (plan another : Option Plan) (came others : Option Came) (one other : Report) (ts : List Entry) → AskFor here words request → request.settings.debug ≡ false
+    → CallShows here words zone seconds plan (Done one) came ts → CallShows here words zone seconds another (Done other) others ts → calls_in one.faults ≡ 0 → calls_in other.faults ≡ 0 → (one.notices ≡ other.notices) × (one.faults ≡ other.faults)
+reports_one here words request zone seconds plan another came others one other ts asks dry a b c d = answers_one here words request zone seconds plan another one other ts asks dry (shown_answers here words zone seconds plan one came ts a) (shown_answers here words zone seconds another other others ts b) c d

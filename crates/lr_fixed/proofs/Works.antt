@@ -32,9 +32,9 @@ use Rattle.lr_fixed.proofs.Agreeing.{acts_agree}
 use Rattle.lr_fixed.proofs.Called.{one_uncalled}
 use Rattle.lr_fixed.proofs.Keys.{shown, Agree}
 use Rattle.lr_fixed.proofs.LookedOne.{looks_are, acts_are, plans_are, sets_are, measured_is}
-use Rattle.lr_fixed.proofs.Moves.{acts_make_none}
+use Rattle.lr_fixed.proofs.Makes.{acts_make_none}
 use Rattle.lr_fixed.proofs.Ends.{shows_end, ends_in, sets_fixed}
-use Rattle.lr_fixed.proofs.StateListsNone.{state_ends_none}
+use Rattle.lr_fixed.proofs.StateEndsNone.{state_ends_none}
 use Rattle.lr_fixed.proofs.StateRead.{state_one}
 use Rattle.lr_fixed.proofs.Writing.{is_make, makes_in, told_by, state_told}
 

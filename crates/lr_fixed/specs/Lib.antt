@@ -1,3 +1,1 @@
 pub mod Alike
-pub mod Listings
-pub mod Unplanned

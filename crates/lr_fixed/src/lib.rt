@@ -1,15 +1,10 @@
 //! What the entries of a call show. Where no call failed, they fix what was found and what is told: one outcome of a run's
 //! looks, the faults of one run, from the reading of its state to the writing, and of a call that isn't a dry run
-//! one report, and no other. A run lists no directory more often than its words ask for, and leaves each set alone whose
-//! log it doesn't rotate.
+//! one report, and no other.
 //!
-//! A law is the contract of a function without a body: `looks_are_fixed`, `faults_are_fixed`,
-//! `reports_are_fixed`, `directories_are_listed_once` and `others_are_left`.
+//! A law is the contract of a function without a body: `looks_are_fixed`, `faults_are_fixed` and `reports_are_fixed`.
 #![tactic(auto)]
 
 mod laws;
 
-pub use laws::{
-    directories_are_listed_once, faults_are_fixed, looks_are_fixed, others_are_left,
-    reports_are_fixed,
-};
+pub use laws::{faults_are_fixed, looks_are_fixed, reports_are_fixed};

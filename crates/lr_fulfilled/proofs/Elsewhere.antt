@@ -37,8 +37,8 @@ use Rattle.lr_seen.specs.Targets.{all_targets}
 use Rattle.lr_seen.proofs.Kept.{kept_has_none, kept_meets_none}
 use Rattle.lr_seen.proofs.Coming.{Comes, comes_from}
 use Rattle.lr_run.proofs.Owned.{own_or_dir}
-use Rattle.lr_fulfilled.specs.Fulfilled.{IsElsewhere, HasNone}
 use Rattle.lr_fulfilled.specs.Left.{IsLeftAlone}
+use Rattle.lr_fulfilled.specs.Rest.{IsElsewhere, HasNone}
 use Rattle.lr_fulfilled.proofs.Left.{left_alone}
 
 -- ---- one change

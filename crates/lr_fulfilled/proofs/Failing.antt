@@ -17,12 +17,15 @@ use Rattle.lr_plan.specs.declared.mark.Mark.{Mark}
 use Rattle.lr_plan.specs.declared.step.Step.{Step}
 use Rattle.lr_plan.specs.declared.step.Step.TheVariants.{Removes, Renames, Takes, Appends, SyncsFile, SyncsDir}
 use Rattle.lr_plan.specs.Course.{Course}
-use Rattle.lr_plan.specs.Done.{ActsDone}
+use Rattle.lr_plan.specs.declared.plan.Plan.{Plan}
+use Rattle.lr_plan.specs.Done.{PlanDone, rotated_logs}
 use Rattle.lr_plan.specs.Outcomes.{Fails}
 use Rattle.lr_plan.specs.Steps.{step_if, state_steps}
-use Rattle.lr_run.specs.Runs.{Worked, plan_in, dirs_in, state_text}
 use Rattle.lr_run.specs.Met.{MetNothing}
-use Rattle.lr_run.proofs.Called.{none_behind, met_before, acts_met, acts_met_none}
+use Rattle.lr_run.specs.Runs.{dirs_in}
+use Rattle.lr_run.specs.Saw.{text_by}
+use Rattle.lr_run.specs.Work.{Work, IsPlanOf, CarriesOut, act_faults, state_steps_of}
+use Rattle.lr_run.proofs.Called.{none_behind, met_before, met_behind, acts_met_none}
 use Rattle.lr_fulfilled.specs.Fulfilled.{NothingFailed}
 
 -- ---- the writing of the state
@@ -91,19 +94,30 @@ course_none part (s ∷ ss) ms fs ts tell (inr g) no_call free = course_none par
 
 -- ---- all acts
 
-module _ (state : Path) (rules : List Rule) (clock : Clock) (asked : Asked) (own : List Fault) (ts : List Entry) (w : Worked state rules clock asked own ts) where
-  abbrev a : ActsDone (plan_in state rules ts w.looked clock asked) state w.looked.remembered.stale (λ made. w.acted.dirs) (state_text state rules ts w.looked clock) w.acted.marks w.acted.of_acts w.looked.acts
-  a = w.acted.entries
+module _ (state : Path) (rules : List Rule) (clock : Clock) (asked : Asked) (w : Work) (planned : IsPlanOf rules w.saw clock asked w.plan) (out : CarriesOut state clock w) where
+  -- the steps of the logs met no fault, where the acts' tell of nothing that was met
+  logs_none : MetNothing (dirs_in w.plan) (act_faults w.acts) → w.acts.of_logs ≡ []
+  logs_none met = acts_met_none rules w.saw.sets w.saw.table clock asked w.acts.marks w.acts.of_logs out.entries.front
+      (subst (λ (plan : Plan). PlanDone plan w.acts.marks w.acts.of_logs out.entries.front) planned.is out.entries.first)
+      (subst (λ (plan : Plan). MetNothing (dirs_in plan) w.acts.of_logs) planned.is (met_before (dirs_in w.plan) (act_faults w.acts) w.acts.of_logs w.acts.of_state refl met))
 
-  -- the acts met no fault, where their faults tell of nothing that was met, nor that the part file's path was named
-  pub acts_met_nothing : MetNothing (dirs_in (plan_in state rules ts w.looked clock asked)) w.acted.of_acts → (IsIn (fault.Taken (state_part state)) w.acted.of_acts → ⊥) → w.acted.of_acts ≡ []
-  acts_met_nothing met free = a.faults_are ∙ (ap (λ fs. fs ++ a.of_state) (acts_met_none rules w.looked.sets w.looked.remembered.table clock asked w.acted.marks a.of_plan a.entries.front a.entries.first (met_before _ w.acted.of_acts a.of_plan a.of_state a.faults_are met)) ∙ wrote)
-    where
-      wrote : a.of_state ≡ []
-      wrote = course_none (state_part state) _ [] a.of_state a.entries.back (state_tells state w.looked.remembered.stale w.acted.dirs _) a.entries.second (none_behind w.acted.of_acts a.of_plan a.of_state a.faults_are met.no_call)
-          (λ i. free (subst (IsIn (fault.Taken (state_part state))) (sym a.faults_are) (in_back _ a.of_plan a.of_state i)))
+  -- nor did the writing of the state, where the part file's path wasn't named
+  pub acts_met_nothing : NothingFailed state (dirs_in w.plan) (act_faults w.acts) → act_faults w.acts ≡ []
+  acts_met_nothing n = ap (λ (fs : List Fault). fs ++ w.acts.of_state) (logs_none n.met)
+      ∙ course_none (state_part state) (state_steps_of state clock w) [] w.acts.of_state out.entries.back (state_tells state w.saw.stale w.acts.dirs (text_by w.saw clock (rotated_logs w.acts.marks))) out.entries.second
+      (none_behind (act_faults w.acts) w.acts.of_logs w.acts.of_state refl n.met.no_call)
+      (λ i. n.not_taken (in_back (fault.Taken (state_part state)) w.acts.of_logs w.acts.of_state i))
 
-  -- so it is where those of the run do
-  pub worked_met_nothing : NothingFailed state (dirs_in (plan_in state rules ts w.looked clock asked)) own → w.acted.of_acts ≡ []
-  worked_met_nothing n = acts_met_nothing (acts_met state rules clock asked own ts w n.met)
-      (λ i. n.not_taken (subst (IsIn (fault.Taken (state_part state))) (sym w.acted.faults_are) (in_back _ w.looked.of_looks _ (in_back _ (plan_in state rules ts w.looked clock asked).faults w.acted.of_acts i))))
+  -- what the faults of the run don't tell, those of its acts don't
+  of_acts : MetNothing (dirs_in w.plan) (w.saw.faults ++ (w.plan.faults ++ act_faults w.acts)) → MetNothing (dirs_in w.plan) (act_faults w.acts)
+  of_acts met = met_behind (dirs_in w.plan) (w.plan.faults ++ act_faults w.acts) w.plan.faults (act_faults w.acts) refl
+      (met_behind (dirs_in w.plan) (w.saw.faults ++ (w.plan.faults ++ act_faults w.acts)) w.saw.faults (w.plan.faults ++ act_faults w.acts) refl met)
+
+  pub logs_met_nothing : MetNothing (dirs_in w.plan) (w.saw.faults ++ (w.plan.faults ++ act_faults w.acts)) → w.acts.of_logs ≡ []
+  logs_met_nothing met = logs_none (of_acts met)
+
+  pub run_met_nothing : NothingFailed state (dirs_in w.plan) (w.saw.faults ++ (w.plan.faults ++ act_faults w.acts)) → act_faults w.acts ≡ []
+  run_met_nothing n = acts_met_nothing (record {
+    met = of_acts n.met;
+    not_taken = λ i. n.not_taken (in_back (fault.Taken (state_part state)) w.saw.faults (w.plan.faults ++ act_faults w.acts) (in_back (fault.Taken (state_part state)) w.plan.faults (act_faults w.acts) i));
+  })

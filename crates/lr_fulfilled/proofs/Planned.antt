@@ -55,7 +55,6 @@ module _ (plan : Plan) (state : Path) (stale : Bool) (dirs : List Mark → List 
   wrote : AreActsOf (state_steps state stale (dirs marks) (text (rotated_logs marks))) (filter is_act d.entries.back)
   wrote = (course_went (state_steps state stale (dirs marks) (text (rotated_logs marks))) [] d.of_state d.entries.back parts.1 d.entries.second).acts
 
-  pub acts_planned : AreActsOf (all_of_sets (steps_of_plan plan) ++ state_steps state stale (dirs marks) (text (logs_in plan))) (filter is_act ts)
-  acts_planned = subst (λ (logs : List Path). AreActsOf (all_of_sets (steps_of_plan plan) ++ state_steps state stale (dirs marks) (text logs)) (filter is_act ts)) logs_planned
-      (subst (AreActsOf (all_of_sets (steps_of_plan plan) ++ state_steps state stale (dirs marks) (text (rotated_logs marks)))) (sym (ap (filter is_act) d.entries.joined ∙ filter-append is_act d.entries.front d.entries.back))
-      (acts_both (all_of_sets (steps_of_plan plan)) (state_steps state stale (dirs marks) (text (rotated_logs marks))) (filter is_act d.entries.front) (filter is_act d.entries.back) went.acts wrote))
+  pub acts_planned : AreActsOf (all_of_sets (steps_of_plan plan) ++ state_steps state stale (dirs marks) (text (rotated_logs marks))) (filter is_act ts)
+  acts_planned = subst (AreActsOf (all_of_sets (steps_of_plan plan) ++ state_steps state stale (dirs marks) (text (rotated_logs marks)))) (sym (ap (filter is_act) d.entries.joined ∙ filter-append is_act d.entries.front d.entries.back))
+      (acts_both (all_of_sets (steps_of_plan plan)) (state_steps state stale (dirs marks) (text (rotated_logs marks))) (filter is_act d.entries.front) (filter is_act d.entries.back) went.acts wrote)

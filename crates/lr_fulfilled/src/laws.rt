@@ -1,84 +1,121 @@
-// What a run of which nothing failed makes of its plan.
-ghost use Rattle.std.specs.Prelude.{◌≡◌, ◌≢◌, ℕ, Bool, List, [], ◌∷◌, ◌++◌, filter, reverse};
+// What a run makes of its plan, what it leaves alone, and what its looks have to do with the disk.
+ghost use Rattle.std.specs.Prelude.{◌≡◌, ◌≢◌, ◌≤◌, ◌+◌, Bool, false, List, [], ◌++◌, reverse, Option, Result};
 ghost use Rattle.lr_rules.specs.declared.clock.Clock.{Clock};
 ghost use Rattle.lr_rules.specs.declared.fault.Fault.{Fault};
 ghost use Rattle.lr_rules.specs.declared.path.Path.{Path};
 ghost use Rattle.lr_rules.specs.declared.rule.Rule.{Rule};
 ghost use Rattle.lr_rules.specs.declared.rules.Rules.{Rules};
-ghost use Rattle.lr_rules.specs.Names.{IsOwnName};
-ghost use Rattle.lr_due.specs.declared.answer.Due.{Due};
 ghost use Rattle.lr_host.specs.declared.entry.Entry.{Entry};
-ghost use Rattle.lr_host.specs.declared.entry.Entry.TheVariants.{Starts};
 ghost use Rattle.lr_host.specs.Lists.{IsIn};
 ghost use Rattle.lr_host.specs.Opening.{IsJournal};
 ghost use Rattle.lr_host.specs.Quiet.{AreQuiet};
 ghost use Rattle.lr_host.specs.Told.{Made};
 ghost use Rattle.lr_host.specs.declared.thing.Thing.TheVariants as thing;
 ghost use Rattle.lr_host.specs.World.{Past, world, names};
-ghost use Rattle.lr_acts.specs.Making.{all_of_sets};
-ghost use Rattle.lr_acts.specs.Named.{OneCreates};
-ghost use Rattle.lr_looks.specs.Found.{FoundLog};
-ghost use Rattle.lr_looks.specs.Shown.{ShowsLooks};
+ghost use Rattle.lr_glob.specs.Listings.{listings_of};
 ghost use Rattle.lr_plan.specs.Asked.{Asked};
-ghost use Rattle.lr_plan.specs.declared.looks.LogLook.{LogLook};
-ghost use Rattle.lr_plan.specs.declared.looks.SetLooks.{SetLooks};
-ghost use Rattle.lr_plan.specs.declared.mark.Mark.{Mark};
-ghost use Rattle.lr_plan.specs.declared.plan.Plan.{Plan};
-ghost use Rattle.lr_plan.specs.Done.{ActsDone, rotated_logs};
-ghost use Rattle.lr_plan.specs.Steps.{steps_of_plan, state_steps};
-ghost use Rattle.lr_laws_targets.specs.Runs.{AllTurnsBy};
+ghost use Rattle.lr_plan.specs.declared.mark.Mark.TheVariants as mark;
 ghost use Rattle.lr_run.specs.Dry.{AreSights};
-ghost use Rattle.lr_looks.specs.Inside.{Inside};
-ghost use Rattle.lr_run.specs.Runs.{Worked, logs_in, dirs_in, plan_in};
-ghost use Rattle.lr_looks.specs.Reserved.{reserved_by};
-ghost use Rattle.lr_seen.specs.Targets.{all_targets};
-ghost use Rattle.lr_fulfilled.specs.Acts.{is_act, AreActsOf};
-ghost use Rattle.lr_fulfilled.specs.Fulfilled.{NothingFailed, IsElsewhere, HasNone, IsFulfilled};
+ghost use Rattle.lr_run.specs.declared.answer.Ran.{Ran};
+ghost use Rattle.lr_run.specs.declared.answer.RunStop.{RunStop};
+ghost use Rattle.lr_run.specs.Halt.{Halt, Halts};
+ghost use Rattle.lr_run.specs.Logs.{AreGivenBy};
+ghost use Rattle.lr_run.specs.Met.{MetNothing};
+ghost use Rattle.lr_run.specs.Ran.{RunEnds};
+ghost use Rattle.lr_run.specs.Runs.{dirs_in};
+ghost use Rattle.lr_run.specs.Saw.{ShowsSaw, ShowsSets};
+ghost use Rattle.lr_run.specs.Work.{Work, ShowsWork, IsPlanOf, CarriesOut, BreaksOff, act_faults, run_entries, first_entries};
+ghost use Rattle.lr_seen.specs.Planned.{targets_in};
+ghost use Rattle.lr_fulfilled.specs.Fulfilled.{NothingFailed, IsFulfilled};
 ghost use Rattle.lr_fulfilled.specs.Left.{IsLeftAlone};
-ghost use Rattle.lr_fulfilled.specs.Truth.{LooksAreTrue};
+ghost use Rattle.lr_fulfilled.specs.Listings.{wildcards_of};
+ghost use Rattle.lr_fulfilled.specs.Rest.{ChangesOnly, LeavesRest, LeavesSets};
+ghost use Rattle.lr_fulfilled.specs.Truth.{WereTrue};
 
 /// A run that came to its plan, behind looks, listings and reads, and of which no act failed, fulfilled it, whatever else it
-/// tells: its acts are those of the plan, whatever writers did meanwhile; each log of the plan was rotated, where no writer is
-/// attached to a member of it; each that is made anew is named, as the run's contract tells; the state tells of the logs, where
-/// none is attached to its paths; and all else was left alone.
+/// tells: its acts are those of the plan, whatever writers did meanwhile; each log that is made anew is named, where its marks
+/// are, as the run's contract tells; and the state tells of the logs, where none is attached to its paths.
 pub fn run_is_fulfilled()
-    ensures { (state : Path) (asked : Asked) (clock : Clock) (rules : Rules) (own : List Fault) (p q : Past) (es reads acts : List Entry)
-        → Made p es q → IsJournal p → reverse es ≡ reads ++ acts → AreSights reads → (i : Inside state clock rules (Worked state rules.sets clock asked own) acts)
-        → i.within.acted.of_acts ≡ []
-        → ((x : Path) → OneCreates x (all_of_sets (steps_of_plan (plan_in state rules.sets i.between i.within.looked clock asked))) → names (world q) x ≢ thing.Nothing)
-        → IsFulfilled state rules.sets clock asked i.between i.within.looked own (reverse es) p q }
+    ensures { (state : Path) (asked : Asked) (clock : Clock) (rules : Rules) (w : Work) (p q : Past) (es reads : List Entry)
+        → Made p es q → IsJournal p → reverse es ≡ reads ++ run_entries false state clock rules w → AreSights reads
+        → ShowsWork false state rules.sets clock asked w → CarriesOut state clock w → act_faults w.acts ≡ []
+        → ((x : Path) → IsIn (mark.Created x) w.acts.marks → names (world q) x ≢ thing.Nothing)
+        → IsFulfilled state clock w (reverse es) p q }
 {}
 
-/// Acts of a plan without a fault, with the writing of the state behind them: they are those of all its steps, in order, and
-/// each of its logs counts as rotated. So it is of every plan.
-pub fn acts_are_planned()
-    ensures acts { (plan : Plan) (state : Path) (stale : Bool) (dirs : List Mark → List Path) (text : List Path → List ℕ) (marks : List Mark) (ts : List Entry) → ActsDone plan state stale dirs text marks [] ts
-        → AreActsOf (all_of_sets (steps_of_plan plan) ++ state_steps state stale (dirs marks) (text (logs_in plan))) (filter is_act ts) }
-    ensures logs { (plan : Plan) (state : Path) (stale : Bool) (dirs : List Mark → List Path) (text : List Path → List ℕ) (marks : List Mark) (ts : List Entry) → ActsDone plan state stale dirs text marks [] ts
-        → rotated_logs marks ≡ logs_in plan }
-{}
-
-/// Where a run tells of nothing that failed, none of its acts did.
+/// Where the faults of a run tell of nothing that failed, none of its acts did; and where they tell of nothing that stopped its
+/// acts, but may tell that the path was named of the file to which a new state is first written, no step of its logs failed.
 pub fn run_meets_no_fault()
-    ensures { (state : Path) (rules : List Rule) (clock : Clock) (asked : Asked) (own : List Fault) (ts : List Entry) → (w : Worked state rules clock asked own ts) → NothingFailed state (dirs_in (plan_in state rules ts w.looked clock asked)) own → w.acted.of_acts ≡ [] }
+    ensures all { (state : Path) (rules : List Rule) (clock : Clock) (asked : Asked) (w : Work)
+        → IsPlanOf rules w.saw clock asked w.plan → CarriesOut state clock w
+        → NothingFailed state (dirs_in w.plan) (w.saw.faults ++ (w.plan.faults ++ act_faults w.acts)) → act_faults w.acts ≡ [] }
+    ensures logs { (state : Path) (rules : List Rule) (clock : Clock) (asked : Asked) (w : Work)
+        → IsPlanOf rules w.saw clock asked w.plan → CarriesOut state clock w
+        → MetNothing (dirs_in w.plan) (w.saw.faults ++ (w.plan.faults ++ act_faults w.acts)) → w.acts.of_logs ≡ [] }
 {}
 
-/// A run leaves alone what is no path of its state, no name of a log that it rotates and no directory that it makes for one,
-/// however far it came, and whatever failed.
-pub fn others_are_left()
-    ensures { (state : Path) (clock : Clock) (rules : Rules) (p q : Past) (es reads tail : List Entry) (x : Path) (t : AllTurnsBy state clock rules tail) → Made p es q → IsJournal p → reverse es ≡ reads ++ Starts state clock.now rules ∷ tail → AreQuiet reads
-        → IsElsewhere state t.targets x → IsLeftAlone p q x }
+/// A run that carried its plan out leaves alone what is no path of its state, no name of a log that it rotates and no directory
+/// that it makes for one, whatever failed: each such path, so each name of another log that it kept, and each safe and steady
+/// set of another log.
+pub fn run_leaves_rest()
+    ensures rest { (state : Path) (asked : Asked) (clock : Clock) (rules : Rules) (w : Work) (p q : Past) (es reads : List Entry)
+        → Made p es q → IsJournal p → reverse es ≡ reads ++ run_entries false state clock rules w → AreQuiet reads
+        → ShowsWork false state rules.sets clock asked w → CarriesOut state clock w
+        → LeavesRest state w.saw.kept (targets_in w.plan) p q }
+    ensures sets { (state : Path) (asked : Asked) (clock : Clock) (rules : Rules) (w : Work) (p q : Past) (es reads : List Entry)
+        → Made p es q → IsJournal p → reverse es ≡ reads ++ run_entries false state clock rules w → AreQuiet reads
+        → ShowsWork false state rules.sets clock asked w → CarriesOut state clock w
+        → LeavesSets (targets_in w.plan) p q }
+    ensures broken_rest { (state : Path) (asked : Asked) (clock : Clock) (rules : Rules) (w : Work) (p q : Past) (es reads : List Entry)
+        → Made p es q → IsJournal p → reverse es ≡ reads ++ run_entries false state clock rules w → AreQuiet reads
+        → ShowsWork false state rules.sets clock asked w → BreaksOff w
+        → LeavesRest state w.saw.kept (targets_in w.plan) p q }
+    ensures broken_sets { (state : Path) (asked : Asked) (clock : Clock) (rules : Rules) (w : Work) (p q : Past) (es reads : List Entry)
+        → Made p es q → IsJournal p → reverse es ≡ reads ++ run_entries false state clock rules w → AreQuiet reads
+        → ShowsWork false state rules.sets clock asked w → BreaksOff w
+        → LeavesSets (targets_in w.plan) p q }
+    ensures only { (state : Path) (asked : Asked) (clock : Clock) (rules : Rules) (w : Work)
+        → ShowsWork false state rules.sets clock asked w → CarriesOut state clock w → ChangesOnly state (targets_in w.plan) w.did }
+    ensures broken_only { (state : Path) (asked : Asked) (clock : Clock) (rules : Rules) (w : Work)
+        → ShowsWork false state rules.sets clock asked w → BreaksOff w → ChangesOnly state (targets_in w.plan) w.did }
 {}
 
-/// Each name of a log that the looks kept, and that none of these has, is such a path.
-pub fn kept_are_elsewhere()
-    ensures { (state : Path) (rules : List Rule) (sets : List SetLooks) (faults : List Fault) (ts : List Entry) (clock : Clock) (decide : Rule → LogLook → Due) (f : FoundLog) (x : Path) → (s : ShowsLooks (reserved_by state) rules sets faults ts)
-        → IsIn f s.kept → HasNone (all_targets clock decide rules sets) f.log.path → IsOwnName f.log.path f.log.naming x → IsElsewhere state (all_targets clock decide rules sets) x }
+/// A run that ended before its plan, or a dry one, leaves all alone: each path, and each steady set.
+pub fn halted_run_leaves_all()
+    ensures paths { (debug : Bool) (state : Path) (asked : Asked) (clock : Clock) (rules : Rules) (halt : Halt) (p q : Past) (es reads ts : List Entry)
+        → Made p es q → IsJournal p → reverse es ≡ reads ++ ts → AreQuiet reads → Halts debug state rules clock asked halt ts
+        → (x : Path) → IsLeftAlone p q x }
+    ensures sets { (debug : Bool) (state : Path) (asked : Asked) (clock : Clock) (rules : Rules) (halt : Halt) (p q : Past) (es reads ts : List Entry)
+        → Made p es q → IsJournal p → reverse es ≡ reads ++ ts → AreQuiet reads → Halts debug state rules clock asked halt ts
+        → LeavesSets [] p q }
 {}
 
-/// The looks of a run that came to its plan are true of the disk, from its start to the end of the looks, whatever failed then.
+/// Each log of a run's plan is given by a word of one of its rules, as the run's entries show: with its naming, its count and its
+/// age; and it is copied where that rule asks for a copy.
+pub fn logs_are_given()
+    ensures { (debug : Bool) (state : Path) (asked : Asked) (clock : Clock) (rules : Rules) (w : Work) (p q : Past) (es reads : List Entry)
+        → Made p es q → reverse es ≡ reads ++ run_entries debug state clock rules w
+        → ShowsSets state rules.sets w.saw w.looks → IsPlanOf rules.sets w.saw clock asked w.plan
+        → AreGivenBy rules.sets w.plan }
+{}
+
+/// What the looks of a run came to, or of a dry one, was true of the disk, from the moment before it reads its state to the one
+/// behind its looks, whatever it did then.
 pub fn run_looks_are_true()
-    ensures { (state : Path) (asked : Asked) (clock : Clock) (rules : Rules) (own : List Fault) (p q : Past) (es reads acts : List Entry)
-        → Made p es q → IsJournal p → reverse es ≡ reads ++ acts → (i : Inside state clock rules (Worked state rules.sets clock asked own) acts)
-        → LooksAreTrue state clock rules i.between i.within.looked p q }
+    ensures { (debug : Bool) (state : Path) (clock : Clock) (rules : Rules) (w : Work) (p q : Past) (es reads : List Entry)
+        → Made p es q → IsJournal p → reverse es ≡ reads ++ run_entries debug state clock rules w
+        → ShowsSaw debug state rules.sets w.saw w.dir w.reads w.looks
+        → WereTrue rules.sets w.saw.words w.saw.sets (reads ++ first_entries debug state clock rules w) (w.reads ++ w.looks) p q }
+{}
+
+/// In its looks a run, or a dry one, lists a directory no more often than there are wildcards among the words of its rules, and
+/// once more, however many logs are in it: once for the families of all logs, and at most once for each wildcard. So it does
+/// in all, however it ends.
+pub fn run_lists_once()
+    ensures looks { (debug : Bool) (state : Path) (clock : Clock) (rules : Rules) (w : Work) (p q : Past) (es reads : List Entry)
+        → Made p es q → reverse es ≡ reads ++ run_entries debug state clock rules w → ShowsSets state rules.sets w.saw w.looks
+        → (dir : Path) → listings_of dir w.looks ≤ wildcards_of rules.sets + 1 }
+    ensures all { (debug : Bool) (state : Path) (asked : Asked) (clock : Clock) (rules : Rules) (earlier : List Fault) (result : Result Ran RunStop) (work : Option Work) (p q : Past) (es : List Entry)
+        → Made p es q → RunEnds debug state rules clock asked earlier result work (reverse es)
+        → (dir : Path) → listings_of dir (reverse es) ≤ wildcards_of rules.sets + 1 }
 {}

@@ -14,3 +14,4 @@ pub mod Tried
 mod Words
 mod Worked
 mod Written
+pub mod Value

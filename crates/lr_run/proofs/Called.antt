@@ -18,7 +18,6 @@ use Rattle.lr_state.specs.Table.{Entry as Row}
 use Rattle.lr_plan.specs.Asked.{Asked}
 use Rattle.lr_plan.specs.declared.looks.SetLooks.{SetLooks}
 use Rattle.lr_plan.specs.declared.mark.Mark.{Mark}
-use Rattle.lr_plan.specs.declared.plan.Plan.{Plan}
 use Rattle.lr_plan.specs.declared.step.SetSteps.{SetSteps}
 use Rattle.lr_plan.specs.declared.step.Step.{Step}
 use Rattle.lr_plan.specs.declared.step.Step.TheVariants.{Runs, Removes, MakesDir, Renames, Creates, Takes, Copies, SyncsFile, SyncsDir, Truncates, Rotated}
@@ -173,7 +172,7 @@ met_before dirs all xs ys e n = record {
   no_other = none_other_before dirs all xs ys e n.no_other;
 }
 
-met_behind : (dirs : List Path) (all xs ys : List Fault) → all ≡ xs ++ ys → MetNothing dirs all → MetNothing dirs ys
+pub met_behind : (dirs : List Path) (all xs ys : List Fault) → all ≡ xs ++ ys → MetNothing dirs all → MetNothing dirs ys
 met_behind dirs all xs ys e n = record {
   no_call = none_behind all xs ys e n.no_call;
   no_end = no_end_behind all xs ys e n.no_end;

@@ -11,26 +11,22 @@ use Rattle.lr_host.specs.declared.entry.Entry.{Entry}
 use Rattle.lr_host.specs.declared.entry.Entry.TheVariants as entry
 use Rattle.lr_host.specs.declared.thing.Seen.{Seen}
 use Rattle.lr_host.specs.Looks.{IsDir, IsNoDir, IsNothing}
-use Rattle.lr_host.specs.Quiet.{AreQuiet, IsQuiet}
+use Rattle.lr_host.specs.Quiet.{IsQuiet}
 use Rattle.lr_host.specs.Told.{Each}
 use Rattle.lr_state.specs.Table.{Entry as Row}
 use Rattle.lr_plan.specs.Asked.{Asked}
 use Rattle.lr_plan.specs.declared.plan.Plan.{Plan}
-use Rattle.lr_durable.specs.Renewing.{MayRenew}
 use Rattle.lr_emptied.specs.Emptied.{EmptiesCopied}
 use Rattle.lr_emptied.proofs.Entries.{quiet_empties}
 use Rattle.lr_seen.proofs.Quiet.{whole_looking, part_looking}
 use Rattle.lr_run.specs.declared.answer.RunStop.TheVariants as stop
-use Rattle.lr_run.specs.Answers.{Leaves, Holds, Lacks}
+use Rattle.lr_run.specs.Answers.{Leaves, Lacks}
 use Rattle.lr_run.specs.Copied.{IsCopyBy}
 use Rattle.lr_run.specs.Dry.{Plans, PlansBy, unknown, known, Tries, unseen, not_directory, by_none, by_state, LacksTry, before_all, amid_looks, amid_state}
 use Rattle.lr_run.specs.Runs.{of_looks}
-use Rattle.lr_run.specs.State.{IsNewText}
 use Rattle.lr_run.proofs.Emptying.{runs_copied, answers_copied}
 use Rattle.lr_run.proofs.Made.{AreMade}
-use Rattle.lr_run.proofs.Renewing.{quiet_alone, runs_may, answers_may}
 use Rattle.lr_run.proofs.Seeing.{state_so, looks_so, some_so}
-use Rattle.lr_run.proofs.Shape.{sees_quiet}
 use Rattle.lr_run.proofs.Sighted.{sees_so, then_so}
 
 -- ---- looks, listings and reads alone
@@ -56,14 +52,6 @@ module _ (P : Entry → Type 0) (look : (x : Path) (seen : Option Seen) → P (e
 
 -- ---- a run that is dry, or isn't
 
-pub leaves_may : (debug : Bool) (state : Path) (asked : Asked) (clock : Clock) (rules : Rules) (plan : Option Plan) (own : List Fault) (ts : List Entry) → AreMade ts → Leaves debug state asked clock rules plan own ts → MayRenew state (IsNewText state clock asked rules ts) ts
-leaves_may true state asked clock rules plan own ts made h = quiet_alone state (IsNewText state clock asked rules ts) ts (tries_so IsQuiet (λ x seen. (tt, refl)) (λ x names. (tt, refl)) (λ x place piece short. (tt, refl)) state rules.sets clock asked plan own ts h)
-leaves_may false state asked clock rules plan own ts made h = runs_may state rules clock asked plan own ts made h
-
-pub lacks_may : (debug : Bool) (state : Path) (asked : Asked) (clock : Clock) (rules : Rules) (ts : List Entry) → AreMade ts → Lacks debug state asked clock rules ts → MayRenew state (IsNewText state clock asked rules ts) ts
-lacks_may true state asked clock rules ts made h = quiet_alone state (IsNewText state clock asked rules ts) ts (lacks_so IsQuiet (λ x seen. (tt, refl)) (λ x names. (tt, refl)) (λ x place piece short. (tt, refl)) state rules.sets ts h)
-lacks_may false state asked clock rules ts made h = answers_may state rules clock asked [] (Err stop.Memory) ts made h
-
 -- each log that it empties it copied just before
 pub leaves_copied : (debug : Bool) (state : Path) (rules : Rules) (clock : Clock) (asked : Asked) → (plan : Option Plan) (own : List Fault) (ts : List Entry) → AreMade ts → Leaves debug state asked clock rules plan own ts → EmptiesCopied (IsCopyBy rules.sets clock) ts
 leaves_copied true state rules clock asked plan own ts made h = quiet_empties (IsCopyBy rules.sets clock) ts (tries_so IsQuiet (λ x seen. (tt, refl)) (λ x names. (tt, refl)) (λ x place piece short. (tt, refl)) state rules.sets clock asked plan own ts h)
@@ -72,7 +60,3 @@ leaves_copied false state rules clock asked plan own ts made h = runs_copied sta
 pub lacks_copied : (debug : Bool) (state : Path) (rules : Rules) (clock : Clock) (asked : Asked) → (ts : List Entry) → AreMade ts → Lacks debug state asked clock rules ts → EmptiesCopied (IsCopyBy rules.sets clock) ts
 lacks_copied true state rules clock asked ts made h = quiet_empties (IsCopyBy rules.sets clock) ts (lacks_so IsQuiet (λ x seen. (tt, refl)) (λ x names. (tt, refl)) (λ x place piece short. (tt, refl)) state rules.sets ts h)
 lacks_copied false state rules clock asked ts made h = answers_copied state rules clock asked [] (Err stop.Memory) ts made h
-
-pub holds_quiet : (debug : Bool) (state : Path) (ts : List Entry) → Holds debug state ts → AreQuiet ts
-holds_quiet true state ts h = absurd h
-holds_quiet false state ts h = sees_quiet (parent_of state) IsDir ts h

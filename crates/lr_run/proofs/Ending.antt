@@ -18,7 +18,7 @@ use Rattle.lr_run.specs.declared.directory.DirStop.{DirStop}
 use Rattle.lr_run.specs.declared.directory.DirStop.TheVariants as dir
 use Rattle.lr_run.specs.Internal.{dir_fault_of, CameTo, WorksOn, SomeWork}
 use Rattle.lr_run.proofs.Entries.{works_so, lacking_so}
-use Rattle.lr_run.proofs.Old.{works_of}
+use Rattle.lr_run.proofs.Evidence.{works_of}
 use Rattle.lr_run.proofs.Working.{IsWork, IsOn, does_work, goes_on}
 
 -- the run is on where the work ends

@@ -16,6 +16,7 @@ mod Ending
 pub mod Hindered
 pub mod Taken
 pub mod Rotating
+pub mod Turned
 pub mod Turning
 pub mod Owned
 pub mod Courses
@@ -26,7 +27,7 @@ pub mod Anew
 mod Doing
 pub mod Knowing
 mod Coming
-pub mod Old
+pub mod Evidence
 mod Covering
 pub mod Made
 mod Guarding
@@ -34,7 +35,8 @@ pub mod Renewing
 mod Newest
 pub mod Emptying
 mod Trying
-mod Sighted
-mod OldDry
+pub mod Sighted
+pub mod EvidenceDry
+pub mod Leaving
 pub mod Drying
 mod Short

@@ -140,10 +140,10 @@ module _ (state : Path) (dirs : List Path) (text : List ℕ) (IsText : List ℕ 
 
 -- ---- what a run leaves
 
-calm_aside : (x : Path) (ts : List Entry) → AreQuiet ts → Each (IsAsideOf x) ts
+pub calm_aside : (x : Path) (ts : List Entry) → AreQuiet ts → Each (IsAsideOf x) ts
 calm_aside x ts q = each_as IsQuiet (IsAsideOf x) ts (λ e i. none_aside x e (none_changed e i.0 i.1)) q
 
-calm_within : (part : Path) (dirs : List Path) (ts : List Entry) → AreQuiet ts → Each (IsWithin part dirs) ts
+pub calm_within : (part : Path) (dirs : List Path) (ts : List Entry) → AreQuiet ts → Each (IsWithin part dirs) ts
 calm_within part dirs ts q = each_as IsQuiet (IsWithin part dirs) ts (λ e i. none_within part dirs e (none_changed e i.0 i.1)) q
 
 pub quiet_alone : (state : Path) (IsText : List ℕ → Type 0) (ts : List Entry) → AreQuiet ts → MayRenew state IsText ts
@@ -165,7 +165,7 @@ behind_quiet state I J f xs ts q (renewed dirs text is r) = renewed dirs text (f
 })
 
 -- around what leaves the state alone
-around : (state x : Path) (clock : Clock) (rules : Rules) (before between : List Entry) → Each (IsAsideOf x) before → Each (IsAsideOf x) between → Each (IsAsideOf x) (before ++ (entry.Starts state clock.now rules ∷ (between ++ entry.Ends ∷ [])))
+pub around : (state x : Path) (clock : Clock) (rules : Rules) (before between : List Entry) → Each (IsAsideOf x) before → Each (IsAsideOf x) between → Each (IsAsideOf x) (before ++ (entry.Starts state clock.now rules ∷ (between ++ entry.Ends ∷ [])))
 around state x clock rules before between a b = each_append (IsAsideOf x) before (entry.Starts state clock.now rules ∷ (between ++ entry.Ends ∷ [])) a ((λ i. i), each_append (IsAsideOf x) between (entry.Ends ∷ []) b ((λ i. i), tt))
 
 module _ (state : Path) (rules : Rules) (clock : Clock) (asked : Asked) where
@@ -208,7 +208,7 @@ module _ (state : Path) (rules : Rules) (clock : Clock) (asked : Asked) where
         (changes_within (plan_in state rules.sets ts l clock asked).sets rules clock l.looks (groups_of clock decide rules.sets l.sets) logs (targets_seen rules l.sets l.of_looks l.looks clock decide l.shown) valid (looks_agree made) (state_part state) dirs marks faults acts synced done))
 
   -- a first part of the acts
-  broke_aside : (ts : List Entry) → AreMade ts → BrokeOff state rules.sets clock asked ts → Each (IsAsideOf state) ts
+  pub broke_aside : (ts : List Entry) → AreMade ts → BrokeOff state rules.sets clock asked ts → Each (IsAsideOf state) ts
   broke_aside ts made b = subst (Each (IsAsideOf state)) (sym parts)
       (behind_aside ts b.looked b.looked.acts (each_end IsTools (b.looked.reads ++ b.looked.looks) b.looked.acts (subst (Each IsTools) parts (made_by_tools ts made)))
       (cut_some (targets ts b.looked) (map steps_of_set (plan_in state rules.sets ts b.looked clock asked).sets) b.marks b.of_acts b.looked.acts (planned ts b.looked) b.part))

@@ -46,7 +46,7 @@ module _ (P : Entry → Type 0) (look : (x : Path) (seen : Option Seen) → P (e
   none_so : (ts : List Entry) → ts ≡ [] → Each P ts
   none_so ts none = subst (Each P) (sym none) tt
 
-  saw_so : (state : Path) (rules : List Rule) (saw : Saw) (dir reads looks : List Entry) → ShowsSaw true state rules saw dir reads looks → Each P (dir ++ (reads ++ looks))
+  pub saw_so : (state : Path) (rules : List Rule) (saw : Saw) (dir reads looks : List Entry) → ShowsSaw true state rules saw dir reads looks → Each P (dir ++ (reads ++ looks))
   saw_so state rules saw dir reads looks s = go s.file
     where
       by_looks : Each P looks
@@ -56,7 +56,7 @@ module _ (P : Entry → Type 0) (look : (x : Path) (seen : Option Seen) → P (e
       go (by_dir d t) = each_append P dir (reads ++ looks) (sees_so (parent_of state) IsDir dir d) (each_append P reads looks (state_so P look read state t.sights reads t.shown) by_looks)
       go (by_none dry d none no_reads) = each_append P dir (reads ++ looks) (sees_so (parent_of state) IsNothing dir d) (each_append P reads looks (none_so reads no_reads) by_looks)
 
-  halted_so : (state : Path) (rules : Rules) (clock : Clock) (asked : Asked) (halt : Halt) (ts : List Entry) → Halts true state rules clock asked halt ts → Each P ts
+  pub halted_so : (state : Path) (rules : Rules) (clock : Clock) (asked : Asked) (halt : Halt) (ts : List Entry) → Halts true state rules clock asked halt ts → Each P ts
   halted_so state rules clock asked halt ts (not_seen is none) = none_so ts none
   halted_so state rules clock asked halt ts (no_directory is s) = sees_so (parent_of state) (Bars true) ts s
   halted_so state rules clock asked halt ts (held acts is s) = absurd (cc)

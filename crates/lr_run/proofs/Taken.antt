@@ -28,7 +28,6 @@ use Rattle.lr_looks.specs.Shown.{ShowsLooks, LooksAtAll}
 use Rattle.lr_plan.specs.Asked.{Asked}
 use Rattle.lr_plan.specs.declared.looks.Looks.{Looks}
 use Rattle.lr_plan.specs.declared.looks.SetLooks.{SetLooks}
-use Rattle.lr_plan.specs.declared.plan.Plan.{Plan}
 use Rattle.lr_plan.specs.Planned.{decision}
 use Rattle.lr_plan.specs.Steps.{steps_of_plan}
 use Rattle.lr_plan.specs.Course.{Course}
@@ -37,11 +36,9 @@ use Rattle.lr_record.specs.After.{after}
 use Rattle.lr_state.specs.Written.{text_of}
 use Rattle.lr_looks.specs.Reserved.{reserved_by}
 use Rattle.lr_acts.specs.Taken.{WasTaken, no_journal}
-use Rattle.lr_acts.proofs.Taking.{taken_later}
 use Rattle.lr_reading.specs.declared.remembered.Remembered.{Remembered}
 use Rattle.lr_run.specs.Internal.{plan_for, steps_behind}
 use Rattle.lr_run.specs.Work.{Acts}
-use Rattle.lr_run.specs.Taken.{AddsTaken}
 use Rattle.lr_run.proofs.Hindered.{plan_taken}
 
 -- ---- faults that tell of no new file
@@ -157,11 +154,3 @@ hindered_taken state rules looks remembered clock asked acts a b not_told did pa
     untold not_told = no_journal
 hindered_taken state rules looks remembered clock asked acts a b (is_told {j = j} {k = k} {es = es} made g) did path i =
     plan_taken state rules looks.sets g.own (reverse es) clock asked.mailer (decision remembered.table clock.now asked.force) remembered.stale acts.dirs (text_of (after remembered.table (rotated_logs acts.marks) looks.kept clock.now.civil)) acts.marks acts.of_logs acts.of_state j k es made refl g.shown did path i
-
--- behind other calls
-pub adds_behind : (state : Path) (plan : Option Plan) (a b : List Fault) {P : List Entry → Type 0} {o m n : Option Journal} → Left P o m → AddsTaken state plan a b m n → AddsTaken state plan a b o n
-adds_behind state plan a b left t = record {
-  added = t.added;
-  after_is = t.after_is;
-  taken = λ p e. record { stale = (t.taken p e).stale; dirs = (t.taken p e).dirs; text = (t.taken p e).text; taken = λ path last i. taken_later path left ((t.taken p e).taken path last i) };
-}

@@ -4,6 +4,7 @@ pub mod Copied
 pub mod Dry
 pub mod Halt
 pub mod Internal
+pub mod Logs
 pub mod Met
 pub mod Ran
 pub mod Rotated
@@ -11,6 +12,5 @@ pub mod Runs
 pub mod Saw
 pub mod Scripts
 pub mod State
-pub mod Taken
 pub mod Trying
 pub mod Work

@@ -4,10 +4,12 @@ use Rattle.lr_rules.specs.declared.path.Path.{Path}
 use Rattle.lr_rules.specs.declared.clock.Clock.{Clock}
 use Rattle.lr_rules.specs.declared.rule.Rule.{Rule}
 use Rattle.lr_host.specs.declared.entry.Entry.{Entry}
+use Rattle.lr_host.specs.Lists.{IsIn}
 use Rattle.lr_host.specs.World.{Past, world, names}
 use Rattle.lr_state.specs.Table.{Entry as Row}
 use Rattle.lr_plan.specs.Asked.{Asked}
 use Rattle.lr_plan.specs.declared.looks.SetLooks.{SetLooks}
+use Rattle.lr_plan.specs.declared.plan.Plan.{Plan}
 use Rattle.lr_plan.specs.Planned.{decision}
 use Rattle.lr_laws_family.specs.Made.{NoneAttached}
 use Rattle.lr_laws_family.specs.Members.{AreThere}
@@ -15,6 +17,7 @@ use Rattle.lr_laws_family.specs.Turned.{IsTurned}
 use Rattle.lr_laws_targets.specs.AllTurns.{paths_beside}
 use Rattle.lr_laws_targets.specs.Rotation.{rotation_by}
 use Rattle.lr_laws_targets.specs.Target.{Target}
+use Rattle.lr_seen.specs.Planned.{targets_in}
 use Rattle.lr_seen.specs.Targets.{all_targets}
 use Rattle.lr_run.specs.Runs.{Looked}
 
@@ -30,3 +33,7 @@ rotated_in state rules ts l clock asked = rotated_logs rules l.remembered.table 
 abbrev pub IsTurnedAmong : Path → List Target → Past → Past → Target → Type 0
 IsTurnedAmong state targets before after t =
     NoneAttached t.naming (rotation_by t) before after → AreThere t.naming (names (world before)) t.stand.members × IsTurned (paths_beside state t targets) t.naming (rotation_by t) before after
+
+-- So was each log of this plan.
+abbrev pub TurnLogs : Path → Plan → Past → Past → Type 0
+TurnLogs state plan before after = (t : Target) → IsIn t (targets_in plan) → IsTurnedAmong state (targets_in plan) before after t

@@ -1,5 +1,5 @@
 // The run that the settings ask for: a dry one, or one that acts.
-ghost use Rattle.std.specs.Prelude.{◌≡◌, ◌+◌, ◌≤◌, true, false, Err, IfOk, vec_len};
+ghost use Rattle.std.specs.Prelude.{◌≡◌, ◌+◌, ◌≤◌, true, Err, IfOk, vec_len};
 ghost use Rattle.std.specs.Vec.{vec_capacity};
 ghost use Rattle.lr_host.specs.Opening.{IsJournal};
 ghost use Rattle.lr_host.specs.Told.{Left, Onward, Rose, WhereTold};
@@ -10,13 +10,11 @@ ghost use Rattle.lr_laws.specs.Forward.{IsForwardFor};
 ghost use Rattle.lr_laws.specs.Stays.{KeepsSafeWhere};
 ghost use Rattle.lr_laws_targets.specs.Runs.{IsWholeRunBy};
 ghost use Rattle.lr_plan.specs.Asked.{asking};
-ghost use Rattle.lr_run.specs.Answers.{Answers, HasShortReads};
+ghost use Rattle.lr_run.specs.Answers.{HasShortReads};
 ghost use Rattle.lr_run.specs.Copied.{IsCopyBy};
 ghost use Rattle.lr_run.specs.Dry.{AreSights};
 ghost use Rattle.lr_run.specs.Ran.{RanSo};
 ghost use Rattle.lr_run.specs.State.{IsNewText};
-ghost use Rattle.lr_run.specs.Anew.{NamesAnew};
-ghost use Rattle.lr_run.specs.Taken.{AddsTaken};
 
 use crate::answer::{Ran, RunStop};
 use crate::dry::dry_run;
@@ -45,11 +43,8 @@ pub fn run<H: Host>(
     ensures state { KeepsWhole settings.now.state (IsNewText settings.now.state clock.entry.now (asking settings.now.force settings.now.mailer) rules.now) (H.told host.old) (H.told host.new) }
     ensures copied { EmptiesWhole (IsCopyBy rules.now.sets clock.entry.now) (H.told host.old) (H.told host.new) }
     ensures told { RanSo settings.now.debug settings.now.state rules.now clock.entry.now (asking settings.now.force settings.now.mailer) earlier.items result (H.told host.old) (H.told host.new) }
-    ensures answers { Left (Answers settings.now.state settings.now.debug (asking settings.now.force settings.now.mailer) clock.entry.now rules.now earlier.items result) (H.told host.old) (H.told host.new) }
     ensures shape { Left (IsWholeRunBy clock.entry.now) (H.told host.old) (H.told host.new) }
     ensures counted { IfOk result (λ ran. AddsFaults earlier.items ran.faults.items (H.counts host.old) (H.counts host.new)) }
-    ensures taken { settings.now.debug ≡ false → IfOk result (λ ran. AddsTaken settings.now.state ran.plan earlier.items ran.faults.items (H.told host.old) (H.told host.new)) }
-    ensures anew { settings.now.debug ≡ false → IfOk result (λ ran. NamesAnew ran.plan ran.faults.items (H.told host.new)) }
     ensures held { result ≡ Err RunStop.Held → Rose (H.counts host.old).held (H.counts host.new).held }
     ensures room { IfOk result (λ ran. vec_len ran.faults + 1 ≤ vec_capacity ran.faults) }
     ensures short { Left HasShortReads (H.told host.old) (H.told host.new) }

@@ -26,4 +26,4 @@ mod work;
 
 pub use answer::{Ran, RunStop};
 pub use asked::run;
-pub use laws::run_rotates_all;
+pub use laws::run_turns_logs;

@@ -29,7 +29,7 @@ use Rattle.lr_seen.proofs.Coming.{Comes, comes_from, was_looked, in_looked, in_f
 use Rattle.lr_seen.proofs.Elements.{map_at, unmap_at, each_in, in_each}
 
 -- what is in a list stands at a place
-place_in : {A : Type 0} (xs : List A) (x : A) → IsIn x xs → (k : ℕ) × (slice_get xs k ≡ Some x)
+pub place_in : {A : Type 0} (xs : List A) (x : A) → IsIn x xs → (k : ℕ) × (slice_get xs k ≡ Some x)
 place_in [] x h = absurd h
 place_in (y ∷ ys) x (inl e) = (0, ap (λ z. Some z) e)
 place_in (y ∷ ys) x (inr i) = let r = place_in ys x i in (suc r.0, r.1)

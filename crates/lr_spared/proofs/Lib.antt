@@ -12,3 +12,4 @@ pub mod Stale
 pub mod Steps
 pub mod Taken
 pub mod Writing
+pub mod Run

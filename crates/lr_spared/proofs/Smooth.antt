@@ -1,6 +1,7 @@
 -- Where nothing is in the way of a run and no count of failures rose, nothing failed.
 use Rattle.std.proofs.Common.{◌≡◌, ◌≢◌, ◌⊎◌, inl, inr, ⊎_elim, ◌≤◌, ℕ, suc, zero, Bool, true, false, bytes_eq, refl, sym, ◌∙◌, ap, subst, arith, List, [], ◌∷◌, ◌++◌, map, reverse, append_assoc, length, Option, Some, None}
 use Rattle.std.specs.Prelude.{filter}
+use Rattle.std.proofs.lemmas.List.{reverse-append, reverse-reverse}
 use Rattle.std.specs.List.{flat_map}
 use Rattle.std.proofs.lemmas.Slice.Eq.{bytes_eq-Decides}
 use Rattle.lr_rules.specs.declared.clock.Clock.{Clock}
@@ -10,7 +11,6 @@ use Rattle.lr_rules.specs.declared.fault.Phase.{Phase}
 use Rattle.lr_rules.specs.declared.path.Path.{Path}
 use Rattle.lr_rules.specs.declared.rule.Rule.{Rule}
 use Rattle.lr_rules.specs.declared.rules.Rules.{Rules}
-use Rattle.lr_rules.specs.Match.{part_end, EndsWith}
 use Rattle.lr_rules.specs.Names.{IsOwnName, IsName}
 use Rattle.lr_rules.specs.Path.{parent_of}
 use Rattle.lr_rules.specs.StatePath.{state_part}
@@ -28,12 +28,12 @@ use Rattle.lr_host.specs.Looks.{IsDir}
 use Rattle.lr_host.specs.Opening.{IsJournal}
 use Rattle.lr_host.specs.Quiet.{IsQuiet, AreQuiet, ChangeNothing}
 use Rattle.lr_host.specs.Steps.{is_change}
-use Rattle.lr_host.specs.Told.{Each, Made, by_tool, Rose}
-use Rattle.lr_host.specs.World.{Past, ◌▸◌, past, World, world, names}
+use Rattle.lr_host.specs.Told.{Each, Made, Rose}
+use Rattle.lr_host.specs.World.{Past, past, World, world, names}
 use Rattle.lr_host.proofs.Each.{each_append, each_as, each_in_order}
-use Rattle.lr_host.proofs.Lists.{in_front, in_back, in_append, in_reverse, from_reverse}
+use Rattle.lr_host.proofs.Lists.{in_front, in_back, in_reverse, from_reverse}
 use Rattle.lr_host.proofs.Looked.{seen_none}
-use Rattle.lr_host.proofs.Made.{made_on}
+use Rattle.lr_host.proofs.Made.{made_journal, made_on}
 use Rattle.lr_host.proofs.More.{file_more}
 use Rattle.lr_host.proofs.Quiet.{IsAny, Moment as Look, moment, made_quiet, quiet_both, quiet_more, quiet_same, quiet_still, since_any, since_as, since_before, still_both, still_reverse}
 use Rattle.lr_scripts.specs.declared.command.Command.{Command}
@@ -51,8 +51,9 @@ use Rattle.lr_plan.specs.Done.{ActsDone, rotated_logs}
 use Rattle.lr_plan.specs.Planned.{decision}
 use Rattle.lr_plan.specs.Steps.{steps_of_plan, steps_of_set, state_steps}
 use Rattle.lr_acts.specs.Making.{all_of_sets}
-use Rattle.lr_acts.specs.Taken.{OneTakes}
+use Rattle.lr_acts.specs.Taken.{LastTaken, OneTakes, WasTaken}
 use Rattle.lr_reading.specs.Sights.{entries_of}
+use Rattle.lr_reading.proofs.Quiet.{state_quiet}
 use Rattle.lr_laws_targets.specs.AllTurns.{IsOfSome, IsOfState}
 use Rattle.lr_laws_targets.specs.Target.{Target, IsMissingDir, IsDirSeenBy}
 use Rattle.lr_laws_family.proofs.OrMade.{made_behind}
@@ -72,26 +73,22 @@ use Rattle.lr_seen.proofs.Free.{targets_free}
 use Rattle.lr_seen.proofs.Ready.{plans_have_logs}
 use Rattle.lr_seen.proofs.Seen.{targets_have_names, targets_seen}
 use Rattle.lr_stood.specs.True.{AreTrue}
+use Rattle.lr_stood.proofs.All.{looks_true}
 use Rattle.lr_run.specs.Copied.{IsOfCopy}
 use Rattle.lr_looks.specs.Inside.{Inside}
 use Rattle.lr_run.specs.Runs.{Looked, Worked, dirs_in, plan_in, state_text}
-use Rattle.lr_run.proofs.Hindered.{taken_member}
 use Rattle.lr_run.proofs.Shape.{sees_quiet, seen_quiet, looked_parts, all_of_state}
-use Rattle.lr_run.proofs.Taken.{IsOfNew, looks_none}
 use Rattle.lr_fulfilled.specs.Fulfilled.{NothingFailed}
-use Rattle.lr_fulfilled.proofs.Failing.{acts_met_nothing}
-use Rattle.lr_fulfilled.proofs.Truth.{Looking, looking, looks_stand}
-use Rattle.lr_spared.specs.Smooth.{AreToldApart, IsSmooth, WereTaken}
+use Rattle.lr_fulfilled.proofs.Looking.{Looking, looking}
+use Rattle.lr_spared.specs.Smooth.{IsSmooth}
 use Rattle.lr_spared.proofs.Clearing.{ClearsFirst, clears_on, clears_log, course_clears}
 use Rattle.lr_run.proofs.Courses.{OfLog, sets_done, either, sets_so, all_sets}
 use Rattle.lr_spared.proofs.Dirs.{IsMadeBy, made_by_one, dir_apart, some_give, state_gives, calm_gives, of_changes, course_saw}
-use Rattle.lr_spared.proofs.Hindering.{plan_hinders}
 use Rattle.lr_spared.proofs.Long.{FitCopies, fit_on, fit_log, ReadsOver, over_in, over_back, course_over, never_over}
 use Rattle.lr_spared.proofs.Making.{GivesNoFile, SawOther, other_front, other_back, never_other}
 use Rattle.lr_run.proofs.Members.{HaveMembers, seen_members, part_own, all_ready}
 use Rattle.lr_spared.proofs.Naming.{Avoids, Spared}
 use Rattle.lr_spared.proofs.Once.{each_ready, logs_aside, logs_at_most, sets_aside, sets_once}
-use Rattle.lr_spared.proofs.Sighted.{looks_saw}
 use Rattle.lr_spared.proofs.Jobs.{job_in_logs, job_in_sets}
 use Rattle.lr_spared.proofs.Stale.{part_seen, part_known}
 use Rattle.lr_spared.proofs.Steps.{OnceNamed, once_first, once_last, once_later, one_split, Tells, course_tells, sets_tell, tells_on}
@@ -118,6 +115,13 @@ same_path x y = go (bytes_eq x y) refl
     go : (b : Bool) → bytes_eq x y ≡ b → (x ≡ y) ⊎ (x ≡ y → ⊥)
     go true e = inl ((bytes_eq-Decides x y).0 e)
     go false e = inr (λ same. let t : bytes_eq x y ≡ true = (bytes_eq-Decides x y).1 same in cc)
+
+-- ---- what is told as taken
+
+-- Each path that one of these faults tells as taken, and that, however the state is written, no step of the plan or of the writing unlinks behind the one that needs it, was named at a moment from which on the tool unlinked it no more.
+abbrev pub WereTaken : Path → Plan → List Fault → Journal → Journal → Type 0
+WereTaken state plan faults before after =
+    (x : Path) → ((stale : Bool) (dirs : List Path) (text : List ℕ) → LastTaken x (all_of_sets (steps_of_plan plan) ++ state_steps state stale dirs text)) → IsIn (fault.Taken x) faults → WasTaken x (Some before) (Some after)
 
 -- ---- the run
 
@@ -188,26 +192,31 @@ module _ (state : Path) (asked : Asked) (clock : Clock) (rules : Rules) (own : L
 
   -- ---- its moments
 
-  abbrev at : Looking start p q front seen later
-  at = looking state asked clock rules own p q es reads acts made journal joined i
+  by_looks : reverse es ≡ (front ++ start ∷ []) ++ (seen ++ later)
+  by_looks = joined ∙ (ap (λ (xs : List Entry). reads ++ xs) i.entries ∙ (sym (append_assoc reads i.before (start ∷ (i.between ++ entry.Ends ∷ [])))
+      ∙ (sym (append_assoc front (start ∷ []) (i.between ++ entry.Ends ∷ []))
+      ∙ ap (λ (xs : List Entry). (front ++ start ∷ []) ++ xs) (ap (λ (xs : List Entry). xs ++ entry.Ends ∷ []) (looked_parts state rules.sets i.between l) ∙ append_assoc seen l.acts (entry.Ends ∷ [])))))
 
-  are_true : AreTrue rules.sets l.sets l.of_looks l.looks l.shown (at.at ▸ start) at.looked
-  are_true = looks_stand state asked clock rules own p q es reads acts made journal joined i
+  abbrev at : Looking p q (front ++ start ∷ []) seen later
+  at = looking p q es (front ++ start ∷ []) seen later made by_looks
+
+  are_true : AreTrue rules.sets l.shown.entries.first.sights l.sets at.at at.looked
+  are_true = looks_true rules l.sets l.of_looks l.reads l.looks (reverse seen) at.at at.looked l.shown (made_journal p at.at (reverse (front ++ start ∷ [])) at.since journal) at.between (reverse-reverse seen) (state_quiet state 65_536 l.sights l.reads l.read)
 
   front_quiet : AreQuiet front
   front_quiet = quiet_both reads i.before quiet (sees_quiet (parent_of state) IsDir i.before i.directory)
 
-  began : Made p (start ∷ reverse front) (at.at ▸ start)
-  began = by_tool at.since tt at.fits
+  began : Made p (start ∷ reverse front) at.at
+  began = subst (λ (us : List Entry). Made p us at.at) (reverse-append front (start ∷ [])) at.since
 
   began_still : ChangeNothing (start ∷ reverse front)
   began_still = still_reverse front (quiet_still front front_quiet)
 
-  file_stands : (x : Path) → IsFileAt (names (world p)) x → IsFileAt (names (world (at.at ▸ start))) x
-  file_stands x file = file_more (names (world p)) (names (world (at.at ▸ start))) x (quiet_more IsAny p (at.at ▸ start) (made_quiet IsAny p (at.at ▸ start) (start ∷ reverse front) (since_any p (at.at ▸ start) (start ∷ reverse front) began) began began_still)) file
+  file_stands : (x : Path) → IsFileAt (names (world p)) x → IsFileAt (names (world at.at)) x
+  file_stands x file = file_more (names (world p)) (names (world at.at)) x (quiet_more IsAny p at.at (made_quiet IsAny p at.at (start ∷ reverse front) (since_any p at.at (start ∷ reverse front) began) began began_still)) file
 
   looked : Made p (reverse seen ++ (start ∷ reverse front)) at.looked
-  looked = made_on p (at.at ▸ start) at.looked (start ∷ reverse front) (reverse seen) began at.between
+  looked = made_on p at.at at.looked (start ∷ reverse front) (reverse seen) began at.between
 
   looked_still : ChangeNothing (reverse seen ++ (start ∷ reverse front))
   looked_still = still_both (reverse seen) (start ∷ reverse front) (still_reverse seen (quiet_still seen (seen_quiet state rules.sets i.between l))) began_still
@@ -241,7 +250,7 @@ module _ (state : Path) (asked : Asked) (clock : Clock) (rules : Rules) (own : L
   -- ---- old part files
 
   seen_stale : (t : Target) → IsIn t targets → (job : Job) → t.job ≡ Some job → IsFileAt (names (world p)) job.part → job.stale ≡ true
-  seen_stale t one job is file = part_seen rules.sets l.sets l.of_looks l.looks l.shown t (comes t one) (at.at ▸ start) at.looked are_true (members t one) job is (file_stands job.part file)
+  seen_stale t one job is file = part_seen rules.sets l.sets l.of_looks l.looks l.shown t (comes t one) l.shown.entries.first.sights at.at at.looked are_true (members t one) job is (file_stands job.part file)
 
   state_spared : Spared (state_part state) p q
   state_spared = spared_at (state_part state) (λ y beside same. beside.0 same)
@@ -434,44 +443,13 @@ module _ (state : Path) (asked : Asked) (clock : Clock) (rules : Rules) (own : L
 
   -- ---- nothing failed
 
-  pub acts_fail_nothing : WereTaken state plan w.acted.of_acts j k → calls_in w.acted.of_acts ≡ 0 → scripts_in w.acted.of_acts ≡ 0 → w.acted.of_acts ≡ []
-  acts_fail_nothing taken no_call no_end = acts_met_nothing state rules.sets clock asked own i.between w
-      (record { no_call = no_call; no_end = no_end; no_copy = each_in (λ f. IsOfCopy f → ⊥) w.acted.of_acts no_copy; no_other = λ dir making told. by_acts dir making told }) (acts_take_none taken (state_part state))
+  pub acts_fail_nothing : WereTaken state plan w.acted.of_acts j k → calls_in w.acted.of_acts ≡ 0 → scripts_in w.acted.of_acts ≡ 0 → NothingFailed state (dirs_in plan) w.acted.of_acts
+  acts_fail_nothing taken no_call no_end = record {
+    met = record { no_call = no_call; no_end = no_end; no_copy = each_in (λ f. IsOfCopy f → ⊥) w.acted.of_acts no_copy; no_other = λ dir making told. by_acts dir making told };
+    not_taken = acts_take_none taken (state_part state);
+  }
     where
       no_copy : (f : Fault) → IsIn f w.acted.of_acts → IsOfCopy f → ⊥
       no_copy (fault.TooLong x) h c = not_long x h
       no_copy (fault.Taken x) h c = acts_take_none taken x h
       no_copy _ h c = c
-
-  -- ---- what the run tells then
-
-  -- faults of new files are those of the plan and the acts
-  of_plan_or_acts : (f : Fault) → IsOfNew f → IsIn f own → IsIn f plan.faults ⊎ IsIn f w.acted.of_acts
-  of_plan_or_acts f new h = ⊎_elim (λ b. absurd (looks_none (reserved_by state) rules.sets l.sets l.of_looks l.looks l.shown f new b)) (λ b. in_append f plan.faults w.acted.of_acts b)
-      (in_append f l.of_looks (plan.faults ++ w.acted.of_acts) (subst (IsIn f) w.acted.faults_are h))
-
-  -- no look saw something at the path of a directory that is made
-  looks_saw_none : (dir : Path) → IsIn dir (dirs_in plan) → IsIn (fault.NotFile dir) l.of_looks → ⊥
-  looks_saw_none dir making b =
-      let saw : (seen : Seen) × IsIn (entry.Look dir (Some seen)) l.looks = looks_saw dir rules.sets l.sets l.of_looks l.looks l.shown b in
-      let s = seen_at_first dir (Some saw.0) (spared dir making) (in_back (entry.Look dir (Some saw.0)) l.reads l.looks saw.1) in
-      let clash : Some saw.0 ≡ None = subst (λ (there : Thing). Sees s.0 there (Some saw.0)) (nothing dir making) s.1 in cc
-
-  -- nothing that failed, where what the plan tells as taken, a dated member, isn't told in the words of a copy
-  pub nothing_fails : AreToldApart l.shown.kept → WereTaken state plan w.acted.of_acts j k → calls_in own ≡ 0 → scripts_in own ≡ 0 → NothingFailed state (dirs_in plan) own
-  nothing_fails apart taken no_call no_end = record { met = record { no_call = no_call; no_end = no_end; no_copy = each_in (λ f. IsOfCopy f → ⊥) own no_copy; no_other = no_other }; not_taken = state_not_taken }
-    where
-      no_part_taken : (x : Path) → EndsWith x part_end → IsIn (fault.Taken x) own → ⊥
-      no_part_taken x end h = ⊎_elim (λ b. let f = (taken_member state rules l.sets l.of_looks l.looks clock decide l.shown x b).0 in apart f.0 f.1 x f.2 end) (λ b. acts_take_none taken x b) (of_plan_or_acts (fault.Taken x) tt h)
-
-      state_not_taken : IsIn (fault.Taken (state_part state)) own → ⊥
-      state_not_taken h = ⊎_elim (λ b. (taken_member state rules l.sets l.of_looks l.looks clock decide l.shown (state_part state) b).1 (state_part state) (inr (inl refl)) refl) (λ b. acts_take_none taken (state_part state) b) (of_plan_or_acts (fault.Taken (state_part state)) tt h)
-
-      no_copy : (f : Fault) → IsIn f own → IsOfCopy f → ⊥
-      no_copy (fault.TooLong x) h c = ⊎_elim (λ b. plan_hinders (fault.TooLong x) clock decide rules.sets l.sets b) (λ b. not_long x b) (of_plan_or_acts (fault.TooLong x) tt h)
-      no_copy (fault.Taken x) h c = no_part_taken x c h
-      no_copy _ h c = c
-
-      no_other : (dir : Path) → IsIn dir (dirs_in plan) → IsIn (fault.NotFile dir) own → ⊥
-      no_other dir making told = ⊎_elim (looks_saw_none dir making) (λ b. ⊎_elim (λ c. plan_hinders (fault.NotFile dir) clock decide rules.sets l.sets c) (by_acts dir making) (in_append (fault.NotFile dir) plan.faults w.acted.of_acts b))
-          (in_append (fault.NotFile dir) l.of_looks (plan.faults ++ w.acted.of_acts) (subst (IsIn (fault.NotFile dir)) w.acted.faults_are told))

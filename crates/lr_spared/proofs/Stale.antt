@@ -25,6 +25,7 @@ use Rattle.lr_plan.specs.declared.looks.SetLooks.{SetLooks}
 use Rattle.lr_plan.specs.Planned.{is_made, makes_dir, empty_stand, stand_for, standing, copy_job, ready_for}
 use Rattle.lr_looks.specs.Sets.{looked_in}
 use Rattle.lr_looks.specs.Shown.{ShowsLooks}
+use Rattle.lr_looks.specs.Sights.{WordSight}
 use Rattle.lr_reading.specs.declared.look.LookStop.{LookStop}
 use Rattle.lr_reading.specs.declared.remembered.Remembered.{Remembered}
 use Rattle.lr_reading.specs.Answers.{IsKnown, IsKnownBy, IsKnownBehind, IsKnownOf, known_of, text_of}
@@ -32,6 +33,7 @@ use Rattle.lr_reading.specs.Pieces.{Reading}
 use Rattle.lr_reading.specs.Sights.{Sight, Failed, Nothing, Saw, StateSights, found, found_kind, look_of, behind_state, entries_of}
 use Rattle.lr_laws_targets.specs.Target.{Target}
 use Rattle.lr_seen.proofs.Coming.{Comes, was_looked}
+use Rattle.lr_seen.proofs.Elements.{in_list}
 use Rattle.lr_seen.proofs.Listed.{WasShown, all_shown}
 use Rattle.lr_seen.proofs.Ready.{by_copy}
 use Rattle.lr_stood.specs.True.{IsTrueFamily, AreTrue}
@@ -72,8 +74,8 @@ module _ {reserved : List Path} {clock : Clock} (rules : List Rule) (sets : List
       go false is = i
       go true is = absurd (subst (IsIn x) (shown.2 (made_gone c.rule c.look is)).parts i)
 
-  pub part_seen : (p q : Past) → AreTrue rules sets faults ts s p q → HasMembers t → (job : Job) → t.job ≡ Some job → IsFileAt (names (world p)) job.part → job.stale ≡ true
-  part_seen p q a h job is file = subst (λ (k : Job). k.stale ≡ true) by.1 (in_has (part_of to) (stand_for c.rule c.look).parts (stands_then (part_of to)
+  pub part_seen : (sights : List WordSight) (p q : Past) → AreTrue rules sights sets p q → HasMembers t → (job : Job) → t.job ≡ Some job → IsFileAt (names (world p)) job.part → job.stale ≡ true
+  part_seen sights p q a h job is file = subst (λ (k : Job). k.stale ≡ true) by.1 (in_has (part_of to) (stand_for c.rule c.look).parts (stands_then (part_of to)
       (f.parts (part_of to)
       (subst (IsMembersPart c.look.family.naming) part (subst (λ (n : Naming). IsMembersPart n job.part) (ap (λ (u : Target). u.naming) c.is) (part_is_members t h job is)))
       (subst (IsFileAt (names (world p))) part file))))
@@ -85,7 +87,7 @@ module _ {reserved : List Path} {clock : Clock} (rules : List Rule) (sets : List
       by = copied job is
 
       f : IsTrueFamily c.look.family.naming c.look.stand p q
-      f = a.families (looked_in (0 + c.place) c.look) looked
+      f = a.families c.set c.look (in_list sets c.place c.set c.at_set) c.among
 
       part : job.part ≡ part_of to
       part = ap (λ (k : Job). k.part) (sym by.1)

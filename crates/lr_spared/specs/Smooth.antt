@@ -1,24 +1,14 @@
 -- Calls in which nothing is in the way of a run.
-use Rattle.std.specs.Prelude.{◌≡◌, ◌≢◌, ◌≤◌, ◌⊎◌, ℕ, Bool, List, ◌++◌, length, Some}
-use Rattle.lr_rules.specs.declared.fault.Fault.{Fault}
-use Rattle.lr_rules.specs.declared.fault.Fault.TheVariants as fault
+use Rattle.std.specs.Prelude.{◌≡◌, ◌≢◌, ◌≤◌, ◌⊎◌, ℕ, List, length}
 use Rattle.lr_rules.specs.declared.path.Path.{Path}
-use Rattle.lr_rules.specs.Match.{part_end, EndsWith}
 use Rattle.lr_rules.specs.StatePath.{state_part}
-use Rattle.lr_host.specs.declared.journal.Journal.{Journal}
 use Rattle.lr_host.specs.declared.thing.Thing.TheVariants as thing
 use Rattle.lr_host.specs.Fits.{IsFileAt}
 use Rattle.lr_host.specs.Lists.{IsIn}
 use Rattle.lr_host.specs.Quiet.{AttachedOnlySince}
 use Rattle.lr_host.specs.Told.{Counts, Rose}
 use Rattle.lr_host.specs.World.{Past, world, names}
-use Rattle.lr_family.specs.Parts.{IsDated}
 use Rattle.lr_copy.specs.declared.job.Job.{Job}
-use Rattle.lr_plan.specs.declared.plan.Plan.{Plan}
-use Rattle.lr_plan.specs.Steps.{steps_of_plan, state_steps}
-use Rattle.lr_acts.specs.Making.{all_of_sets}
-use Rattle.lr_acts.specs.Taken.{WasTaken, LastTaken}
-use Rattle.lr_looks.specs.Found.{FoundLog}
 use Rattle.lr_laws_family.specs.Moments.{IsBehind}
 
 -- neither the count of failed calls rose nor that of bad ends; at its greatest value a count counts as risen
@@ -33,12 +23,3 @@ pub record IsSmooth (state : Path) (jobs : List Job) (dirs : List Path) (before 
   pub free : (job : Job) → IsIn job jobs → (names (world before) job.part ≡ thing.Nothing) ⊎ IsFileAt (names (world before)) job.part
   -- no file was ever a log of these with more bytes than its copy may have
   pub short : (job : Job) → IsIn job jobs → (m : Past) → IsBehind before m → IsBehind m after → (g : ℕ) → names (world m) job.from ≡ thing.File g → length ((world m).files g).bytes ≤ job.limit
-
--- Each path that one of these faults tells as taken, and that, however the state is written, no step of the plan or of the writing unlinks behind the one that needs it, was named at a moment from which on the tool unlinked it no more.
-abbrev pub WereTaken : Path → Plan → List Fault → Journal → Journal → Type 0
-WereTaken state plan faults before after =
-    (x : Path) → ((stale : Bool) (dirs : List Path) (text : List ℕ) → LastTaken x (all_of_sets (steps_of_plan plan) ++ state_steps state stale dirs text)) → IsIn (fault.Taken x) faults → WasTaken x (Some before) (Some after)
-
--- No dated member of these logs has a name that ends as a part file's does, so that one that is taken isn't told in the words of a copy that broke off.
-abbrev pub AreToldApart : List FoundLog → Type 0
-AreToldApart logs = (f : FoundLog) → IsIn f logs → (x : Path) → IsDated f.log.naming x → EndsWith x part_end → ⊥

@@ -1,5 +1,5 @@
 -- All looks of a run.
-use Rattle.std.proofs.Common.{◌≡◌, ℕ, List, ◌++◌, reverse, Some, Ok, slice_get, sym, ap, ◌∙◌, subst, append_assoc}
+use Rattle.std.proofs.Common.{◌≡◌, ◌+◌, ℕ, List, ◌++◌, reverse, Some, Ok, slice_get, sym, ap, ◌∙◌, subst, append_assoc}
 use Rattle.lr_rules.specs.declared.fault.Fault.{Fault}
 use Rattle.lr_rules.specs.declared.path.Path.{Path}
 use Rattle.lr_rules.specs.declared.rules.Rules.{Rules}
@@ -12,10 +12,14 @@ use Rattle.lr_host.specs.World.{Past}
 use Rattle.lr_host.proofs.Lists.{in_back}
 use Rattle.lr_host.proofs.Quiet.{quiet_both, quiet_still, still_in_order}
 use Rattle.lr_glob.specs.declared.found.Found.{Found as Match}
+use Rattle.lr_plan.specs.declared.looks.LogLook.{LogLook}
 use Rattle.lr_plan.specs.declared.looks.SetLooks.{SetLooks}
 use Rattle.lr_looks.specs.Asked.{Word, asked_by}
 use Rattle.lr_looks.specs.Families.{LookedLog}
+use Rattle.lr_looks.specs.Sets.{looked_in}
 use Rattle.lr_looks.specs.Shown.{ShowsLooks}
+use Rattle.lr_seen.proofs.Coming.{was_looked}
+use Rattle.lr_seen.proofs.Free.{place_in}
 use Rattle.lr_seen.proofs.Listed.{all_shown}
 use Rattle.lr_seen.proofs.Quiet.{whole_quiet}
 use Rattle.lr_seen.proofs.Seen.{looked_family}
@@ -66,5 +70,9 @@ module _ {reserved : List Path} (rules : Rules) (sets : List SetLooks) (faults :
       of_sights : IsIn x (Rattle.lr_looks.specs.Families.looked_of s.kept f.families.sights)
       of_sights = subst (IsIn x) f.families.looked_are i
 
-  pub looks_true : AreTrue rules.sets sets faults ts s p q
-  looks_true = record { words = one_word; families = one_family }
+  -- a log that was looked at whole, where its definition has it
+  in_set : (set : SetLooks) (look : LogLook) → IsIn set sets → IsIn look set.logs → IsTrueFamily look.family.naming look.stand p q
+  in_set set look among i = let at = place_in sets set among in one_family (looked_in (0 + at.0) look) (was_looked 0 at.0 s.looked sets set look s.by_sets at.1 i)
+
+  pub looks_true : AreTrue rules.sets s.entries.first.sights sets p q
+  looks_true = record { words = one_word; families = in_set }

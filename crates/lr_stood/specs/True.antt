@@ -1,12 +1,10 @@
 -- Looks that are true of the disk: what stood at the first moment is among what they saw, and nothing else is but what came up to the second.
 use Rattle.std.specs.Prelude.{◌≡◌, ◌≢◌, ℕ, false, List, [], ◌∷◌, Some, None, Ok, slice_get}
-use Rattle.lr_rules.specs.declared.fault.Fault.{Fault}
 use Rattle.lr_rules.specs.declared.path.Path.{Path}
 use Rattle.lr_rules.specs.declared.rule.Naming.{Naming}
 use Rattle.lr_rules.specs.declared.rule.Rule.{Rule}
 use Rattle.lr_rules.specs.Match.{WordGives, is_wildcard, literal_path}
 use Rattle.lr_rules.specs.Path.{path_fault}
-use Rattle.lr_host.specs.declared.entry.Entry.{Entry}
 use Rattle.lr_host.specs.declared.thing.Kind.TheVariants as kind
 use Rattle.lr_host.specs.declared.thing.Thing.TheVariants as thing
 use Rattle.lr_host.specs.Fits.{IsFileAt}
@@ -17,10 +15,10 @@ use Rattle.lr_family.specs.declared.stand.Stand.{Stand}
 use Rattle.lr_family.specs.Parts.{IsMember, IsMembersPart}
 use Rattle.lr_glob.specs.declared.found.Found.{Found as Match}
 use Rattle.lr_sought.specs.Finds.{FindsFile, StoodOrCame}
+use Rattle.lr_plan.specs.declared.looks.LogLook.{LogLook}
 use Rattle.lr_plan.specs.declared.looks.SetLooks.{SetLooks}
 use Rattle.lr_looks.specs.Asked.{Word, asked_by}
-use Rattle.lr_looks.specs.Families.{LookedLog}
-use Rattle.lr_looks.specs.Shown.{ShowsLooks}
+use Rattle.lr_looks.specs.Sights.{WordSight}
 
 -- What a word came to.
 pub record IsTrueWord (w : Word) (matches : List Match) (before behind : Past) : Type 0 where
@@ -44,7 +42,8 @@ pub record IsTrueFamily (n : Naming) (stand : Stand) (before behind : Past) : Ty
   pub member_came : (m : Member) → IsIn m stand.members → StoodOrCame m.path before behind
   pub part_came : (x : Path) → IsIn x stand.parts → StoodOrCame x before behind
 
--- So are the looks of a run: at each word that no fault passed over, and at the family of each log that none did.
-pub record AreTrue {reserved : List Path} (rules : List Rule) (sets : List SetLooks) (faults : List Fault) (ts : List Entry) (s : ShowsLooks reserved rules sets faults ts) (before behind : Past) : Type 0 where
-  pub words : (place : ℕ) (w : Word) (matches : List Match) → slice_get (asked_by rules) place ≡ Some w → slice_get s.entries.first.sights place ≡ Some (Ok matches) → IsTrueWord w matches before behind
-  pub families : (x : LookedLog) → IsIn x s.looked → IsTrueFamily x.naming x.stand before behind
+-- So is what looks came to, by what they saw at the words of these rules, and by the logs that they looked at whole: at each word, and at each family, that no fault passed over.
+pub record AreTrue (rules : List Rule) (sights : List WordSight) (sets : List SetLooks) (before behind : Past) : Type 0 where
+  pub words : (place : ℕ) (w : Word) (matches : List Match) → slice_get (asked_by rules) place ≡ Some w
+      → slice_get sights place ≡ Some (Ok matches) → IsTrueWord w matches before behind
+  pub families : (set : SetLooks) (look : LogLook) → IsIn set sets → IsIn look set.logs → IsTrueFamily look.family.naming look.stand before behind

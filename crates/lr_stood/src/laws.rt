@@ -19,5 +19,5 @@ ghost use Rattle.lr_stood.specs.True.{AreTrue};
 pub fn looks_are_true()
     ensures { (reserved : List Path) (rules : Rules) (sets : List SetLooks) (faults : List Fault) (front ts es : List Entry) (p q : Past)
         → (s : ShowsLooks reserved rules.sets sets faults ts) → IsJournal p → Made p es q → reverse es ≡ front ++ ts → AreQuiet front
-        → AreTrue rules.sets sets faults ts s p q }
+        → AreTrue rules.sets s.entries.first.sights sets p q }
 {}

@@ -1,10 +1,11 @@
 use Rattle.lr_placed.proofs.Lasting.{disk_on}
-use Rattle.lr_cli.proofs.Reading.{reports, stopped, lacks_at_confs, reading_counted, both_counted, confs_shape, lacking_shape}
-use Rattle.lr_cli.proofs.Smooth.{confs_taken}
+use Rattle.std.proofs.Common.{Ok, Err}
+use Rattle.lr_cli.proofs.Came.{confs_came, lacks_came}
+use Rattle.lr_cli.proofs.Reading.{reading_counted, both_counted, confs_shape, lacking_shape}
 use Rattle.lr_cli.proofs.run.run_confs.Goals as goal
 
 pub returns-in_default-clause-told : goal.returns-in_default-clause-told
-returns-in_default-clause-told g c = lacks_at_confs c.args.request.now c.args.clock.now c.as_slice.result.now c.as_slice.ensures c.in_default.ensures.lacking
+returns-in_default-clause-told g c = lacks_came c.args.request.now c.args.clock.now c.as_slice.result.now c.as_slice.ensures c.in_default.ensures.lacking
 
 pub returns-in_default-clause-shape : goal.returns-in_default-clause-shape
 returns-in_default-clause-shape g c = lacking_shape c.args.clock.now c.as_slice.result.now c.in_default.ensures.lacking
@@ -13,8 +14,7 @@ pub run-requires : goal.run-requires
 run-requires g c = record { disk = disk_on c.in-Ok.ensures.told c.requires.disk }
 
 pub returns-in-Ok-run-clause-told : goal.returns-in-Ok-run-clause-told
-returns-in-Ok-run-clause-told g c = reports c.args.request.now c.args.clock.now c.in-Ok-run.ran.plan c.in-Ok.reading c.into_vec.result.items c.in-Ok-run.ran.faults.items c.into_vec.ensures
-    (rw c.as_slice.ensures at c.in-Ok.ensures.told) c.in-Ok-run.ensures.answers
+returns-in-Ok-run-clause-told g c = confs_came c.args.request.now c.args.clock.now c.in-Ok.reading c.into_vec.result.items c.into_vec.ensures (Ok c.in-Ok-run.ran) (rw c.as_slice.ensures at c.in-Ok.ensures.told) c.in-Ok-run.ensures.told
 
 pub returns-in-Ok-run-clause-shape : goal.returns-in-Ok-run-clause-shape
 returns-in-Ok-run-clause-shape g c = confs_shape c.args.clock.now c.as_slice.result.now _ c.in-Ok.ensures.told c.run.ensures.shape
@@ -24,13 +24,7 @@ returns-in-Ok-run-clause-counted g c = both_counted c.into_vec.result.items c.in
     (reading_counted c.in-Ok.reading.faults _ _ c.in-Ok.ensures.only c.in-Ok.ensures.counted c.read_all.ensures.counts.0) c.in-Ok-run.ensures.counted
 
 pub returns-clause-told : goal.returns-clause-told
-returns-clause-told g c = stopped c.args.request.now c.args.clock.now c.in-Ok.reading c.into_vec.result.items c.in-Err.stop (rw c.as_slice.ensures at c.in-Ok.ensures.told) c.in-Err.ensures.answers
+returns-clause-told g c = confs_came c.args.request.now c.args.clock.now c.in-Ok.reading c.into_vec.result.items c.into_vec.ensures (Err c.in-Err.stop) (rw c.as_slice.ensures at c.in-Ok.ensures.told) c.in-Err.ensures.told
 
 pub returns-clause-shape : goal.returns-clause-shape
 returns-clause-shape g c = confs_shape c.args.clock.now c.as_slice.result.now _ c.in-Ok.ensures.told c.run.ensures.shape
-
-pub returns-in-Ok-run-clause-taken : goal.returns-in-Ok-run-clause-taken
-returns-in-Ok-run-clause-taken g c = confs_taken c.args.request.now c.in-Ok-run.ran.plan c.into_vec.result.items c.in-Ok.reading.faults c.in-Ok-run.ran.faults.items c.into_vec.ensures c.in-Ok.ensures.only c.in-Ok.ensures.told c.in-Ok-run.ensures.taken
-
-pub returns-in-Ok-run-clause-anew : goal.returns-in-Ok-run-clause-anew
-returns-in-Ok-run-clause-anew g c = λ dry. c.in-Ok-run.ensures.anew dry

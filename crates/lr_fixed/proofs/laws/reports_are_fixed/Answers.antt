@@ -1,5 +1,5 @@
-use Rattle.lr_fixed.proofs.Reports.{answers_one}
+use Rattle.lr_fixed.proofs.Reports.{reports_one}
 use Rattle.lr_fixed.proofs.laws.reports_are_fixed.Goals as goal
 
 pub returns : goal.returns
-returns c = answers_one
+returns c = reports_one

@@ -1,5 +1,5 @@
-use Rattle.lr_reached.proofs.Reached.{reached, told, ended}
+use Rattle.lr_reached.proofs.Value.{carried_none, carried_saw, halt_why, halt_unseen}
 use Rattle.lr_reached.proofs.laws.plan_is_reached.Goals as goal
 
 pub returns : goal.returns
-returns c = record { reached = reached; told = told; ended = ended }
+returns c = record { none_ends = carried_none; saw = carried_saw; why = halt_why; unseen = halt_unseen }

@@ -1,5 +1,5 @@
-use Rattle.lr_reached.proofs.Tried.{told_try, ended_try}
+use Rattle.lr_reached.proofs.Value.{tried_none, try_why}
 use Rattle.lr_reached.proofs.laws.try_is_reached.Goals as goal
 
 pub returns : goal.returns
-returns c = record { told = told_try; ended = ended_try }
+returns c = record { none_ends = tried_none; why = try_why }

@@ -1,8 +1,7 @@
 use Rattle.lr_host.proofs.Left.{left_as}
 use Rattle.lr_laws_targets.proofs.RunSafety.{all_safe}
 use Rattle.lr_plan.specs.Asked.{asking}
-use Rattle.lr_run.proofs.Old.{answers_of, taken_of, anew_of}
-use Rattle.lr_run.proofs.OldDry.{dry_answers}
+use Rattle.lr_run.proofs.Evidence.{answers_of}
 use Rattle.lr_run.proofs.Short.{answers_short, dry_short}
 use Rattle.lr_run.proofs.Sighted.{dry_sights, dry_shape, dry_whole, dry_copied}
 use Rattle.lr_run.proofs.asked.run.Goals as goal
@@ -12,12 +11,6 @@ returns-then-settings-clause-told g c = rw c.if-settings.true (c.dry_run.ensures
 
 pub returns-else-settings-clause-told : goal.returns-else-settings-clause-told
 returns-else-settings-clause-told g c = rw c.if-settings.false (c.real_run.ensures.told)
-
-pub returns-then-settings-clause-answers : goal.returns-then-settings-clause-answers
-returns-then-settings-clause-answers g c = rw c.if-settings.true (dry_answers c.args.settings.now.state (asking c.args.settings.now.force c.args.settings.now.mailer) c.args.clock.now c.args.rules.now c.args.earlier.items c.dry_run.result c.dry_run.ensures.told)
-
-pub returns-else-settings-clause-answers : goal.returns-else-settings-clause-answers
-returns-else-settings-clause-answers g c = rw c.if-settings.false (answers_of c.args.settings.now.state (asking c.args.settings.now.force c.args.settings.now.mailer) c.args.clock.now c.args.rules.now c.args.earlier.items c.real_run.result c.real_run.ensures.told)
 
 pub returns-then-settings-clause-shape : goal.returns-then-settings-clause-shape
 returns-then-settings-clause-shape g c = dry_shape c.args.settings.now.state c.args.rules.now c.args.clock.now (asking c.args.settings.now.force c.args.settings.now.mailer) c.args.earlier.items c.dry_run.result c.dry_run.ensures.told
@@ -30,18 +23,6 @@ returns-then-settings-clause-state g c = dry_whole c.args.settings.now.state c.a
 
 pub returns-then-settings-clause-copied : goal.returns-then-settings-clause-copied
 returns-then-settings-clause-copied g c = dry_copied c.args.settings.now.state c.args.rules.now c.args.clock.now (asking c.args.settings.now.force c.args.settings.now.mailer) c.args.earlier.items c.dry_run.result c.dry_run.ensures.told
-
-pub returns-then-settings-clause-taken : goal.returns-then-settings-clause-taken
-returns-then-settings-clause-taken g c = λ e. absurd (let yes = c.if-settings.true in cc)
-
-pub returns-else-settings-clause-taken : goal.returns-else-settings-clause-taken
-returns-else-settings-clause-taken g c = λ e. taken_of c.args.settings.now.state (asking c.args.settings.now.force c.args.settings.now.mailer) c.args.clock.now c.args.rules.now c.args.earlier.items c.real_run.result _ _ c.real_run.ensures.told c.real_run.ensures.counted
-
-pub returns-then-settings-clause-anew : goal.returns-then-settings-clause-anew
-returns-then-settings-clause-anew g c = λ e. absurd (let yes = c.if-settings.true in cc)
-
-pub returns-else-settings-clause-anew : goal.returns-else-settings-clause-anew
-returns-else-settings-clause-anew g c = λ e. anew_of c.args.settings.now.state (asking c.args.settings.now.force c.args.settings.now.mailer) c.args.clock.now c.args.rules.now c.args.earlier.items c.real_run.result c.real_run.ensures.told
 
 pub returns-then-settings-clause-short : goal.returns-then-settings-clause-short
 returns-then-settings-clause-short g c = dry_short c.args.settings.now.state c.args.rules.now c.args.clock.now (asking c.args.settings.now.force c.args.settings.now.mailer) c.args.earlier.items c.dry_run.result c.dry_run.ensures.told

@@ -7,7 +7,7 @@ use Rattle.lr_run.specs.declared.answer.Ran.{Ran}
 use Rattle.lr_run.specs.declared.answer.RunStop.TheVariants as stop
 use Rattle.lr_run.specs.Ran.{RanSo}
 use Rattle.lr_run.proofs.Emptying.{run_copied}
-use Rattle.lr_run.proofs.Old.{answers_of}
+use Rattle.lr_run.proofs.Evidence.{answers_of}
 use Rattle.lr_run.proofs.Parts.{none_made, ran_so, stopped_so}
 use Rattle.lr_run.proofs.Shape.{none_run, whole_run}
 use Rattle.lr_run.proofs.Renewing.{run_whole}

@@ -1,8 +1,5 @@
-use Rattle.lr_spared.proofs.Smooth.{acts_fail_nothing, nothing_fails}
+use Rattle.lr_spared.proofs.Run.{run_fails_nothing}
 use Rattle.lr_spared.proofs.laws.smooth_run_fails_nothing.Goals as goal
 
-pub returns-clause-acts : goal.returns-clause-acts
-returns-clause-acts c = acts_fail_nothing
-
-pub returns-clause-told : goal.returns-clause-told
-returns-clause-told c = nothing_fails
+pub returns : goal.returns
+returns c = run_fails_nothing
