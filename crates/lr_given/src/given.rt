@@ -1,4 +1,6 @@
 // The words, the directory and the time of a call.
+ghost use Rattle.std.specs.Prelude.{◌≡◌, IfOk};
+
 use crate::stop::{GivenStop, stop_of};
 use lr_rules::{Path, PathFault, Text, TextFault};
 use std::alloc::Global;
@@ -6,7 +8,9 @@ use std::env;
 use std::time::{SystemTime, UNIX_EPOCH};
 
 /// The text of these bytes.
-pub fn text_of(alloc: Global, bytes: &[u8]) -> Result<Text, GivenStop> {
+pub fn text_of(alloc: Global, bytes: &[u8]) -> Result<Text, GivenStop>
+    ensures { IfOk result (λ text. text ≡ bytes.now) }
+{
     match Text::new(alloc, bytes) {
         Ok(text) => Ok(text),
         Err(TextFault::Memory) => Err(GivenStop::Memory),
@@ -15,7 +19,9 @@ pub fn text_of(alloc: Global, bytes: &[u8]) -> Result<Text, GivenStop> {
 }
 
 /// The path of these bytes.
-pub fn path_of(alloc: Global, bytes: &[u8]) -> Result<Path, GivenStop> {
+pub fn path_of(alloc: Global, bytes: &[u8]) -> Result<Path, GivenStop>
+    ensures { IfOk result (λ path. path ≡ bytes.now) }
+{
     match Path::new(alloc, bytes) {
         Ok(path) => Ok(path),
         Err(PathFault::Memory) => Err(GivenStop::Memory),

@@ -1,8 +1,8 @@
 //! What the machine gives a program: the words of its command line, its directory, the zone and the time, and what programs
 //! tell of themselves.
 //!
-//! The contract above it: none, since nothing can be said of what a machine gives; it is safe and ends. Begin with
-//! `words_given`:
+//! The contract above it: a text or a path is of just the bytes that it is made of. Of what a machine gives nothing can be said;
+//! that is safe, and ends. Begin with `words_given`:
 //!
 //! ```text
 //! let words = words_given(&rt, rt.alloc())?;

@@ -1,7 +1,7 @@
 // What a program says of itself.
 
 // The commit that the programs are built from, which a release sets; empty where it isn't known.
-const COMMIT: &str = "4f14b3e89377";
+const COMMIT: &str = "";
 
 // The line by which the toolchain names itself (`rt version`).
 const TOOLCHAIN: &str = "rattle-kit-13f logic dac8208d650f15bf";
