@@ -72,7 +72,7 @@ impl Replay {
         self.state.tree.names.as_slice()
     }
 
-    /// The length in bytes of the file with this identity; 0 where there is none.
+    /// The length in bytes of the file with this identity, which was drawn.
     pub fn size_of(&self, identity: u64) -> u64
         ensures { (w : World) → Shows self.now w → identity < w.drawn → result ≡ length (w.files identity).bytes }
     {

@@ -75,7 +75,7 @@ pub word_behind : (word : List ℕ) → is_absolute word ≡ true → word ≡ b
 word_behind [] a = absurd (cc)
 word_behind (b ∷ bs) a = ap (λ x. x ∷ bs) ((Decides-eqb b 47).0 a) ∙ sym (split_behind bs)
 
-split_plain : (bs part : List ℕ) → IsIn part (slice_split is_slash bs) → list_any is_slash part ≡ false
+pub split_plain : (bs part : List ℕ) → IsIn part (slice_split is_slash bs) → list_any is_slash part ≡ false
 split_plain [] part (inl e) = ap (list_any is_slash) (sym e)
 split_plain [] part (inr i) = absurd i
 split_plain (b ∷ bs) part i = by (is_slash b) refl (slice_split is_slash bs) (split_parts bs) (λ p j. split_plain bs p j) i

@@ -23,7 +23,8 @@ fn has_end(end: &[u8], bytes: &[u8]) -> bool
     end.len() <= bytes.len() && &bytes[bytes.len() - end.len()..] == end
 }
 
-fn is_part_file(bytes: &[u8]) -> bool
+/// Whether the path is that of a copy that isn't whole yet.
+pub fn is_part_file(bytes: &[u8]) -> bool
     ensures { result ≡ ends_with part_end bytes.now }
 {
     has_end(PART_END, bytes)

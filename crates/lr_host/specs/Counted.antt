@@ -1,8 +1,8 @@
 -- Faults that a call adds, and what the counts of its host tell of them.
-use Rattle.std.specs.Prelude.{◌≡◌, ◌≤◌, ◌+◌, ◌-◌, ◌^◌, min, ℕ, List, [], ◌∷◌, ◌++◌}
+use Rattle.std.specs.Prelude.{◌≡◌, ◌≤◌, ◌+◌, ◌-◌, ◌^◌, min, ℕ, List, [], ◌∷◌, ◌++◌, Result, Ok, Err}
 use Rattle.lr_rules.specs.declared.fault.Fault.{Fault}
 use Rattle.lr_rules.specs.declared.fault.Fault.TheVariants as fault
-use Rattle.lr_host.specs.Told.{Counts}
+use Rattle.lr_host.specs.Told.{Counts, Onward}
 
 -- how many of the faults are failed calls
 abbrev pub call_in : Fault → ℕ
@@ -49,3 +49,13 @@ pub record AddsFaults (before after : List Fault) (counted counts : Counts) : Ty
   pub added : List Fault
   pub after_is : after ≡ before ++ added
   pub are_counted : AreCounted added counted counts
+
+-- Such faults were added, each failed call and each bad end among them counted; no count fell, and the lock is as it was.
+pub record Went (before after : List Fault) (counted counts : Counts) : Type 0 where
+  pub adds : AddsFaults before after counted counts
+  pub onward : Onward counted counts
+
+-- so it went where the call ended well; of one that found no memory only that no count fell
+abbrev pub WentBy : {T E : Type 0} → Result T E → List Fault → List Fault → Counts → Counts → Type 0
+WentBy (Ok x) before after counted counts = Went before after counted counts
+WentBy (Err why) before after counted counts = Onward counted counts

@@ -63,11 +63,11 @@ looking_stops spots (stop.Call kind path) ts s = looking_to spots path (Are []) 
 looking_stops spots (stop.NotFile path) ts s = looking_to spots path (Sees path IsNoFile) ts (looking_sees path IsNoFile) s
 looking_stops spots stop.Memory ts s = subst AreLooking (sym s.looks) (looking_sights s.sights)
 
-looking_members : (n : Naming) (there : Bool) (names : List _) (members : List Member) (ts : List Entry) → ShowsMembers n there names members ts → AreLooking ts
+pub looking_members : (n : Naming) (there : Bool) (names : List _) (members : List Member) (ts : List Entry) → ShowsMembers n there names members ts → AreLooking ts
 looking_members n true names members ts s = subst AreLooking (sym s.looks.looks) (looking_sights s.looks.sights)
 looking_members n false names members ts h = looking_none ts h.1
 
-looking_none_in : (n : Naming) (there : Bool) (names : List _) (why : StandStop) (ts : List Entry) → ShowsNoneIn n there names why ts → AreLooking ts
+pub looking_none_in : (n : Naming) (there : Bool) (names : List _) (why : StandStop) (ts : List Entry) → ShowsNoneIn n there names why ts → AreLooking ts
 looking_none_in n true names why ts (inl h) = looking_none ts h.1
 looking_none_in n true names why ts (inr (inl s)) = looking_stops s.spots why ts s.looks
 looking_none_in n true names why ts (inr (inr b)) = looking_both ts (looking_members n true names b.0) (looking_no_parts n names why) b.1
@@ -83,7 +83,7 @@ looking_members_in n l (Stopped why) ts (inr h) = looking_none_in n l.there l.na
 looking_list : (dir : Path) (names : List _) (ts : List Entry) → HasListed dir names ts → AreLooking ts
 looking_list dir names ts l = subst AreLooking (sym l.list) (tt, tt)
 
-looking_listing : (dir : Path) (there parent : Bool) (names : List _) (ts : List Entry) → ShowsListing dir there parent names ts → AreLooking ts
+pub looking_listing : (dir : Path) (there parent : Bool) (names : List _) (ts : List Entry) → ShowsListing dir there parent names ts → AreLooking ts
 looking_listing dir true parent names ts h = looking_both ts (looking_sees dir IsDir) (looking_list dir names) h.1
 looking_listing dir false parent names ts h = looking_both ts (looking_sees dir IsNothing) (looking_sees (parent_of dir) (λ seen. is_dir seen ≡ parent)) h.1
 
@@ -93,7 +93,7 @@ looking_not_at dir call.Look path ts (inr h) = looking_sees dir IsNothing ts h.1
 looking_not_at dir call.List path ts h = looking_sees dir IsDir ts h.1
 looking_not_at dir _ path ts h = absurd h
 
-looking_not : (dir : Path) (why : StandStop) (ts : List Entry) → NotListed dir why ts → AreLooking ts
+pub looking_not : (dir : Path) (why : StandStop) (ts : List Entry) → NotListed dir why ts → AreLooking ts
 looking_not dir (stop.Call kind path) ts h = looking_not_at dir kind path ts h
 looking_not dir (stop.NotFile path) ts h = looking_sees dir IsNoDir ts h.1
 looking_not dir stop.Memory ts (inl e) = looking_none ts e
