@@ -12,8 +12,10 @@ use Rattle.lr_acts.specs.declared.progress.Progress.{Progress}
 use Rattle.lr_acts.specs.Named.{KeepsNames}
 use Rattle.lr_acts.specs.Taken.{TakenOnly}
 
--- The marks and faults of this part of the acts, which has these steps, were added, each fault with its cause: the counts tell of failed calls and of bad ends, and a path that is told as taken was named. The part left its entries.
-pub record Adds (P : Part) (steps : List Step) (before now : Progress) (told later : Option Journal) (counted counts : Counts) : Type 0 where
+-- The marks and faults of this part of the acts, which has these steps, were added, each fault with its cause: the counts tell of
+-- failed calls and of bad ends, and a path that is told as taken was named. The part left its entries.
+pub record Adds (P : Part) (steps : List Step) (before now : Progress) (told later : Option Journal)
+    (counted counts : Counts) : Type 0 where
   pub marks : List Mark
   pub faults : List Fault
   pub marks_are : now.marks.items ≡ before.marks.items ++ marks

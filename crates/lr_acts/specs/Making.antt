@@ -44,7 +44,8 @@ abbrev pub list_of : Option Mark → List Mark
 list_of None = []
 list_of (Some m) = m ∷ []
 
--- A failed call is told only where faults rose, a bad end only where bad ends did, a taken path only where it is named; the clock, the zone and the output have no fault here.
+-- A failed call is told only where faults rose, a bad end only where bad ends did, a taken path only where it is named; the clock,
+-- the zone and the output have no fault here.
 abbrev pub FaultCause : Fault → Counts → Counts → Option Journal → Option Journal → Type 0
 FaultCause (fault.Call kind path) before now told later = Rose before.faults now.faults
 FaultCause (fault.Script phase on end) before now told later = Rose before.bad_ends now.bad_ends

@@ -18,7 +18,8 @@ IsNamed path told = WhereTold told (λ p. names (world p) path ≢ thing.Nothing
 -- something had the path at a moment between
 pub data WasNamed (path : Path) : Option Journal → Option Journal → Type 0 where
   untold : WasNamed path None None
-  at_moment : {j k : Journal} {es fs : List Entry} (p : Past) → Made (past j) es p → names (world p) path ≢ thing.Nothing → Made p fs (past k) → WasNamed path (Some j) (Some k)
+  at_moment : {j k : Journal} {es fs : List Entry} (p : Past) → Made (past j) es p → names (world p) path ≢ thing.Nothing
+      → Made p fs (past k) → WasNamed path (Some j) (Some k)
 
 -- the step takes the name of this path away; none of the steps does
 abbrev pub TakesName : Path → Step → Type 0
@@ -53,7 +54,8 @@ abbrev pub TellCreated : Path → List Mark → Type 0
 TellCreated path [] = ⊥
 TellCreated path (m ∷ marks) = IsCreated path m ⊎ TellCreated path marks
 
--- Of acts by these steps, which left these marks: a path that is named stays so, where none of the steps takes its name; a log that was made anew is named at the end, where no step behind took its name.
+-- Of acts by these steps, which left these marks: a path that is named stays so, where none of the steps takes its name; a log that
+-- was made anew is named at the end, where no step behind took its name.
 pub record KeepsNames (steps : List Step) (marks : List Mark) (told later : Option Journal) : Type 0 where
   pub kept : (path : Path) → KeepName path steps → IsNamed path told → IsNamed path later
   pub created : (path : Path) → LastsBehind path steps → TellCreated path marks → IsNamed path later

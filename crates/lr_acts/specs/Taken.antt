@@ -1,4 +1,5 @@
--- A path that a new file needs, and what had it. A make that finds its path named leaves no entry, so the entries alone don't tell it.
+-- A path that a new file needs, and what had it. A make that finds its path named leaves no entry, so the entries alone don't tell
+-- it.
 use Rattle.std.specs.Prelude.{◌≡◌, ◌≢◌, ◌⊎◌, List, [], ◌∷◌, Option, Some, None}
 use Rattle.lr_rules.specs.declared.path.Path.{Path}
 use Rattle.lr_rules.specs.declared.fault.Fault.{Fault}
@@ -22,7 +23,8 @@ Spares path _ = Unit {0}
 -- something had the path at a moment between, from which on the tool unlinked it no more
 pub data WasTaken (path : Path) : Option Journal → Option Journal → Type 0 where
   no_journal : WasTaken path None None
-  at_last : {j k : Journal} {es fs : List Entry} (p : Past) → Made (past j) es p → names (world p) path ≢ thing.Nothing → Made p fs (past k) → Each (Spares path) fs → WasTaken path (Some j) (Some k)
+  at_last : {j k : Journal} {es fs : List Entry} (p : Past) → Made (past j) es p → names (world p) path ≢ thing.Nothing
+      → Made p fs (past k) → Each (Spares path) fs → WasTaken path (Some j) (Some k)
 
 -- the step makes a new file at this path; one of the steps does
 abbrev pub TakesAt : Path → Step → Type 0
@@ -47,7 +49,8 @@ abbrev pub LastTaken : Path → List Step → Type 0
 LastTaken path [] = Unit {0}
 LastTaken path (step ∷ steps) = (TakesAt path step → NoneRemoves path steps) × LastTaken path steps
 
--- Of acts by these steps, with these faults: each path that is told as taken was named at a moment, and where no step behind the one that needs it unlinks it, at one from which on the tool unlinked it no more.
+-- Of acts by these steps, with these faults: each path that is told as taken was named at a moment, and where no step behind the
+-- one that needs it unlinks it, at one from which on the tool unlinked it no more.
 pub record TakenOnly (steps : List Step) (faults : List Fault) (told later : Option Journal) : Type 0 where
   pub taken : (path : Path) → LastTaken path steps → IsIn (fault.Taken path) faults → WasTaken path told later
   pub named : (path : Path) → IsIn (fault.Taken path) faults → WasNamed path told later

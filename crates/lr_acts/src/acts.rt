@@ -27,7 +27,8 @@ fn take_step<H: Host>(
 ) -> Result<bool, Memory>
     requires fits { CanAll (H.told host.old) (asks step) }
     requires room { HasRoom 1 progress.old }
-    ensures told { Adds (StepEnds step result) (step ∷ []) progress.old progress.new (H.told host.old) (H.told host.new) (H.counts host.old) (H.counts host.new) }
+    ensures told { Adds (StepEnds step result) (step ∷ []) progress.old progress.new (H.told host.old) (H.told host.new)
+        (H.counts host.old) (H.counts host.new) }
     ensures fills { Fills 1 progress.old progress.new }
     ensures memory { OnErr result (IsProgram step) }
 {
@@ -54,7 +55,8 @@ fn make_all<H: Host>(
 ) -> Result<bool, Memory>
     requires fits { CanMake (H.told host.old) steps }
     requires room { HasRoom (length steps) progress.old }
-    ensures told { Adds (StepsEnd steps result) steps progress.old progress.new (H.told host.old) (H.told host.new) (H.counts host.old) (H.counts host.new) }
+    ensures told { Adds (StepsEnd steps result) steps progress.old progress.new (H.told host.old) (H.told host.new)
+        (H.counts host.old) (H.counts host.new) }
     ensures fills { Fills (length steps) progress.old progress.new }
     ensures memory { OnErr result (HasProgram steps) }
 {
@@ -76,7 +78,8 @@ fn make_each<H: Host>(
 ) -> Result<(), Memory>
     requires fits { CanEach (H.told host.old) each }
     requires room { HasRoom (length (all_of_each each)) progress.old }
-    ensures told { Adds (Ends (EachDone each) (ListCut Course CourseCut each) result) (all_of_each each) progress.old progress.new (H.told host.old) (H.told host.new) (H.counts host.old) (H.counts host.new) }
+    ensures told { Adds (Ends (EachDone each) (ListCut Course CourseCut each) result) (all_of_each each) progress.old progress.new
+        (H.told host.old) (H.told host.new) (H.counts host.old) (H.counts host.new) }
     ensures fills { Fills (length (all_of_each each)) progress.old progress.new }
     ensures memory { OnErr result (HasProgram (all_of_each each)) }
 {
@@ -97,7 +100,8 @@ fn make_logs<H: Host>(
     requires fits { CanEach (H.told host.old) each }
     requires fits_last { (later : Option Journal) → LeadsTo (EachDone each) (H.told host.old) later → CanMake later last }
     requires room { HasRoom (length (all_of_each each ++ last)) progress.old }
-    ensures told { Adds (Ends (LogsDone each last) (LogsCut each last) result) (all_of_each each ++ last) progress.old progress.new (H.told host.old) (H.told host.new) (H.counts host.old) (H.counts host.new) }
+    ensures told { Adds (Ends (LogsDone each last) (LogsCut each last) result) (all_of_each each ++ last) progress.old progress.new
+        (H.told host.old) (H.told host.new) (H.counts host.old) (H.counts host.new) }
     ensures fills { Fills (length (all_of_each each ++ last)) progress.old progress.new }
     ensures memory { OnErr result (HasProgram (all_of_each each ++ last)) }
 {
@@ -118,7 +122,8 @@ fn make_set<H: Host>(
 ) -> Result<(), Memory>
     requires fits { CanSet (H.told host.old) set }
     requires room { HasRoom (length (all_of_set set)) progress.old }
-    ensures told { Adds (Ends (SetDone set) (SetCut set) result) (all_of_set set) progress.old progress.new (H.told host.old) (H.told host.new) (H.counts host.old) (H.counts host.new) }
+    ensures told { Adds (Ends (SetDone set) (SetCut set) result) (all_of_set set) progress.old progress.new (H.told host.old)
+        (H.told host.new) (H.counts host.old) (H.counts host.new) }
     ensures fills { Fills (length (all_of_set set)) progress.old progress.new }
     ensures memory { OnErr result (HasProgram (all_of_set set)) }
 {
@@ -142,7 +147,8 @@ pub fn act<H: Host>(
 ) -> Result<(), Memory>
     requires fits { CanSets (H.told host.old) sets }
     requires room { HasRoom (length (all_of_sets sets)) progress.old }
-    ensures told { Adds (Ends (SetsDone sets) (SetsCut sets) result) (all_of_sets sets) progress.old progress.new (H.told host.old) (H.told host.new) (H.counts host.old) (H.counts host.new) }
+    ensures told { Adds (Ends (SetsDone sets) (SetsCut sets) result) (all_of_sets sets) progress.old progress.new (H.told host.old)
+        (H.told host.new) (H.counts host.old) (H.counts host.new) }
     ensures fills { Fills (length (all_of_sets sets)) progress.old progress.new }
     ensures memory { OnErr result (HasProgram (all_of_sets sets)) }
 {

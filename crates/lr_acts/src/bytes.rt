@@ -38,7 +38,8 @@ pub fn copy_file<H: Host>(
     requires append { Can (H.told host.old) (entry.Appends to []) }
     ensures told { Left (StepLeft (step.Copies from to limit) result) (H.told host.old) (H.told host.new) }
     ensures marks { IfOk result (λ told. list_of told ≡ []) }
-    ensures cause { IfErr result (λ why. StopCause why (H.counts host.old) (H.counts host.new) (H.told host.old) (H.told host.new)) }
+    ensures cause { IfErr result (λ why. StopCause why (H.counts host.old) (H.counts host.new) (H.told host.old)
+        (H.told host.new)) }
     ensures memory { result ≢ Err stop.Memory }
     ensures counts { Onward (H.counts host.old) (H.counts host.new) }
 {

@@ -44,7 +44,8 @@ pub fn run_program<H: Host>(
     requires { Can (H.told host.old) (runs command ended.Killed) }
     ensures told { Left (StepLeft (step.Runs phase on command) result) (H.told host.old) (H.told host.new) }
     ensures marks { IfOk result (λ told. list_of told ≡ []) }
-    ensures cause { IfErr result (λ why. StopCause why (H.counts host.old) (H.counts host.new) (H.told host.old) (H.told host.new)) }
+    ensures cause { IfErr result (λ why. StopCause why (H.counts host.old) (H.counts host.new) (H.told host.old)
+        (H.told host.new)) }
     ensures counts { Onward (H.counts host.old) (H.counts host.new) }
 {
     match run_phase(alloc, host, phase, &command) {
@@ -58,7 +59,8 @@ pub fn remove_file<H: Host>(host: &mut H, path: Path) -> Result<Option<Mark>, St
     requires { Can (H.told host.old) (entry.Unlinks path) }
     ensures told { Left (StepLeft (step.Removes path) result) (H.told host.old) (H.told host.new) }
     ensures marks { IfOk result (λ told. list_of told ≡ []) }
-    ensures cause { IfErr result (λ why. StopCause why (H.counts host.old) (H.counts host.new) (H.told host.old) (H.told host.new)) }
+    ensures cause { IfErr result (λ why. StopCause why (H.counts host.old) (H.counts host.new) (H.told host.old)
+        (H.told host.new)) }
     ensures memory { result ≢ Err stop.Memory }
     ensures counts { Onward (H.counts host.old) (H.counts host.new) }
 {
@@ -73,7 +75,8 @@ pub fn rename_file<H: Host>(host: &mut H, from: Path, to: Path) -> Result<Option
     requires { Can (H.told host.old) (entry.Renames from to) }
     ensures told { Left (StepLeft (step.Renames from to) result) (H.told host.old) (H.told host.new) }
     ensures marks { IfOk result (λ told. list_of told ≡ []) }
-    ensures cause { IfErr result (λ why. StopCause why (H.counts host.old) (H.counts host.new) (H.told host.old) (H.told host.new)) }
+    ensures cause { IfErr result (λ why. StopCause why (H.counts host.old) (H.counts host.new) (H.told host.old)
+        (H.told host.new)) }
     ensures memory { result ≢ Err stop.Memory }
     ensures counts { Onward (H.counts host.old) (H.counts host.new) }
 {
@@ -103,7 +106,8 @@ pub fn make_directory<H: Host>(
     requires { Can (H.told host.old) (entry.MakesDir path mode) }
     ensures told { Left (StepLeft (step.MakesDir path mode) result) (H.told host.old) (H.told host.new) }
     ensures marks { IfOk result (λ told. list_of told ≡ mark.Directory path ∷ []) }
-    ensures cause { IfErr result (λ why. StopCause why (H.counts host.old) (H.counts host.new) (H.told host.old) (H.told host.new)) }
+    ensures cause { IfErr result (λ why. StopCause why (H.counts host.old) (H.counts host.new) (H.told host.old)
+        (H.told host.new)) }
     ensures memory { result ≢ Err stop.Memory }
     ensures counts { Onward (H.counts host.old) (H.counts host.new) }
 {
@@ -123,7 +127,8 @@ pub fn create_file<H: Host>(
     ensures told { Left (StepLeft (step.Creates path mode) result) (H.told host.old) (H.told host.new) }
     ensures marks { IfOk result (λ told. list_of told ≡ mark.Created path ∷ []) }
     ensures named { IfOk result (λ told. IsNamed path (H.told host.new)) }
-    ensures cause { IfErr result (λ why. StopCause why (H.counts host.old) (H.counts host.new) (H.told host.old) (H.told host.new)) }
+    ensures cause { IfErr result (λ why. StopCause why (H.counts host.old) (H.counts host.new) (H.told host.old)
+        (H.told host.new)) }
     ensures memory { result ≢ Err stop.Memory }
     ensures counts { Onward (H.counts host.old) (H.counts host.new) }
 {
@@ -139,7 +144,8 @@ pub fn take_file<H: Host>(host: &mut H, path: Path, mode: Option<u32>) -> Result
     requires { Can (H.told host.old) (entry.Makes path mode) }
     ensures told { Left (StepLeft (step.Takes path mode) result) (H.told host.old) (H.told host.new) }
     ensures marks { IfOk result (λ told. list_of told ≡ []) }
-    ensures cause { IfErr result (λ why. StopCause why (H.counts host.old) (H.counts host.new) (H.told host.old) (H.told host.new)) }
+    ensures cause { IfErr result (λ why. StopCause why (H.counts host.old) (H.counts host.new) (H.told host.old)
+        (H.told host.new)) }
     ensures memory { result ≢ Err stop.Memory }
     ensures counts { Onward (H.counts host.old) (H.counts host.new) }
 {
@@ -155,7 +161,8 @@ pub fn sync_file<H: Host>(host: &mut H, path: Path) -> Result<Option<Mark>, Stop
     requires { Can (H.told host.old) (entry.SyncsFile path) }
     ensures told { Left (StepLeft (step.SyncsFile path) result) (H.told host.old) (H.told host.new) }
     ensures marks { IfOk result (λ told. list_of told ≡ []) }
-    ensures cause { IfErr result (λ why. StopCause why (H.counts host.old) (H.counts host.new) (H.told host.old) (H.told host.new)) }
+    ensures cause { IfErr result (λ why. StopCause why (H.counts host.old) (H.counts host.new) (H.told host.old)
+        (H.told host.new)) }
     ensures memory { result ≢ Err stop.Memory }
     ensures counts { Onward (H.counts host.old) (H.counts host.new) }
 {
@@ -170,7 +177,8 @@ pub fn sync_directory<H: Host>(host: &mut H, path: Path) -> Result<Option<Mark>,
     requires { Can (H.told host.old) (entry.SyncsDir path) }
     ensures told { Left (StepLeft (step.SyncsDir path) result) (H.told host.old) (H.told host.new) }
     ensures marks { IfOk result (λ told. list_of told ≡ []) }
-    ensures cause { IfErr result (λ why. StopCause why (H.counts host.old) (H.counts host.new) (H.told host.old) (H.told host.new)) }
+    ensures cause { IfErr result (λ why. StopCause why (H.counts host.old) (H.counts host.new) (H.told host.old)
+        (H.told host.new)) }
     ensures memory { result ≢ Err stop.Memory }
     ensures counts { Onward (H.counts host.old) (H.counts host.new) }
 {
@@ -185,7 +193,8 @@ pub fn empty_file<H: Host>(host: &mut H, path: Path) -> Result<Option<Mark>, Sto
     requires { Can (H.told host.old) (entry.Truncates path) }
     ensures told { Left (StepLeft (step.Truncates path) result) (H.told host.old) (H.told host.new) }
     ensures marks { IfOk result (λ told. list_of told ≡ []) }
-    ensures cause { IfErr result (λ why. StopCause why (H.counts host.old) (H.counts host.new) (H.told host.old) (H.told host.new)) }
+    ensures cause { IfErr result (λ why. StopCause why (H.counts host.old) (H.counts host.new) (H.told host.old)
+        (H.told host.new)) }
     ensures memory { result ≢ Err stop.Memory }
     ensures counts { Onward (H.counts host.old) (H.counts host.new) }
 {

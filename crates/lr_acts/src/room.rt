@@ -51,7 +51,8 @@ fn count_all(sets: &[SetSteps]) -> Result<usize, Memory>
 /// 65,536 bytes. What came before stays.
 pub fn take_room(progress: &mut Progress, sets: &[SetSteps]) -> Result<(), Memory>
     ensures room { OnOk result (HasRoom (length (all_of_sets sets.now)) progress.new) }
-    ensures two_more { OnOk result (vec_len progress.new.faults + length (all_of_sets sets.now) + 2 ≤ vec_capacity progress.new.faults) }
+    ensures two_more { OnOk result (vec_len progress.new.faults + length (all_of_sets sets.now) + 2 ≤ vec_capacity
+        progress.new.faults) }
     ensures marks { progress.new.marks.items ≡ progress.old.marks.items }
     ensures faults { progress.new.faults.items ≡ progress.old.faults.items }
 {

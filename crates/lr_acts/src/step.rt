@@ -33,7 +33,8 @@ pub fn make<H: Host>(
     ensures told { Left (StepLeft step result) (H.told host.old) (H.told host.new) }
     ensures marks { IfOk result (λ told. list_of told ≡ marks_of step) }
     ensures named { StepNames step result (H.told host.new) }
-    ensures cause { IfErr result (λ why. StopCause why (H.counts host.old) (H.counts host.new) (H.told host.old) (H.told host.new)) }
+    ensures cause { IfErr result (λ why. StopCause why (H.counts host.old) (H.counts host.new) (H.told host.old)
+        (H.told host.new)) }
     ensures memory { result ≡ Err stop.Memory → IsProgram step }
     ensures counts { Onward (H.counts host.old) (H.counts host.new) }
 {

@@ -35,7 +35,8 @@ pub fn append_text<H: Host>(host: &mut H, path: Path, text: Text) -> Result<Opti
     requires { Can (H.told host.old) (entry.Appends path []) }
     ensures told { Left (StepLeft (step.Appends path text) result) (H.told host.old) (H.told host.new) }
     ensures marks { IfOk result (λ told. list_of told ≡ []) }
-    ensures cause { IfErr result (λ why. StopCause why (H.counts host.old) (H.counts host.new) (H.told host.old) (H.told host.new)) }
+    ensures cause { IfErr result (λ why. StopCause why (H.counts host.old) (H.counts host.new) (H.told host.old)
+        (H.told host.new)) }
     ensures memory { result ≢ Err stop.Memory }
     ensures counts { Onward (H.counts host.old) (H.counts host.new) }
 {

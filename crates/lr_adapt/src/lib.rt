@@ -5,23 +5,34 @@
 //! and the lock that was taken is given back by `end`. Begin with `RealHost::new`.
 //!
 //! **What is trusted.** No contract can say what a file of the machine holds, so both tell nothing: no journal, no bytes
-//! taken. That the machine does what each call asks for is trusted, and is tried by `demo/host-calls` on a real directory:
+//! taken. That the machine does what each call asks for is trusted, and is tried by `demo/host-calls` on a real directory. What
+//! each does there:
 //!
-//! | call | on the machine |
-//! |---|---|
-//! | `begin` | opens the file of the state's name with `.lock` behind it, which is made with mode 0600 where it is missing, and takes its lock (`flock`) without waiting; false where another has it |
-//! | `end` | closes that file, which gives the lock back, as the end of the process does; the file stays |
-//! | `look` | `lstat`, or `stat` where links are followed; a part that is missing or no directory means that nothing is there |
-//! | `list` | the names of the directory, but for `.` and `..`, those that aren't UTF-8, and those with a newline |
-//! | `read` | reads once from the place on; the file is held open while `lstat` says that the path names it, and another that got its path isn't read on from its middle. Behind a making, up to the sync of what was made, it is read for a copy: then it has one name, and the first such file has the mode that the copy was made with |
-//! | `rename` | `rename`; where the file went is noted, and whose it is where it leaves its directory |
-//! | `make_new` | opens with `O_EXCL`, so a link that leads nowhere is a name too; then `fchown` to whom the file belongs that the last rename took from this path, and `fchmod`, since the process's mask cuts the mode; where one is refused the name is taken away again. The file is held open |
-//! | `append` | writes once behind the end: of the file that was made last, where it was made by this path and the path names it still; else of one that the path names, which has one name; one that is missing isn't made |
-//! | `truncate` | cuts to nothing (`ftruncate`) what was read last, where it was read by this path and the path names it still; else a file that the path names; it has one name |
-//! | `unlink` | `unlink` |
-//! | `sync_file`, `sync_dir` | `fsync` of the file that was made last, where it was made by this path and the path names it still, else of what the path names, or of the directory; a file that was made, and behind whose making another was read, is given to whom that belongs before |
-//! | `make_dir` | `mkdir`, then `fchmod`, where the process's mask cut the mode, on a directory that is younger than its parent's last change before; with a mode it waits, two seconds at most, until the clock of the file systems has moved on since that change: by 20 milliseconds, and as a change of the lock's file tells it, which is given the mode that it has |
-//! | `run` | starts the program, with the environment, working directory and output of this one, and waits for its end; without a file its input is empty (`/dev/null`), and a file that it gets has one name |
+//! - `begin`: opens the file of the state's name with `.lock` behind it, which is made with mode 0600 where it is missing, and
+//!   takes its lock (`flock`) without waiting; false where another has it
+//! - `end`: closes that file, which gives the lock back, as the end of the process does; the file stays
+//! - `look`: `lstat`, or `stat` where links are followed; a part that is missing or no directory means that nothing is there
+//! - `list`: the names of the directory, but for `.` and `..`, those that aren't UTF-8, and those with a newline
+//! - `read`: reads once from the place on; the file is held open while `lstat` says that the path names it, and another that
+//!   got its path isn't read on from its middle. Behind a making, up to the sync of what was made, it is read for a copy: then
+//!   it has one name, and the first such file has the mode that the copy was made with
+//! - `rename`: `rename`; where the file went is noted, and whose it is where it leaves its directory
+//! - `make_new`: opens with `O_EXCL`, so a link that leads nowhere is a name too; then `fchown` to whom the file belongs that
+//!   the last rename took from this path, and `fchmod`, since the process's mask cuts the mode; where one is refused the name
+//!   is taken away again. The file is held open
+//! - `append`: writes once behind the end: of the file that was made last, where it was made by this path and the path names it
+//!   still; else of one that the path names, which has one name; one that is missing isn't made
+//! - `truncate`: cuts to nothing (`ftruncate`) what was read last, where it was read by this path and the path names it still;
+//!   else a file that the path names; it has one name
+//! - `unlink`: `unlink`
+//! - `sync_file`, `sync_dir`: `fsync` of the file that was made last, where it was made by this path and the path names it
+//!   still, else of what the path names, or of the directory; a file that was made, and behind whose making another was read,
+//!   is given to whom that belongs before
+//! - `make_dir`: `mkdir`, then `fchmod`, where the process's mask cut the mode, on a directory that is younger than its
+//!   parent's last change before; with a mode it waits, two seconds at most, until the clock of the file systems has moved on
+//!   since that change: by 20 milliseconds, and as a change of the lock's file tells it, which is given the mode that it has
+//! - `run`: starts the program, with the environment, working directory and output of this one, and waits for its end; without
+//!   a file its input is empty (`/dev/null`), and a file that it gets has one name
 //!
 //! **What others may change.** Each file that is opened, but for what `read` follows, is a regular one that its own path names: its
 //! device and number are those that `lstat` tells behind the opening; else the call fails. The directories above it, but for

@@ -19,7 +19,8 @@ use Rattle.lr_chain.specs.Rotation.{is_expired}
 use Rattle.lr_chain.specs.DatedRotation.{Ranked, key_of, gone}
 use Rattle.lr_chain.specs.Serials.{next_serial}
 
--- the moment of a place, and its serial number; a dated family has no numbers, which count as moments before 1970 as in the order of members
+-- the moment of a place, and its serial number; a dated family has no numbers, which count as moments before 1970 as in the order
+-- of members
 abbrev pub seconds_in : Place → ℤ
 seconds_in (at.Stamp seconds serial) = seconds
 seconds_in (at.Number place) = neg_ℤ (pos place)
@@ -30,7 +31,12 @@ serial_in (at.Number place) = 0
 
 -- a member as its rotation sees it: it is too old that was modified more than so many days before now
 abbrev pub ranked : Option ℕ → ℤ → Member → Ranked
-ranked maxage now m = record { path = m.path; seconds = seconds_in m.place; serial = serial_in m.place; old = is_expired maxage now m }
+ranked maxage now m = record {
+  path = m.path;
+  seconds = seconds_in m.place;
+  serial = serial_in m.place;
+  old = is_expired maxage now m;
+}
 
 -- the log, once it has this name; its age isn't tested
 abbrev pub renamed : ℤ → ℕ → Path → Ranked
@@ -59,7 +65,8 @@ abbrev pub stamp_by : Option Format → Clock → List ℕ
 stamp_by None clock = []
 stamp_by (Some format) clock = stamp_of format clock
 
--- The path of the clock's stamp with this serial number: the base, the stamp, a dot and the number where it is above 0, and the extension.
+-- The path of the clock's stamp with this serial number: the base, the stamp, a dot and the number where it is above 0, and the
+-- extension.
 abbrev pub dated_path : Naming → Clock → ℕ → Path
 dated_path n clock serial = joined n.dir (n.base ++ (stamp_by n.dated clock ++ serial_text serial) ++ n.ext)
 
@@ -69,16 +76,19 @@ dated_target n clock members = dated_path n clock (next_serial members (clock_se
 
 -- the members, the newest first, once the log has that name
 abbrev pub all_by : Naming → Option ℕ → Clock → List Member → List Ranked
-all_by n maxage clock members = all_of maxage clock.now.seconds (clock_seconds n.dated clock) (next_serial members (clock_seconds n.dated clock)) (dated_target n clock members) members
+all_by n maxage clock members = all_of maxage clock.now.seconds (clock_seconds n.dated clock)
+    (next_serial members (clock_seconds n.dated clock)) (dated_target n clock members) members
 
 -- ---- the whole rotation
 
--- The removals behind the log's rename: of the members and the log under its new name those that the count leaves no room for, and of the members those that were modified more than `maxage` days before the clock's moment, the oldest first.
+-- The removals behind the log's rename: of the members and the log under its new name those that the count leaves no room for, and
+-- of the members those that were modified more than `maxage` days before the clock's moment, the oldest first.
 abbrev pub dated_removals : Naming → Count → Option ℕ → Clock → List Member → List Removal
 dated_removals n c maxage clock members =
     map removal_of (reverse (gone c 0 (all_by n maxage clock members)))
 
--- The rotation to this name, which has this moment and this serial number: no member moves, those that go are removed behind it, the oldest first, and the log is made anew so.
+-- The rotation to this name, which has this moment and this serial number: no member moves, those that go are removed behind it,
+-- the oldest first, and the log is made anew so.
 abbrev pub ready_to : Path → Count → Option ℕ → ℤ → Make → ℤ → ℕ → Path → List Member → Ready
 ready_to log c maxage now anew seconds serial target members = record {
   leftovers = [];

@@ -36,16 +36,19 @@ too_high path = fault.TooHigh path
 abbrev pub taken : Path → Fault
 taken path = fault.Taken path
 
--- What keeps the log from being rotated to the moment of a stamp: where names have serial numbers, a member of that moment has the greatest that there is, so that none comes next; where they have none, the name is a member's.
+-- What keeps the log from being rotated to the moment of a stamp: where names have serial numbers, a member of that moment has the
+-- greatest that there is, so that none comes next; where they have none, the name is a member's.
 abbrev pub stamp_hindrances : Format → ℤ → List Member → List Fault
-stamp_hindrances format seconds members = if format.serial then fault_at too_high seconds 4294967295 members else fault_at taken seconds 0 members
+stamp_hindrances format seconds members = if format.serial then fault_at too_high seconds 4294967295 members else fault_at taken
+    seconds 0 members
 
 -- all members are kept
 abbrev pub keeps_all : Count → Bool
 keeps_all count.Always = true
 keeps_all (count.Keep n) = false
 
--- What keeps it from being rotated to the first of the numbered places: all members are kept, and one has the highest number that there is, so that it would have to move.
+-- What keeps it from being rotated to the first of the numbered places: all members are kept, and one has the highest number that
+-- there is, so that it would have to move.
 abbrev pub number_hindrances : Naming → Count → List Member → List Fault
 number_hindrances n c members = if keeps_all c && list_any (is_highest n) members then fault.TooHigh (highest_path n) ∷ [] else []
 

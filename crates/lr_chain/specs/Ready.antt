@@ -34,7 +34,15 @@ at_rest log n anew = record { leftovers = []; dir = None; moves = []; log = log;
 
 -- the same rotation, by which this directory is made, or none
 abbrev pub with_dir : Option (Path × Option ℕ) → Ready → Ready
-with_dir dir ready = record { leftovers = ready.leftovers; dir = dir; moves = ready.moves; log = ready.log; target = ready.target; make = ready.make; retire = ready.retire }
+with_dir dir ready = record {
+  leftovers = ready.leftovers;
+  dir = dir;
+  moves = ready.moves;
+  log = ready.log;
+  target = ready.target;
+  make = ready.make;
+  retire = ready.retire;
+}
 
 -- with what is to be done with the members at these places, of which those that come from the second go
 abbrev pub with_members : Naming → Count → List ℕ → List ℕ → Ready → Ready

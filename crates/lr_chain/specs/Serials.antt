@@ -19,7 +19,8 @@ abbrev pub serial_behind : ℤ → Place → ℕ
 serial_behind seconds (at.Stamp moment serial) = if int_eq moment seconds then suc serial else 0
 serial_behind seconds (at.Number place) = 0
 
--- The serial number that comes next at a moment: 0 where no member has the moment, else one more than the greatest of those that do.
+-- The serial number that comes next at a moment: 0 where no member has the moment, else one more than the greatest of those that
+-- do.
 abbrev pub next_serial : List Member → ℤ → ℕ
 next_serial [] seconds = 0
 next_serial (m ∷ ms) seconds = max (serial_behind seconds m.place) (next_serial ms seconds)

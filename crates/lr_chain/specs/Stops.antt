@@ -50,7 +50,8 @@ IsOfDir (Some (dir, mode)) path = path ≡ dir
 
 -- The making of the directory failed, or the look at it, and faults rose; or something else has its path.
 abbrev pub DirRefusedCause : Option (Path × Option ℕ) → ChainStop → Counts → Counts → Type 0
-DirRefusedCause dir (stop.Call kind path) before now = ((kind ≡ call.MakeDir) ⊎ (kind ≡ call.Look)) × IsOfDir dir path.now × Rose before.faults now.faults
+DirRefusedCause dir (stop.Call kind path) before now = ((kind ≡ call.MakeDir) ⊎ (kind ≡ call.Look)) × IsOfDir dir path.now
+    × Rose before.faults now.faults
 DirRefusedCause dir (stop.NotFile path) before now = IsOfDir dir path.now
 
 -- A rename failed, and faults rose; it is one of the steps. Or the directory has the cause.

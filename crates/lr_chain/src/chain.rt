@@ -54,7 +54,8 @@ fn move_one<H: Host>(host: &mut H, step: &Move) -> Result<(), CallFault>
 fn move_members<'a, H: Host>(host: &mut H, ready: &'a Ready) -> Result<(), ChainStop<'a>>
     requires { CanAll (H.told host.old) (shift_of ready.now) }
     ensures told { OnOk result (Left (Are (shift_of ready.now)) (H.told host.old) (H.told host.new)) }
-    ensures refused { IfErr result (λ stop. Left (ChainStopped None (shift_of ready.now) stop) (H.told host.old) (H.told host.new)) }
+    ensures refused { IfErr result (λ stop. Left (ChainStopped None (shift_of ready.now) stop) (H.told host.old)
+        (H.told host.new)) }
     ensures cause { IfErr result (λ stop. ChainCause None (shift_of ready.now) stop (H.counts host.old) (H.counts host.new)) }
     ensures counts { Onward (H.counts host.old) (H.counts host.new) }
 {
@@ -74,8 +75,10 @@ fn move_members<'a, H: Host>(host: &mut H, ready: &'a Ready) -> Result<(), Chain
 pub fn shift<'a, H: Host>(host: &mut H, ready: &'a Ready) -> Result<(), ChainStop<'a>>
     requires fits { CanAll (H.told host.old) (dir_calls ready.now.dir ++ shift_of ready.now) }
     ensures told { OnOk result (Left (BehindDir ready.now.dir (Are (shift_of ready.now))) (H.told host.old) (H.told host.new)) }
-    ensures refused { IfErr result (λ stop. Left (ChainStopped ready.now.dir (shift_of ready.now) stop) (H.told host.old) (H.told host.new)) }
-    ensures cause { IfErr result (λ stop. ChainCause ready.now.dir (shift_of ready.now) stop (H.counts host.old) (H.counts host.new)) }
+    ensures refused { IfErr result (λ stop. Left (ChainStopped ready.now.dir (shift_of ready.now) stop) (H.told host.old)
+        (H.told host.new)) }
+    ensures cause { IfErr result (λ stop. ChainCause ready.now.dir (shift_of ready.now) stop (H.counts host.old)
+        (H.counts host.new)) }
     ensures counts { Onward (H.counts host.old) (H.counts host.new) }
 {
     match &ready.dir {
@@ -91,8 +94,10 @@ pub fn shift<'a, H: Host>(host: &mut H, ready: &'a Ready) -> Result<(), ChainSto
 pub fn turn<'a, H: Host>(host: &mut H, ready: &'a Ready) -> Result<(), ChainStop<'a>>
     requires fits { CanAll (H.told host.old) (dir_calls ready.now.dir ++ turn_of ready.now) }
     ensures told { OnOk result (Left (BehindDir ready.now.dir (Are (turn_of ready.now))) (H.told host.old) (H.told host.new)) }
-    ensures refused { IfErr result (λ stop. Left (ChainStopped ready.now.dir (turn_of ready.now) stop) (H.told host.old) (H.told host.new)) }
-    ensures cause { IfErr result (λ stop. ChainCause ready.now.dir (turn_of ready.now) stop (H.counts host.old) (H.counts host.new)) }
+    ensures refused { IfErr result (λ stop. Left (ChainStopped ready.now.dir (turn_of ready.now) stop) (H.told host.old)
+        (H.told host.new)) }
+    ensures cause { IfErr result (λ stop. ChainCause ready.now.dir (turn_of ready.now) stop (H.counts host.old)
+        (H.counts host.new)) }
     ensures counts { Onward (H.counts host.old) (H.counts host.new) }
 {
     if let Err(stop) = shift(host, ready) {

@@ -23,7 +23,8 @@ fn ready_to(
     anew: Make,
     target: Target,
 ) -> Result<Ready, Memory>
-    ensures { IfOk result (λ ready. ready ≡ ready_to family.now.log kept.count kept.maxage kept.now anew target.seconds target.serial target.path members.now) }
+    ensures { IfOk result (λ ready. ready ≡ ready_to family.now.log kept.count kept.maxage kept.now anew target.seconds
+        target.serial target.path members.now) }
 {
     let log = family.log().copy(alloc)?;
     let retire = removals_of(alloc, kept, members, &target)?;
@@ -52,9 +53,12 @@ pub fn prepare_dated(
     requires dated { family.now.naming.dated ≡ Some format.now }
     requires format { or_none is_format family.now.naming.dated ≡ true }
     requires named { AreNamed family.now.naming members.now }
-    ensures ready { IfOk result (λ ready. ready ≡ dated_ready family.now.log family.now.naming count maxage clock.entry.now anew members.now) }
-    ensures free { OnOk result (stamp_hindrances format.now (clock_seconds family.now.naming.dated clock.entry.now) members.now ≡ []) }
-    ensures hindered { IfErr result (IsHindered (stamp_hindrances format.now (clock_seconds family.now.naming.dated clock.entry.now) members.now)) }
+    ensures ready { IfOk result (λ ready. ready ≡ dated_ready family.now.log family.now.naming count maxage clock.entry.now anew
+        members.now) }
+    ensures free { OnOk result (stamp_hindrances format.now (clock_seconds family.now.naming.dated clock.entry.now) members.now
+        ≡ []) }
+    ensures hindered { IfErr result (IsHindered (stamp_hindrances format.now (clock_seconds family.now.naming.dated clock.entry.now)
+        members.now)) }
 {
     let kept = Kept {
         count,

@@ -1,5 +1,6 @@
 // Which of dated members go, once the log is one of them.
-ghost use Rattle.std.specs.Prelude.{◌≡◌, ◌≤◌, ◌<◌, ◌+◌, ◌^◌, ◌||◌, ℕ, ℤ, Option, [], ◌∷◌, ◌++◌, map, reverse, take, drop, length, int_lt, IfOk, OnOk, if◌then◌else◌};
+ghost use Rattle.std.specs.Prelude.{◌≡◌, ◌≤◌, ◌<◌, ◌+◌, ◌^◌, ◌||◌, ℕ, ℤ, Option, [], ◌∷◌, ◌++◌, map, reverse, take, drop, length};
+ghost use Rattle.std.specs.Prelude.{int_lt, IfOk, OnOk, if◌then◌else◌};
 ghost use Rattle.lr_rules.specs.declared.path.Path.{Path};
 ghost use Rattle.lr_rules.specs.Dated.{stamp_key};
 ghost use Rattle.lr_family.specs.Stands.{key_in};
@@ -24,7 +25,9 @@ fn is_later(place: Place, seconds: i64, serial: u32) -> bool
 // How many of the members, the newest first, are later than this moment and serial number, before the first that isn't.
 fn later_than(members: &[Member], target: &Target) -> usize
     ensures bound { result ≤ length members.now }
-    ensures place { (maxage : Option ℕ) (now : ℤ) → all_of maxage now target.now.seconds target.now.serial target.now.path members.now ≡ map (ranked maxage now) (take result members.now) ++ renamed target.now.seconds target.now.serial target.now.path ∷ map (ranked maxage now) (drop result members.now) }
+    ensures place { (maxage : Option ℕ) (now : ℤ) → all_of maxage now target.now.seconds target.now.serial target.now.path
+        members.now ≡ map (ranked maxage now) (take result members.now)
+        ++ renamed target.now.seconds target.now.serial target.now.path ∷ map (ranked maxage now) (drop result members.now) }
 {
     let mut later = 0;
     for member in members {
@@ -75,7 +78,8 @@ fn add_gone(
     members: &[Member],
 ) -> Result<(), Memory>
     requires { first + length members.now < 2 ^ 64 }
-    ensures { OnOk result (into.new.items ≡ into.old.items ++ map removal_of (gone kept.count first (map (ranked kept.maxage kept.now) members.now))) }
+    ensures { OnOk result (into.new.items ≡ into.old.items ++ map removal_of
+        (gone kept.count first (map (ranked kept.maxage kept.now) members.now))) }
 {
     let mut later = first;
     for member in members {
@@ -92,7 +96,9 @@ pub fn removals_of(
     members: &[Member],
     target: &Target,
 ) -> Result<Vec<Removal>, Memory>
-    ensures { IfOk result (λ removals. removals.items ≡ map removal_of (reverse (gone kept.count 0 (all_of kept.maxage kept.now target.now.seconds target.now.serial target.now.path members.now)))) }
+    ensures { IfOk result (λ removals. removals.items ≡ map removal_of
+        (reverse (gone kept.count 0 (all_of kept.maxage kept.now target.now.seconds target.now.serial target.now.path
+        members.now)))) }
 {
     let place = later_than(members, target);
     let mut removals = Vec::new(alloc);

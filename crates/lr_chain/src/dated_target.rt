@@ -34,7 +34,8 @@ fn is_stamp(place: Place, seconds: i64, serial: u32) -> bool
 
 // The path of the member with this moment and serial number.
 fn member_at<'a>(members: &'a [Member], seconds: i64, serial: u32) -> Option<&'a Path>
-    ensures { (why : Path → Fault) → MatchOption result (fault_at why seconds serial members.now ≡ []) (λ path. fault_at why seconds serial members.now ≡ why path.now ∷ []) }
+    ensures { (why : Path → Fault) → MatchOption result (fault_at why seconds serial members.now ≡ [])
+        (λ path. fault_at why seconds serial members.now ≡ why path.now ∷ []) }
 {
     for member in members {
         if is_stamp(member.place, seconds, serial) {
@@ -46,7 +47,8 @@ fn member_at<'a>(members: &'a [Member], seconds: i64, serial: u32) -> Option<&'a
 
 // Why the log can't get a name of this moment.
 fn refusal(alloc: Global, format: &Format, members: &[Member], seconds: i64) -> Option<PrepareStop>
-    ensures { MatchOption result (stamp_hindrances format.now seconds members.now ≡ []) (IsHindered (stamp_hindrances format.now seconds members.now)) }
+    ensures { MatchOption result (stamp_hindrances format.now seconds members.now ≡ [])
+        (IsHindered (stamp_hindrances format.now seconds members.now)) }
 {
     if format.serial {
         match member_at(members, seconds, u32::MAX) {
@@ -115,8 +117,10 @@ pub fn target_of(
     ensures path { IfOk result (λ t. t.path ≡ dated_target family.now.naming clock.entry.now members.now) }
     ensures seconds { IfOk result (λ t. t.seconds ≡ clock_seconds family.now.naming.dated clock.entry.now) }
     ensures serial { IfOk result (λ t. t.serial ≡ next_serial members.now t.seconds) }
-    ensures free { OnOk result (stamp_hindrances format.now (clock_seconds family.now.naming.dated clock.entry.now) members.now ≡ []) }
-    ensures hindered { IfErr result (IsHindered (stamp_hindrances format.now (clock_seconds family.now.naming.dated clock.entry.now) members.now)) }
+    ensures free { OnOk result (stamp_hindrances format.now (clock_seconds family.now.naming.dated clock.entry.now) members.now
+        ≡ []) }
+    ensures hindered { IfErr result (IsHindered (stamp_hindrances format.now (clock_seconds family.now.naming.dated clock.entry.now)
+        members.now)) }
 {
     let Ok(seconds) = seconds_by(alloc, family, clock) else {
         return Err(PrepareStop::Memory);

@@ -21,12 +21,15 @@ ghost use Rattle.lr_chain.specs.WhereTheyStand.{FitsWhereTheyStand, TurnsWhereTh
 
 /// The steps of what `prepare` makes ready are the entries of one rotation, in order.
 pub fn steps_of_ready()
-    ensures numbers { (log : Path) (n : Naming) (c : Count) (maxage : Option ℕ) (clock : Clock) (anew : Make) (members : List Member)
+    ensures numbers { (log : Path) (n : Naming) (c : Count) (maxage : Option ℕ) (clock : Clock) (anew : Make)
+        (members : List Member)
         → n.dated ≡ None
-        → steps_of (ready_of log n c maxage clock anew members) ≡ rotation n c log (places_of members) (going c maxage clock.now.seconds members) }
+        → steps_of (ready_of log n c maxage clock anew members)
+        ≡ rotation n c log (places_of members) (going c maxage clock.now.seconds members) }
     ensures dates { (log : Path) (n : Naming) (c : Count) (maxage : Option ℕ) (clock : Clock) (anew : Make) (members : List Member)
         → IsSome n.dated
-        → steps_of (ready_of log n c maxage clock anew members) ≡ dated_rotation c log (dated_target n clock members) (all_by n maxage clock members) }
+        → steps_of (ready_of log n c maxage clock anew members)
+        ≡ dated_rotation c log (dated_target n clock members) (all_by n maxage clock members) }
 {}
 
 /// They fit one after another wherever the log and the members stand so, if nothing hinders: each rename finds its file, and

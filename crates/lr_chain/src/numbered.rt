@@ -19,7 +19,8 @@ use std::alloc::Global;
 fn highest_kept<'a>(naming: &Naming, count: Count, members: &'a [Member]) -> Option<&'a Path>
     requires numbered { naming.now.dated ≡ None }
     requires named { AreNamed naming.now members.now }
-    ensures { MatchOption result (number_hindrances naming.now count members.now ≡ []) (λ path. number_hindrances naming.now count members.now ≡ fault.TooHigh path.now ∷ []) }
+    ensures { MatchOption result (number_hindrances naming.now count members.now ≡ [])
+        (λ path. number_hindrances naming.now count members.now ≡ fault.TooHigh path.now ∷ []) }
 {
     match count {
         Count::Keep(_) => None,
@@ -81,7 +82,8 @@ fn numbered_ready(
     requires count { IsCount kept.count }
     requires named { AreNamed family.now.naming members.now }
     requires low { NoneTooHigh family.now.naming kept.count members.now }
-    ensures { IfOk result (λ ready. ready ≡ numbered_ready family.now.log family.now.naming kept.count kept.maxage kept.now anew members.now) }
+    ensures { IfOk result (λ ready. ready ≡ numbered_ready family.now.log family.now.naming kept.count kept.maxage kept.now anew
+        members.now) }
 {
     let places = places(alloc, members)?;
     let from = going(alloc, kept, members)?;
@@ -102,7 +104,8 @@ pub fn prepare_numbered(
     requires start { family.now.naming.start ≤ 999999 }
     requires count { IsCount kept.count }
     requires named { AreNamed family.now.naming members.now }
-    ensures ready { IfOk result (λ ready. ready ≡ numbered_ready family.now.log family.now.naming kept.count kept.maxage kept.now anew members.now) }
+    ensures ready { IfOk result (λ ready. ready ≡ numbered_ready family.now.log family.now.naming kept.count kept.maxage kept.now
+        anew members.now) }
     ensures free { OnOk result (number_hindrances family.now.naming kept.count members.now ≡ []) }
     ensures hindered { IfErr result (IsHindered (number_hindrances family.now.naming kept.count members.now)) }
 {

@@ -55,7 +55,8 @@ fn stands_highest(naming: &Naming, member: &Member) -> bool
 pub fn highest<'a>(naming: &Naming, members: &'a [Member]) -> Option<&'a Path>
     requires numbered { naming.now.dated ≡ None }
     requires named { AreNamed naming.now members.now }
-    ensures { MatchOption result (list_any (is_highest naming.now) members.now ≡ false) (λ path. (list_any (is_highest naming.now) members.now ≡ true) × (path.now ≡ highest_path naming.now)) }
+    ensures { MatchOption result (list_any (is_highest naming.now) members.now ≡ false)
+        (λ path. (list_any (is_highest naming.now) members.now ≡ true) × (path.now ≡ highest_path naming.now)) }
 {
     for member in members {
         if stands_highest(naming, member) {
@@ -98,7 +99,8 @@ fn goes(kept: Kept, member: &Member) -> bool
 
 // The places that they come from, the lowest first.
 fn rising(alloc: Global, kept: Kept, members: &[Member]) -> Result<Vec<u32>, Memory>
-    ensures { IfOk result (λ from. from.items ≡ map (λ m. number_in m.place) (filter (goes kept.count kept.maxage kept.now) members.now)) }
+    ensures { IfOk result (λ from. from.items ≡ map (λ m. number_in m.place)
+        (filter (goes kept.count kept.maxage kept.now) members.now)) }
 {
     let from = members
         .iter()

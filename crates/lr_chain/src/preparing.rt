@@ -40,7 +40,8 @@ pub fn prepare(
     requires count { IsCount count }
     requires format { or_none is_format family.now.naming.dated ≡ true }
     requires named { AreNamed family.now.naming stand.now.members }
-    ensures ready { IfOk result (λ ready. ready ≡ ready_of family.now.log family.now.naming count maxage clock.entry.now anew stand.now.members) }
+    ensures ready { IfOk result (λ ready. ready ≡ ready_of family.now.log family.now.naming count maxage clock.entry.now anew
+        stand.now.members) }
     ensures free { OnOk result (what_hinders family.now.naming count clock.entry.now stand.now ≡ []) }
     ensures hindered { IfErr result (IsHindered (what_hinders family.now.naming count clock.entry.now stand.now)) }
 {

@@ -21,11 +21,13 @@ pub record ShowsClock (zone : Zone) (seconds : ℤ) (clock : Clock) (ts : List E
   pub shows : ShowsZone zone text ts
   pub clock_is : IsClockIn text seconds clock
 
--- There is none, as the fault tells: the seconds are out of range, and then nothing is called; or the zone has no text, or one that is refused.
+-- There is none, as the fault tells: the seconds are out of range, and then nothing is called; or the zone has no text, or one that
+-- is refused.
 pub data LacksClock (zone : Zone) (seconds : ℤ) (f : Fault) (ts : List Entry) : Type 0 where
   out_of_range : ¬ (IsInRange seconds) → f ≡ fault.Clock → ts ≡ [] → LacksClock zone seconds f ts
   no_text : IsInRange seconds → LacksText zone f ts → LacksClock zone seconds f ts
-  refused : (text : ZoneText) → IsInRange seconds → f ≡ fault.Zone why.Refused → IsRefusedZone text → ShowsZone zone text ts → LacksClock zone seconds f ts
+  refused : (text : ZoneText) → IsInRange seconds → f ≡ fault.Zone why.Refused → IsRefusedZone text → ShowsZone zone text ts
+      → LacksClock zone seconds f ts
 
 abbrev pub ClockStopped : Zone → ℤ → ClockStop → List Entry → Type 0
 ClockStopped zone seconds (stop.Fault f) ts = LacksClock zone seconds f ts
@@ -45,7 +47,8 @@ pub record HasClock (zone : Zone) (seconds : ℤ) (clock : Clock) : Type 0 where
 pub data IsClockFault (zone : Zone) (seconds : ℤ) (f : Fault) : Type 0 where
   is_range : ¬ (IsInRange seconds) → f ≡ fault.Clock → IsClockFault zone seconds f
   is_text : IsInRange seconds → IsTextFault zone f → IsClockFault zone seconds f
-  is_refused : (text : ZoneText) → IsInRange seconds → IsTextOf zone text → f ≡ fault.Zone why.Refused → IsRefusedZone text → IsClockFault zone seconds f
+  is_refused : (text : ZoneText) → IsInRange seconds → IsTextOf zone text → f ≡ fault.Zone why.Refused → IsRefusedZone text
+      → IsClockFault zone seconds f
 
 -- A report has a clock behind it, and tells no fault of the clock or the zone; or it tells one fault alone, that there is none.
 pub data IsClocked (zone : Zone) (seconds : ℤ) (notices : List Notice) (faults : List Fault) : Type 0 where

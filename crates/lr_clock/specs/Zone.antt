@@ -52,9 +52,11 @@ ShowsZone (File path) t ts = (bytes : List ℕ) × (t ≡ text.Bytes bytes) × T
 -- The zone has none, as the fault tells: its file wasn't seen as one, has too many bytes, or the look at it or a read of it failed.
 pub data LacksText (zone : Zone) (f : Fault) (ts : List Entry) : Type 0 where
   not_file : (path : Path) → zone ≡ File path → f ≡ fault.Zone why.NotFile → Sees path IsNotFile ts → LacksText zone f ts
-  too_big : (path : Path) (bytes : List ℕ) → zone ≡ File path → f ≡ fault.Zone why.TooBig → 1048576 < length bytes → Then (Sees path IsFile) (ReadsAll path 1048577 bytes) ts → LacksText zone f ts
+  too_big : (path : Path) (bytes : List ℕ) → zone ≡ File path → f ≡ fault.Zone why.TooBig → 1048576 < length bytes
+      → Then (Sees path IsFile) (ReadsAll path 1048577 bytes) ts → LacksText zone f ts
   look_failed : (path : Path) → zone ≡ File path → f ≡ fault.Call call.Look path → ts ≡ [] → LacksText zone f ts
-  read_failed : (path : Path) → zone ≡ File path → f ≡ fault.Call call.Read path → Then (Sees path IsFile) (ReadsBroken path 1048577) ts → LacksText zone f ts
+  read_failed : (path : Path) → zone ≡ File path → f ≡ fault.Call call.Read path
+      → Then (Sees path IsFile) (ReadsBroken path 1048577) ts → LacksText zone f ts
 
 -- Where there was no memory for it: nothing was called, or its file was seen as one, and a first part of it was read, or all.
 pub data LacksZoneMemory (zone : Zone) (ts : List Entry) : Type 0 where

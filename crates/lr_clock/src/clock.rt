@@ -56,7 +56,8 @@ fn clock_here<H: Host>(
     ensures told { IfOk result (λ clock. Left (ShowsClock zone.now seconds clock) (H.told host.old) (H.told host.new)) }
     ensures stopped { IfErr result (λ why. Left (ClockStopped zone.now seconds why) (H.told host.old) (H.told host.new)) }
     ensures clock { IfOk result (HasClock zone.now seconds) }
-    ensures fault { (f : Fault) → result ≡ Err (stop.Fault f) → IsClockFault zone.now seconds f × AreReported (f ∷ []) (H.counts host.old) (H.counts host.new) }
+    ensures fault { (f : Fault) → result ≡ Err (stop.Fault f)
+        → IsClockFault zone.now seconds f × AreReported (f ∷ []) (H.counts host.old) (H.counts host.new) }
     ensures counts { Onward (H.counts host.old) (H.counts host.new) }
 {
     match zone_text(alloc, host, zone) {
@@ -79,7 +80,8 @@ pub fn clock_in<H: Host>(
 
     // Also where the host tells nothing.
     ensures clock { IfOk result (HasClock zone.now seconds) }
-    ensures fault { (f : Fault) → result ≡ Err (stop.Fault f) → IsClockFault zone.now seconds f × AreReported (f ∷ []) (H.counts host.old) (H.counts host.new) }
+    ensures fault { (f : Fault) → result ≡ Err (stop.Fault f)
+        → IsClockFault zone.now seconds f × AreReported (f ∷ []) (H.counts host.old) (H.counts host.new) }
     ensures counts { Onward (H.counts host.old) (H.counts host.new) }
 {
     if !is_in_range(seconds) {

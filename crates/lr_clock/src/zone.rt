@@ -9,7 +9,8 @@ ghost use Rattle.lr_due.specs.declared.zone.ZoneText.TheVariants as text;
 ghost use Rattle.lr_clock.specs.declared.clock.ClockStop.TheVariants as clock_stop;
 ghost use Rattle.lr_clock.specs.declared.zone.ZoneFileStop.TheVariants as stop;
 ghost use Rattle.lr_report.specs.Reported.{AreReported};
-ghost use Rattle.lr_clock.specs.Zone.{IsNotFile, GivesBytes, ReadStopped, FileStopped, ShowsZone, ZoneStopped, file_stop, IsTextOf, IsFileFault, IsTextFault};
+ghost use Rattle.lr_clock.specs.Zone.{IsNotFile, GivesBytes, ReadStopped, FileStopped, ShowsZone, ZoneStopped, file_stop, IsTextOf};
+ghost use Rattle.lr_clock.specs.Zone.{IsFileFault, IsTextFault};
 
 use crate::clock::ClockStop;
 use lr_due::{Zone, ZoneText};
@@ -118,7 +119,8 @@ fn told_text<H: Host>(alloc: Global, host: &mut H, path: &Path) -> Result<ZoneTe
     ensures told { IfOk result (λ t. Left (ShowsZone (asked.File path.now) t) (H.told host.old) (H.told host.new)) }
     ensures bytes { IfOk result (λ t. IsTextOf (asked.File path.now) t) }
     ensures stopped { IfErr result (λ why. Left (ZoneStopped (asked.File path.now) why) (H.told host.old) (H.told host.new)) }
-    ensures fault { (f : Fault) → result ≡ Err (clock_stop.Fault f) → IsFileFault path.now f × AreReported (f ∷ []) (H.counts host.old) (H.counts host.new) }
+    ensures fault { (f : Fault) → result ≡ Err (clock_stop.Fault f)
+        → IsFileFault path.now f × AreReported (f ∷ []) (H.counts host.old) (H.counts host.new) }
     ensures counts { Onward (H.counts host.old) (H.counts host.new) }
 {
     let Ok(name) = path.copy(alloc) else {
@@ -150,7 +152,8 @@ pub fn zone_text<H: Host>(alloc: Global, host: &mut H, zone: &Zone) -> Result<Zo
 
     // Also where the host tells nothing.
     ensures text { IfOk result (λ t. IsTextOf zone.now t) }
-    ensures fault { (f : Fault) → result ≡ Err (clock_stop.Fault f) → IsTextFault zone.now f × AreReported (f ∷ []) (H.counts host.old) (H.counts host.new) }
+    ensures fault { (f : Fault) → result ≡ Err (clock_stop.Fault f)
+        → IsTextFault zone.now f × AreReported (f ∷ []) (H.counts host.old) (H.counts host.new) }
     ensures counts { Onward (H.counts host.old) (H.counts host.new) }
 {
     match zone {

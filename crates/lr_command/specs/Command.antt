@@ -1,7 +1,8 @@
 -- The command line of the program, in the words of `clap`.
 use Rattle.std.specs.Prelude.{ℕ, Bool, List, [], ◌∷◌, true, false, Some, codes, unwrap_or, Option, nat_lt}
 use Rattle.clap.specs.Lexer.{usize_max}
-use Rattle.clap.specs.Words.{App, Kinds, Row, Rule, Text, new_app, new_rule, with_rule, fault_of, matches_of, first_of, all_of, count_of}
+use Rattle.clap.specs.Words.{App, Kinds, Row, Rule, Text, new_app, new_rule, with_rule, fault_of, matches_of, first_of, all_of}
+use Rattle.clap.specs.Words.{count_of}
 use Rattle.clap.specs.declared.builder.action.ArgAction.TheVariants.{Append, Count, Set}
 
 -- ---- the one command value
@@ -36,7 +37,8 @@ bare name = record (new_app name) {
   top = record (new_app name).top { no_binary_name = true; disable_help_flag = true };
 }
 
--- `-d --debug`, `-f --force` and `-v --verbose`, each any number of times; `-s --state FILE` and `-m --mail COMMAND`, each at most once; one or more CONF.
+-- `-d --debug`, `-f --force` and `-v --verbose`, each any number of times; `-s --state FILE` and `-m --mail COMMAND`, each at most
+-- once; one or more CONF.
 unfoldable pub command : App
 command =
     with_rule (with_rule (with_rule (with_rule (with_rule (with_rule (bare (codes "logrotate"))

@@ -65,10 +65,14 @@ settings_with state mailer found fits = record {
 
 -- the request of what was found, where the state file can have its path
 abbrev pub request_in : (here : Path) (found : List Row) → can_be_state (state_in here found) ≡ true → Request
-request_in here found fits = record { settings = settings_with (state_in here found) (mailer_in here found) found fits; confs = confs_in here found }
+request_in here found fits = record {
+  settings = settings_with (state_in here found) (mailer_in here found) found fits;
+  confs = confs_in here found;
+}
 
 -- the same by whether it can, and whether each path is one
-abbrev pub request_if : (here : Path) (found : List Row) (fits paths : Bool) → can_be_state (state_in here found) ≡ fits → Option Request
+abbrev pub request_if : (here : Path) (found : List Row) (fits paths : Bool) → can_be_state (state_in here found) ≡ fits
+    → Option Request
 request_if here found true true is = Some (request_in here found is)
 request_if here found _ _ is = None
 
@@ -76,6 +80,7 @@ request_if here found _ _ is = None
 abbrev pub request_where : Path → List Row → Option Request
 request_where here found = request_if here found (can_be_state (state_in here found)) (are_paths here found) refl
 
--- The request that the words ask for, from the directory `here` on: `clap` takes them, each path that they name is one, and the state file can have its own. Else they ask for none.
+-- The request that the words ask for, from the directory `here` on: `clap` takes them, each path that they name is one, and the
+-- state file can have its own. Else they ask for none.
 unfoldable pub asked : Path → List (List ℕ) → Option Request
 asked here words = if are_taken words then request_where here (found_in words) else None

@@ -50,7 +50,8 @@ fn bare<'a>(alloc: Global, name: &'a str) -> Command<'a>
 
 // Adds the three flags.
 fn with_flags<'a>(alloc: Global, command: Command<'a>) -> Result<Command<'a>, AllocError>
-    ensures { IfOk result (λ c. app_of c ≡ with_rule (with_rule (with_rule (app_of command.entry) (counted (codes "debug") 100)) (counted (codes "force") 102)) (counted (codes "verbose") 118)) }
+    ensures { IfOk result (λ c. app_of c ≡ with_rule (with_rule (with_rule (app_of command.entry) (counted (codes "debug") 100))
+        (counted (codes "force") 102)) (counted (codes "verbose") 118)) }
 {
     command
         .arg(counted(alloc, "debug", 'd'))?

@@ -2,7 +2,8 @@
 ghost use Rattle.std.specs.Prelude.{◌≡◌, ◌&&◌, IfOk, Some, None, true, false};
 ghost use Rattle.clap.specs.Words.{found_of, rows_of};
 ghost use Rattle.lr_command.specs.Command.{has_flag};
-ghost use Rattle.lr_command.specs.Words.{asked, confs_in, has_confs, has_mailer, has_state, mailer_in, request_in, request_where, settings_with, state_in};
+ghost use Rattle.lr_command.specs.Words.{asked, confs_in, has_confs, has_mailer, has_state, mailer_in, request_in, request_where};
+ghost use Rattle.lr_command.specs.Words.{settings_with, state_in};
 ghost use Rattle.lr_rules.specs.StatePath.{can_be_state};
 
 use crate::found::{find, has_flag, texts_of, value_of};
@@ -88,10 +89,12 @@ fn request_with(
 ) -> Result<Request, WordsFault>
     requires state { state ≡ state_in here.now (rows_of (found_of found.now)) }
     requires fits { can_be_state state ≡ true }
-    ensures request { IfOk result (λ request. (fits : can_be_state (state_in here.now (rows_of (found_of found.now))) ≡ true) × (request ≡ request_in here.now (rows_of (found_of found.now)) fits)) }
+    ensures request { IfOk result (λ request. (fits : can_be_state (state_in here.now (rows_of (found_of found.now))) ≡ true)
+        × (request ≡ request_in here.now (rows_of (found_of found.now)) fits)) }
     ensures has_mailer { IfOk result (λ request. has_mailer here.now (rows_of (found_of found.now)) ≡ true) }
     ensures has_confs { IfOk result (λ request. has_confs here.now (rows_of (found_of found.now)) ≡ true) }
-    ensures refused { result ≡ Err WordsFault.Refused → (has_mailer here.now (rows_of (found_of found.now)) && has_confs here.now (rows_of (found_of found.now))) ≡ false }
+    ensures refused { result ≡ Err WordsFault.Refused → (has_mailer here.now (rows_of (found_of found.now)) && has_confs here.now
+        (rows_of (found_of found.now))) ≡ false }
 {
     let mailer = mailer_of(alloc, here, found)?;
     let confs = confs_of(alloc, here, found)?;

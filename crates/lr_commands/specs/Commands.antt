@@ -18,7 +18,11 @@ spaced (word ∷ words) = word ++ behind_spaces words
 -- a script as a shell runs it, with its arguments
 abbrev pub script : Option (List ℕ) → List (List ℕ) → Option Command
 script None args = None
-script (Some text) args = Some (record { program = codes "/bin/sh"; args = codes "-c" ∷ text ∷ codes "logrotate_script" ∷ args; input = None })
+script (Some text) args = Some (record {
+  program = codes "/bin/sh";
+  args = codes "-c" ∷ text ∷ codes "logrotate_script" ∷ args;
+  input = None;
+})
 
 -- the command, where it is so
 abbrev pub where_so : Bool → Option Command → Option Command
@@ -26,12 +30,14 @@ where_so b command = if b then command else None
 
 -- ---- before the removal of a file
 
--- the mail of a file, where there is an address: the mailer with the path of the file's log as the subject, and the file as its input
+-- the mail of a file, where there is an address: the mailer with the path of the file's log as the subject, and the file as its
+-- input
 abbrev pub mail : Path → Option (List ℕ) → Path → Path → Option Command
 mail mailer None log file = None
 mail mailer (Some address) log file = Some (record { program = mailer; args = codes "-s" ∷ log ∷ address ∷ []; input = Some file })
 
--- The removal of a file of this log with the programs that come before its unlink: the definition's preremove with the file's path, and the mail of the file, unless the definition says `mailfirst`.
+-- The removal of a file of this log with the programs that come before its unlink: the definition's preremove with the file's path,
+-- and the mail of the file, unless the definition says `mailfirst`.
 abbrev pub with_programs : Rule → Path → Path → Removal → Removal
 with_programs rule mailer log file = record {
   path = file.path;

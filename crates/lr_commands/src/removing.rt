@@ -73,7 +73,11 @@ fn removal_of(
     log: &Path,
     path: Path,
 ) -> Result<Removal, Memory>
-    ensures { IfOk result (λ removal. removal ≡ record { path = path; preremove = script rule.now.scripts.preremove (path ∷ []); mail = where_so (not rule.now.mailfirst) (mail mailer.now rule.now.mail log.now path) }) }
+    ensures { IfOk result (λ removal. removal ≡ record {
+      path = path;
+      preremove = script rule.now.scripts.preremove (path ∷ []);
+      mail = where_so (not rule.now.mailfirst) (mail mailer.now rule.now.mail log.now path);
+    }) }
 {
     let preremove = script_on(alloc, true, &rule.scripts.preremove, path.bytes())?;
     let mail = mail_of(alloc, !rule.mailfirst, mailer, &rule.mail, log, &path)?;

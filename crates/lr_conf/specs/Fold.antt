@@ -6,7 +6,8 @@ use Rattle.lr_conf.specs.declared.stop.Include.{Include}
 use Rattle.lr_conf.specs.declared.stop.LayerStop.{LayerStop}
 use Rattle.lr_match.specs.declared.taboo.Taboo.{Taboo}
 use Rattle.lr_conf.specs.Meaning.{Line, Meaning}
-use Rattle.lr_conf.specs.Internal.Draft.{coming_from, asking_from, banning_from, TookIn, AsksIn, BansIn, AlikeIn, PassesIn, files_of, file_of_draft}
+use Rattle.lr_conf.specs.Internal.Draft.{coming_from, asking_from, banning_from, TookIn, AsksIn, BansIn, AlikeIn, PassesIn}
+use Rattle.lr_conf.specs.Internal.Draft.{files_of, file_of_draft}
 
 -- what is kept, and what lines give from then on
 abbrev pub coming : Layer → List Line → Meaning

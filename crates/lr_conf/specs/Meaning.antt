@@ -1,5 +1,6 @@
 -- What the lines of a configuration mean, told of whole lists of lines.
-use Rattle.std.specs.Prelude.{ℕ, Bool, true, false, not, ◌||◌, List, [], ◌∷◌, ◌++◌, Option, Some, None, reverse, find, flat_map, if◌then◌else◌}
+use Rattle.std.specs.Prelude.{ℕ, Bool, true, false, not, ◌||◌, List, [], ◌∷◌, ◌++◌, Option, Some, None, reverse, find, flat_map}
+use Rattle.std.specs.Prelude.{if◌then◌else◌}
 use Rattle.std.specs.List.{list_any, filter_map}
 use Rattle.lr_lex.specs.declared.item.Item.{Item}
 use Rattle.lr_rules.specs.declared.path.Path.{Path}
@@ -311,7 +312,8 @@ of_definition at words before_it es =
       notices = filter_map notice_in (through drops body);
       faults = filter_map fault_in (through drops body);
     }
-    and (if list_any drops body then told (filter_map broken_fault (behind drops body)) else of_end at words (fields_of (before_it ++ filter_map set_in body)) (find ends es))
+    and (if list_any drops body then told (filter_map broken_fault (behind drops body)) else of_end at words
+    (fields_of (before_it ++ filter_map set_in body)) (find ends es))
 
 -- one that a fault of its first line drops says nothing, its spoilt lines aside
 abbrev pub of_body : Option ℕ → List (List ℕ) → List Set → List Line → Meaning

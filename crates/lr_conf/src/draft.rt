@@ -4,7 +4,8 @@ ghost use Rattle.lr_rules.specs.declared.fault.Fault.{Fault};
 ghost use Rattle.lr_match.specs.Taboos.{first_taboo};
 ghost use Rattle.lr_fields.specs.Setting.{default_fields};
 ghost use Rattle.lr_conf.specs.Meaning.{Line, Read, Spoiled, End, Cut, meaning, asked, banned, told, conf, ◌and◌};
-ghost use Rattle.lr_conf.specs.Internal.Draft.{coming_from, asking_from, banning_from, TookIn, AsksIn, BansIn, PassesIn, file_of_draft, files_of};
+ghost use Rattle.lr_conf.specs.Internal.Draft.{coming_from, asking_from, banning_from, TookIn, AsksIn, BansIn, PassesIn};
+ghost use Rattle.lr_conf.specs.Internal.Draft.{file_of_draft, files_of};
 
 use crate::place::Place;
 use crate::stop::{Include, LayerStop};
@@ -96,7 +97,8 @@ impl Draft {
     /// are pending stay.
     pub fn spoil(&mut self, _line: u32)
         ensures files { files_of self.new ≡ files_of self.old }
-        ensures means { (f : Fault) (lines : List Line) → coming_from self.old (Spoiled f ∷ lines) ≡ (told (f ∷ []) and coming_from self.new lines) }
+        ensures means { (f : Fault) (lines : List Line) → coming_from self.old (Spoiled f ∷ lines)
+            ≡ (told (f ∷ []) and coming_from self.new lines) }
         ensures passes { (f : Fault) → PassesIn self.old self.new (Spoiled f) }
     {
         if let Place::Good = self.place {
@@ -111,7 +113,8 @@ impl Draft {
         ensures files { files_of self.new ≡ files_of self.old }
         ensures means { MatchOption result
             ((lines : List Line) → coming_from self.old (End (file_of_draft self.old) ∷ lines) ≡ coming_from self.new lines)
-            (λ r. (lines : List Line) → coming_from self.old (End (file_of_draft self.old) ∷ lines) ≡ (told (conf (file_of_draft self.old) r.1 r.0 ∷ []) and coming_from self.new lines)) }
+            (λ r. (lines : List Line) → coming_from self.old (End (file_of_draft self.old) ∷ lines)
+            ≡ (told (conf (file_of_draft self.old) r.1 r.0 ∷ []) and coming_from self.new lines)) }
         ensures passes { PassesIn self.old self.new (End (file_of_draft self.old)) }
     {
         self.end_file()

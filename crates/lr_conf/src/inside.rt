@@ -18,7 +18,8 @@ impl Draft {
     fn end_with(&mut self, file: Path, fresh: Fields, dated: Option<Format>) -> Rule
         requires { dated ≡ format_of self.old.fields }
         ensures rule { result ≡ rule_of file (first_of (state_of self.old)) self.old.words.items self.old.fields }
-        ensures state { state_of self.new ≡ record (state_of self.old) { place = place.Outside; words = []; first = None; fields = fresh } }
+        ensures state { state_of self.new ≡ record (state_of self.old)
+            { place = place.Outside; words = []; first = None; fields = fresh } }
         ensures rules { self.new.rules ≡ self.old.rules }
         ensures rest { SameRest self.old self.new }
     {

@@ -90,7 +90,8 @@ impl Layer {
     /// is. Names that are pending stay. The caller tells the fault, also in a definition that is dropped already.
     pub fn spoil(&mut self, line: u32)
         ensures files { entered self.new ≡ entered self.old }
-        ensures means { (f : Fault) (lines : List Line) → coming self.old (Spoiled f ∷ lines) ≡ (told (f ∷ []) and coming self.new lines) }
+        ensures means { (f : Fault) (lines : List Line) → coming self.old (Spoiled f ∷ lines)
+            ≡ (told (f ∷ []) and coming self.new lines) }
         ensures passes { (f : Fault) → Passes self.old self.new (Spoiled f) }
     {
         self.draft.spoil(line);
@@ -103,7 +104,8 @@ impl Layer {
         ensures files { entered self.new ≡ entered self.old }
         ensures means { MatchOption result
             ((lines : List Line) → coming self.old (End (file_of_layer self.old) ∷ lines) ≡ coming self.new lines)
-            (λ r. (lines : List Line) → coming self.old (End (file_of_layer self.old) ∷ lines) ≡ (told (conf (file_of_layer self.old) r.1 r.0 ∷ []) and coming self.new lines)) }
+            (λ r. (lines : List Line) → coming self.old (End (file_of_layer self.old) ∷ lines)
+            ≡ (told (conf (file_of_layer self.old) r.1 r.0 ∷ []) and coming self.new lines)) }
         ensures passes { Passes self.old self.new (End (file_of_layer self.old)) }
     {
         self.draft.close_file()

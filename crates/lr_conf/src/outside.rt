@@ -3,7 +3,8 @@ ghost use Rattle.std.specs.Prelude.{◌≡◌, ◌<◌, [], ◌++◌, Some, None
 ghost use Rattle.lr_conf.specs.declared.place.Place.TheVariants as place;
 ghost use Rattle.lr_forms.specs.declared.said.Said.TheVariants as says;
 ghost use Rattle.lr_conf.specs.Meaning.{stands, or_line};
-ghost use Rattle.lr_conf.specs.Internal.Draft.{Speaks, Noticed, Banned, SameRest, Aside, Unchanged, Settled, answer_of, file_of_draft, files_of, without_names, state_of};
+ghost use Rattle.lr_conf.specs.Internal.Draft.{Speaks, Noticed, Banned, SameRest, Aside, Unchanged, Settled, answer_of};
+ghost use Rattle.lr_conf.specs.Internal.Draft.{file_of_draft, files_of, without_names, state_of};
 
 use crate::draft::Draft;
 use crate::place::Place;
@@ -61,7 +62,8 @@ impl Draft {
 
     // A definition begins with the fields that lines outside set, and without scripts.
     fn begin(&mut self) -> Result<(), Memory>
-        ensures state { OnOk result (state_of self.new ≡ record (state_of self.old) { place = place.Good; fields = self.old.defaults; scripts = [] }) }
+        ensures state { OnOk result (state_of self.new ≡ record (state_of self.old)
+            { place = place.Good; fields = self.old.defaults; scripts = [] }) }
         ensures rest { OnOk result (SameRest self.old self.new) }
         ensures err { OnErr result (Unchanged self.old self.new) }
     {
@@ -74,7 +76,8 @@ impl Draft {
 
     // Adds names to those that are pending.
     fn add_names(&mut self, at: u32, names: Listed<Text>) -> Result<(), Memory>
-        ensures state { OnOk result (state_of self.new ≡ record (state_of self.old) { words = self.old.words.items ++ names; first = Some (or_line self.old.first at) }) }
+        ensures state { OnOk result (state_of self.new ≡ record (state_of self.old)
+            { words = self.old.words.items ++ names; first = Some (or_line self.old.first at) }) }
         ensures rest { OnOk result (SameRest self.old self.new) }
         ensures err { OnErr result (Unchanged self.old self.new) }
     {

@@ -28,7 +28,8 @@ IsNoFeed g q _ = Unit {0}
 -- Between the two pasts writers fed the file these bytes, in order.
 pub data Fed (g : ℕ) (p : Past) : List ℕ → Past → Type 0 where
   none_fed : Fed g p [] p
-  fed_more : {bytes : List ℕ} {q : Past} {writer : ℕ} {at : ℤ} → Fed g p bytes q → (world q).holds writer ≡ Some g → (piece : List ℕ) → Fed g p (bytes ++ piece) (q ▸ Feed writer piece at)
+  fed_more : {bytes : List ℕ} {q : Past} {writer : ℕ} {at : ℤ} → Fed g p bytes q → (world q).holds writer ≡ Some g
+      → (piece : List ℕ) → Fed g p (bytes ++ piece) (q ▸ Feed writer piece at)
   no_more : {bytes : List ℕ} {q : Past} {e : Entry} → Fed g p bytes q → IsNoFeed g q e → Fed g p bytes (q ▸ e)
 
 -- The path names the file, which has these bytes.
@@ -40,7 +41,9 @@ pub record Has (x : Path) (g : ℕ) (bytes : List ℕ) (p : Past) : Type 0 where
 abbrev pub IsUnread : Path → Past → Past → Type 0
 IsUnread x p q = (r : Past) (place : ℕ) (piece : List ℕ) → IsPrefix p r → IsPrefix (r ▸ Reads x place piece) q → ⊥
 
--- The final path names a file that has, now and after each cut that is allowed now, just the bytes that the log's file had at its last read, which was made at the end of them and gave nothing. The log's path names the same file still; that has these bytes first, and then what writers fed it since.
+-- The final path names a file that has, now and after each cut that is allowed now, just the bytes that the log's file had at its
+-- last read, which was made at the end of them and gave nothing. The log's path names the same file still; that has these bytes
+-- first, and then what writers fed it since.
 pub record IsWhole (from to : Path) (before now : Past) : Type 0 where
   -- the log's file, and that of the copy
   pub log : ℕ

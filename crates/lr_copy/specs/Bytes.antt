@@ -13,16 +13,21 @@ appended [] = []
 appended (Appends x piece ∷ ts) = piece ++ appended ts
 appended (_ ∷ ts) = appended ts
 
--- Of the one path these bytes were read, from its first byte on, in pieces of 65,536 bytes at most, each behind the end of the one before; and before each further read all of them were appended to the other, in pieces. Now they are, but for those at the end that are owed.
+-- Of the one path these bytes were read, from its first byte on, in pieces of 65,536 bytes at most, each behind the end of the one
+-- before; and before each further read all of them were appended to the other, in pieces. Now they are, but for those at the end
+-- that are owed.
 pub data Copying (from to : Path) : List ℕ → List ℕ → List Entry → Type 0 where
   none_read : Copying from to [] [] []
-  read_more : {bytes : List ℕ} {ts : List Entry} → Copying from to bytes [] ts → (piece : List ℕ) → piece ≢ [] → length piece ≤ 65536 → Copying from to (bytes ++ piece) piece (ts ++ Reads from (length bytes) piece ∷ [])
-  took_more : {bytes : List ℕ} {ts : List Entry} (piece owed : List ℕ) → Copying from to bytes (piece ++ owed) ts → Copying from to bytes owed (ts ++ Appends to piece ∷ [])
+  read_more : {bytes : List ℕ} {ts : List Entry} → Copying from to bytes [] ts → (piece : List ℕ) → piece ≢ []
+      → length piece ≤ 65536 → Copying from to (bytes ++ piece) piece (ts ++ Reads from (length bytes) piece ∷ [])
+  took_more : {bytes : List ℕ} {ts : List Entry} (piece owed : List ℕ) → Copying from to bytes (piece ++ owed) ts
+      → Copying from to bytes owed (ts ++ Appends to piece ∷ [])
 
 -- a first part of what was owed was appended, in pieces, and this is left of it
 pub data Takes (to : Path) (owed : List ℕ) : List ℕ → List Entry → Type 0 where
   none_taken : Takes to owed owed []
-  piece_taken : {ts : List Entry} (piece left : List ℕ) → Takes to owed (piece ++ left) ts → Takes to owed left (ts ++ Appends to piece ∷ [])
+  piece_taken : {ts : List Entry} (piece left : List ℕ) → Takes to owed (piece ++ left) ts
+      → Takes to owed left (ts ++ Appends to piece ∷ [])
 
 -- an append of these bytes failed: a first part of them stands, or nothing
 abbrev pub TakesPart : Path → List ℕ → List Entry → Type 0
@@ -32,17 +37,20 @@ TakesPart to bytes ts = (ts ≡ []) ⊎ ((count : ℕ) × (count ≤ length byte
 abbrev pub TakesBroke : Path → List ℕ → List Entry → Type 0
 TakesBroke to owed ts = (left : List ℕ) × Then (Takes to owed left) (TakesPart to left) ts
 
--- So many bytes of the one file were read, from its first to its end, where a read gave nothing, and just these were appended to the other; they aren't more than the limit.
+-- So many bytes of the one file were read, from its first to its end, where a read gave nothing, and just these were appended to
+-- the other; they aren't more than the limit.
 pub record AllBytes (from to : Path) (limit count : ℕ) (ts : List Entry) : Type 0 where
   pub bytes : List ℕ
   pub count_is : count ≡ length bytes
   pub within : length bytes ≤ limit
   pub entries : Then (Copying from to bytes []) (Are (Reads from (length bytes) [] ∷ [])) ts
 
--- They weren't: a read failed, where all that was read before was appended; an append failed, of which a first part may stand; or more bytes were read than the limit.
+-- They weren't: a read failed, where all that was read before was appended; an append failed, of which a first part may stand; or
+-- more bytes were read than the limit.
 abbrev pub BytesBroke : Path → Path → ℕ → BytesStop → List Entry → Type 0
 BytesBroke from to limit broke.Read ts = (bytes : List ℕ) × (length bytes ≤ limit) × Copying from to bytes [] ts
-BytesBroke from to limit broke.Append ts = (bytes owed : List ℕ) × (length bytes ≤ limit) × Then (Copying from to bytes owed) (TakesPart to owed) ts
+BytesBroke from to limit broke.Append ts = (bytes owed : List ℕ) × (length bytes ≤ limit)
+    × Then (Copying from to bytes owed) (TakesPart to owed) ts
 BytesBroke from to limit broke.TooLong ts = (bytes owed : List ℕ) × (limit < length bytes) × Copying from to bytes owed ts
 
 -- A call fails only where faults rose.

@@ -35,6 +35,7 @@ cutting job = cond job.cut (Truncates job.from ∷ []) []
 abbrev pub closing : Job → List Entry
 closing job = naming job ++ cutting job
 
--- A copy of so many bytes: the part file is made anew, has the bytes of the log, durably, and gets its final path, durably; only then the log is emptied.
+-- A copy of so many bytes: the part file is made anew, has the bytes of the log, durably, and gets its final path, durably; only
+-- then the log is emptied.
 abbrev pub Copied : Job → ℕ → List Entry → Type 0
 Copied job count ts = Then (Are (opening job)) (Then (Fills job count) (Are (closing job))) ts

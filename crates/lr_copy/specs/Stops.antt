@@ -14,10 +14,12 @@ use Rattle.lr_copy.specs.declared.job.CopyStop.TheVariants as stop
 use Rattle.lr_copy.specs.Bytes.{BytesBroke}
 use Rattle.lr_copy.specs.Copying.{Copies, clearing, opening, Fills, naming}
 
--- The part file wasn't made: the unlink of an old one failed, or the make, with its entry or without; or the path is named, and no make stands.
+-- The part file wasn't made: the unlink of an old one failed, or the make, with its entry or without; or the path is named, and no
+-- make stands.
 abbrev pub OpenStopped : Job → CopyStop → List Entry → Type 0
 OpenStopped job (stop.Call call.Unlink path) ts = (path.now ≡ job.part) × (job.stale ≡ true) × Maybe (Unlinks job.part) ts
-OpenStopped job (stop.Call call.Make path) ts = (path.now ≡ job.part) × Then (Are (clearing job)) (Maybe (Makes job.part job.mode)) ts
+OpenStopped job (stop.Call call.Make path) ts = (path.now ≡ job.part)
+    × Then (Are (clearing job)) (Maybe (Makes job.part job.mode)) ts
 OpenStopped job (stop.Taken path) ts = (path.now ≡ job.part) × (ts ≡ clearing job)
 OpenStopped job _ ts = ⊥
 
@@ -26,13 +28,15 @@ abbrev pub FillStopped : Job → CopyStop → List Entry → Type 0
 FillStopped job (stop.Call call.Read path) ts = (path.now ≡ job.from) × BytesBroke job.from job.part job.limit broke.Read ts
 FillStopped job (stop.Call call.Append path) ts = (path.now ≡ job.part) × BytesBroke job.from job.part job.limit broke.Append ts
 FillStopped job (stop.TooLong path) ts = (path.now ≡ job.from) × BytesBroke job.from job.part job.limit broke.TooLong ts
-FillStopped job (stop.Call call.Sync path) ts = (path.now ≡ job.part) × ((count : ℕ) × Then (Copies job count) (Maybe (SyncsFile job.part)) ts)
+FillStopped job (stop.Call call.Sync path) ts = (path.now ≡ job.part)
+    × ((count : ℕ) × Then (Copies job count) (Maybe (SyncsFile job.part)) ts)
 FillStopped job _ ts = ⊥
 
 -- It didn't get its final path, or not durably.
 abbrev pub NameStopped : Job → CopyStop → List Entry → Type 0
 NameStopped job (stop.Call call.Rename path) ts = (path.now ≡ job.part) × Maybe (Renames job.part job.to) ts
-NameStopped job (stop.Call call.Sync path) ts = (path.now ≡ job.dir) × Then (Are (Renames job.part job.to ∷ [])) (Maybe (SyncsDir job.dir)) ts
+NameStopped job (stop.Call call.Sync path) ts = (path.now ≡ job.dir)
+    × Then (Are (Renames job.part job.to ∷ [])) (Maybe (SyncsDir job.dir)) ts
 NameStopped job _ ts = ⊥
 
 -- The truncation failed.
@@ -45,7 +49,8 @@ pub data CloseStopped (job : Job) (why : CopyStop) (ts : List Entry) : Type 0 wh
   at_name : NameStopped job why ts → CloseStopped job why ts
   at_cut : Then (Are (naming job)) (CutStopped job why) ts → CloseStopped job why ts
 
--- What a copy that broke off left: all of the parts before, and of the one that broke off what the calls before the failed one left, and of that its entry or none.
+-- What a copy that broke off left: all of the parts before, and of the one that broke off what the calls before the failed one
+-- left, and of that its entry or none.
 pub data CopyStopped (job : Job) (why : CopyStop) (ts : List Entry) : Type 0 where
   at_open : OpenStopped job why ts → CopyStopped job why ts
   at_fill : Then (Are (opening job)) (FillStopped job why) ts → CopyStopped job why ts

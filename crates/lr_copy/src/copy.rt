@@ -11,7 +11,8 @@ use crate::opening::{fill_part, open_part};
 use lr_host::Host;
 
 /// Copies the log: an old part file that was seen is unlinked, a new one of this mode is made and gets the bytes of the log,
-/// through the buffer, of 65,536 bytes at most, up to a read that gives nothing; it is synced, gets the final path, and the directory is synced; then
+/// through the buffer, of 65,536 bytes at most, up to a read that gives nothing; it is synced, gets the final path, and the
+/// directory is synced; then
 /// the log is emptied, where that is asked for. The answer is how many bytes were copied. It takes no memory. What fails
 /// leaves the rest undone: a call with or without its effect (`Call`); a part file's path that is named (`Taken`); more bytes
 /// than the limit (`TooLong`). So the log is whole after each refusal but that of its truncation.

@@ -33,4 +33,5 @@ listed_in dir (n ∷ ns) = name_of dir n ++ listed_in dir ns
 
 -- what an opening names, in the order of its paths
 abbrev pub names_of : Opening → List (Path × Thing)
-names_of o = map (λ n. (n.0, thing.File n.1)) o.names ++ (map (λ p. (p, thing.Directory)) o.dirs ++ map (λ p. (p, thing.Other)) o.others)
+names_of o = map (λ n. (n.0, thing.File n.1)) o.names ++ (map (λ p. (p, thing.Directory)) o.dirs
+    ++ map (λ p. (p, thing.Other)) o.others)

@@ -1,5 +1,6 @@
 -- When the state in memory is a world.
-use Rattle.std.specs.Prelude.{◌≡◌, ℕ, ◌+◌, ◌<◌, ◌≤◌, nat_eq, Bool, true, cond, ℤ, List, Option, Some, None, map, length, slice_get, slice_index_or, vec_len, vec_capacity, ◌++◌, [], ◌∷◌, pos}
+use Rattle.std.specs.Prelude.{◌≡◌, ℕ, ◌+◌, ◌<◌, ◌≤◌, nat_eq, Bool, true, cond, ℤ, List, Option, Some, None, map, length, slice_get}
+use Rattle.std.specs.Prelude.{slice_index_or, vec_len, vec_capacity, ◌++◌, [], ◌∷◌, pos}
 use Rattle.lr_rules.specs.declared.path.Path.{Path}
 use Rattle.lr_host.specs.declared.thing.Thing.{Thing}
 use Rattle.lr_host.specs.declared.thing.Thing.TheVariants as thing
@@ -68,7 +69,8 @@ HasRoom state file more =
 
 -- the making of a file under the path was made ready
 abbrev pub CanDraw : State → Path → Type 0
-CanDraw state x = CanChange state.tree (Puts x (thing.File (length state.files.items))) × (vec_len state.files < vec_capacity state.files)
+CanDraw state x = CanChange state.tree (Puts x (thing.File (length state.files.items)))
+    × (vec_len state.files < vec_capacity state.files)
 
 -- there is room for what the entry changes
 abbrev pub IsReady : State → Entry → Type 0
@@ -88,7 +90,8 @@ pub record IsFiled (f : File → File) (file : Option ℕ) (s t : State) : Type 
   pub holds : t.holds.items ≡ s.holds.items
   pub now : t.moment ≡ s.moment
   pub size : length t.files.items ≡ length s.files.items
-  pub files : (id : ℕ) → id < length s.files.items → file_at t.files.items id ≡ cond (holds_file file id) (f (file_at s.files.items id)) (file_at s.files.items id)
+  pub files : (id : ℕ) → id < length s.files.items → file_at t.files.items id
+      ≡ cond (holds_file file id) (f (file_at s.files.items id)) (file_at s.files.items id)
 
 abbrev pub fed_file : List ℕ → ℤ → File → File
 fed_file bytes at f = record { bytes = f.bytes ++ bytes; synced = f.synced; mtime = at; mode = f.mode }
@@ -105,7 +108,12 @@ cut_file limit f = record { bytes = cut_to limit f.bytes; synced = length (cut_t
 -- the world behind the making of a file
 abbrev pub made_world : World → Path → ℤ → Option ℕ → World
 made_world w x at mode = record {
-  files = λ id. record { bytes = cond (nat_eq w.drawn id) [] (w.files id).bytes; synced = cond (nat_eq w.drawn id) 0 (w.files id).synced; mtime = cond (nat_eq w.drawn id) at (w.files id).mtime; mode = cond (nat_eq w.drawn id) mode (w.files id).mode };
+  files = λ id. record {
+    bytes = cond (nat_eq w.drawn id) [] (w.files id).bytes;
+    synced = cond (nat_eq w.drawn id) 0 (w.files id).synced;
+    mtime = cond (nat_eq w.drawn id) at (w.files id).mtime;
+    mode = cond (nat_eq w.drawn id) mode (w.files id).mode;
+  };
   drawn = w.drawn + 1;
   durable = w.durable;
   pending = Puts x (thing.File w.drawn) ∷ w.pending;
@@ -122,7 +130,8 @@ with_entry j e = record { opening = j.opening; entries = j.entries ++ e ∷ [] }
 abbrev pub opened_journal : Opening → Journal
 opened_journal o = record { opening = o; entries = [] }
 
--- What a disk in memory keeps: its state is the world of its journal, which is one of a disk, and while a run stands there is room for its end.
+-- What a disk in memory keeps: its state is the world of its journal, which is one of a disk, and while a run stands there is room
+-- for its end.
 pub record IsDisk (state : State) (len capacity : ℕ) (j : Journal) : Type 0 where
   pub shows : Shows state (world (past j))
   pub journal : IsJournal (past j)

@@ -51,14 +51,16 @@ pub record IsChanged (c : Change) (s t : Tree) : Type 0 where
 pub record IsSynced (dir : Path) (s t : Tree) : Type 0 where
   pub tree : IsTree t
   pub named : t.names.items ≡ s.names.items
-  pub durable : (x : Path) → let all = pending_of s.changes.items in named_in t.durable.items x ≡ names_after (named_in s.durable.items) (kept_at (settled dir [] all) all) x
+  pub durable : (x : Path) → let all = pending_of s.changes.items in named_in t.durable.items x
+      ≡ names_after (named_in s.durable.items) (kept_at (settled dir [] all) all) x
   pub changes : let all = pending_of s.changes.items in pending_of t.changes.items ≡ undone_at (settled dir [] all) all
 
 -- the machine stopped, and of the changes those at these places stay
 pub record IsLeft (kept : List ℕ) (s t : Tree) : Type 0 where
   pub tree : IsTree t
   pub named : (x : Path) → named_in t.names.items x ≡ named_in t.durable.items x
-  pub durable : (x : Path) → named_in t.durable.items x ≡ names_after (named_in s.durable.items) (kept_at kept (pending_of s.changes.items)) x
+  pub durable : (x : Path) → named_in t.durable.items x ≡ names_after (named_in s.durable.items)
+      (kept_at kept (pending_of s.changes.items)) x
   pub changes : t.changes.items ≡ []
 
 -- the names of an opening, all durable

@@ -64,7 +64,8 @@ pub fn sync(state: &mut State, file: Option<u64>)
 /// Cuts each listed file to its length; what is left of each file is synced.
 pub fn cut_all(files: &mut [MemFile], lengths: &[(u64, u64)])
     ensures size { length files.new ≡ length files.old }
-    ensures files { (id : ℕ) → id < length files.old → file_at files.new id ≡ cut_file (length_of lengths.now id) (file_at files.old id) }
+    ensures files { (id : ℕ) → id < length files.old → file_at files.new id
+        ≡ cut_file (length_of lengths.now id) (file_at files.old id) }
 {
     for i in 0..files.len() {
         let limit = length_for(lengths, i as u64);

@@ -1,5 +1,6 @@
 // A disk in memory, which contracts see as the journal of its steps.
-ghost use Rattle.std.specs.Prelude.{◌≡◌, ◌≢◌, ◌<◌, ◌≤◌, ◌+◌, ◌↔◌, ◌∷◌, ◌++◌, true, pos, Some, List, ℕ, [], length, take, drop, vec_len, vec_capacity, MatchResult, MatchOption, IfOk, OnOk, OnErr, IsTrue};
+ghost use Rattle.std.specs.Prelude.{◌≡◌, ◌≢◌, ◌<◌, ◌≤◌, ◌+◌, ◌↔◌, ◌∷◌, ◌++◌, true, pos, Some, List, ℕ, [], length, take, drop};
+ghost use Rattle.std.specs.Prelude.{vec_len, vec_capacity, MatchResult, MatchOption, IfOk, OnOk, OnErr, IsTrue};
 ghost use Rattle.lr_host.specs.declared.entry.Entry.{Entry};
 ghost use Rattle.lr_host.specs.declared.entry.Entry.TheVariants as entry;
 ghost use Rattle.lr_host.specs.World.{World, world, past, names, opened};
@@ -56,7 +57,8 @@ impl Model for Disk {
 
 // Adds an entry; where there is no memory for it, it comes back.
 fn add(alloc: Global, entries: &mut Listed<Entry>, entry: Entry) -> Result<(), Entry>
-    ensures { MatchResult result (λ _. entries.new ≡ entries.old ++ entry ∷ []) (λ back. (back ≡ entry) × (entries.new ≡ entries.old)) }
+    ensures { MatchResult result (λ _. entries.new ≡ entries.old ++ entry ∷ [])
+        (λ back. (back ≡ entry) × (entries.new ≡ entries.old)) }
 {
     let mut items = replace(entries, Listed::new(alloc)).into_vec();
     let pushed = items.push(entry);
@@ -118,7 +120,8 @@ fn newest(entries: &Listed<Entry>) -> &Entry
 
 // The state of an opening, None where the opening isn't one of a disk.
 fn open_valid(alloc: Global, opening: &Opening) -> Result<Option<State>, AllocError>
-    ensures { IfOk result (λ made. MatchOption made (¬ IsValid opening.now) (λ state. IsValid opening.now × Shows state (opened opening.now))) }
+    ensures { IfOk result (λ made. MatchOption made (¬ IsValid opening.now)
+        (λ state. IsValid opening.now × Shows state (opened opening.now))) }
 {
     let state = open(alloc, opening)?;
     if is_valid(opening, &state.tree.names) {
@@ -132,7 +135,8 @@ impl Disk {
     /// A disk at its opening, with no entries; None where the opening isn't one of a disk. After `Memory` there is no
     /// disk, and the opening is gone.
     pub fn new(alloc: Global, opening: Opening) -> Result<Option<Disk>, Memory>
-        ensures { IfOk result (λ made. MatchOption made (¬ IsValid opening) (λ disk. (disk ≡ opened_journal opening) × IsValid opening × ((s : LogSet) → IsSafe s (past disk)))) }
+        ensures { IfOk result (λ made. MatchOption made (¬ IsValid opening)
+            (λ disk. (disk ≡ opened_journal opening) × IsValid opening × ((s : LogSet) → IsSafe s (past disk)))) }
     {
         match open_valid(alloc, &opening)? {
             Some(state) => {
@@ -159,7 +163,8 @@ impl Disk {
 
     /// The bytes of the regular file that has the path; None where none has it.
     pub fn file(&self, path: &Path) -> Option<&[u8]>
-        ensures { MatchOption result (¬ (IsFileAt (names (world (past self.now))) path.now)) (λ bytes. HasBytes (world (past self.now)) (names (world (past self.now)) path.now) bytes.now) }
+        ensures { MatchOption result (¬ (IsFileAt (names (world (past self.now))) path.now))
+            (λ bytes. HasBytes (world (past self.now)) (names (world (past self.now)) path.now) bytes.now) }
     {
         match thing_at(&self.state.tree.names, path.bytes()) {
             Thing::File(identity) => Some(self.state.files[identity as usize].bytes.as_slice()),
@@ -229,7 +234,8 @@ impl Disk {
     /// `Memory` all is as it was.
     pub fn cut(&mut self, kept: &[usize], lengths: &[(u64, u64)]) -> Result<(), Memory>
         requires { IsCut (world (past self.old)) kept.now lengths.now }
-        ensures entry { MatchResult result (λ _. self.new ≡ with_entry self.old (entry.Cut kept.now lengths.now)) (λ _. self.new ≡ self.old) }
+        ensures entry { MatchResult result (λ _. self.new ≡ with_entry self.old (entry.Cut kept.now lengths.now))
+            (λ _. self.new ≡ self.old) }
         ensures safe { OnOk result ((s : LogSet) → IsSafe s (past self.old) → IsSafe s (past self.new)) }
     {
         let entry = cuts(self.alloc, kept, lengths)?;
@@ -315,7 +321,8 @@ impl Disk {
     /// Looks at the path: what stands there, its size in bytes; None where nothing has it. After `Memory` all is as it
     /// was.
     pub fn look(&mut self, path: &Path) -> Result<Option<Seen>, Memory>
-        ensures { MatchResult result (λ seen. (self.new ≡ with_entry self.old (entry.Look path.now seen)) × Fits (world (past self.old)) (entry.Look path.now seen)) (λ _. self.new ≡ self.old) }
+        ensures { MatchResult result (λ seen. (self.new ≡ with_entry self.old (entry.Look path.now seen))
+            × Fits (world (past self.old)) (entry.Look path.now seen)) (λ _. self.new ≡ self.old) }
     {
         let seen = self.see(path);
         let entry = looks(self.alloc, path, seen)?;
@@ -328,7 +335,8 @@ impl Disk {
     pub fn list(&mut self, alloc: Global, dir: &Path, into: &mut Vec<Text>) -> Result<(), Memory>
         requires { IsDirectoryAt (names (world (past self.old))) dir.now }
         ensures kept { take (length into.old.items) into.new.items ≡ into.old.items }
-        ensures ok { let e = entry.List dir.now (drop (length into.old.items) into.new.items) in OnOk result ((self.new ≡ with_entry self.old e) × Fits (world (past self.old)) e) }
+        ensures ok { let e = entry.List dir.now (drop (length into.old.items) into.new.items) in OnOk result
+            ((self.new ≡ with_entry self.old e) × Fits (world (past self.old)) e) }
         ensures err { OnErr result (self.new ≡ self.old) }
     {
         let start = into.len();
@@ -358,8 +366,10 @@ impl Disk {
         requires room { 0 < length into.old }
         requires file { IsFileAt (names (world (past self.old))) path.now }
         ensures bound { IfOk result (λ count. count ≤ length into.new) }
-        ensures read { MatchResult result (λ count. let e = entry.Reads path.now from (take count into.new) in (self.new ≡ with_entry self.old e) × Fits (world (past self.old)) e) (λ _. self.new ≡ self.old) }
-        ensures all { IfOk result (λ count. GivesAll (world (past self.old)) (names (world (past self.old)) path.now) from (length into.new) count) }
+        ensures read { MatchResult result (λ count. let e = entry.Reads path.now from (take count into.new)
+            in (self.new ≡ with_entry self.old e) × Fits (world (past self.old)) e) (λ _. self.new ≡ self.old) }
+        ensures all { IfOk result (λ count. GivesAll (world (past self.old)) (names (world (past self.old)) path.now) from
+            (length into.new) count) }
     {
         let count = self.give(path, from, into);
         let entry = reads(self.alloc, path, from, &into[..count])?;

@@ -31,7 +31,8 @@ pub fn replay(names: &mut [(Path, Thing)], change: &Pending)
 /// Does the changes at these places, in order.
 pub fn keep(names: &mut [(Path, Thing)], changes: &[Pending], kept: &[usize])
     requires { AreKnown names.old (pending_of changes.now) }
-    ensures named { (x : List ℕ) → named_in names.new x ≡ names_after (named_in names.old) (kept_at kept.now (pending_of changes.now)) x }
+    ensures named { (x : List ℕ) → named_in names.new x ≡ names_after (named_in names.old)
+        (kept_at kept.now (pending_of changes.now)) x }
     ensures keys { keys names.new ≡ keys names.old }
 {
     for i in 0..changes.len() {

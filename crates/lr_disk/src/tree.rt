@@ -59,7 +59,8 @@ fn make_room(alloc: Global, tree: &mut Tree, from: &Path, to: &Path) -> Result<(
     ensures same { IsSame tree.old tree.new }
     ensures place { OnOk result (HasPlace tree.new) }
     ensures named { OnOk result ((has_path tree.new.names.items from.now ≡ true) × (has_path tree.new.names.items to.now ≡ true)) }
-    ensures durable { OnOk result ((has_path tree.new.durable.items from.now ≡ true) × (has_path tree.new.durable.items to.now ≡ true)) }
+    ensures durable { OnOk result ((has_path tree.new.durable.items from.now ≡ true)
+        × (has_path tree.new.durable.items to.now ≡ true)) }
 {
     make_places(tree)?;
     make_path(alloc, tree, from)?;

@@ -1,6 +1,7 @@
 // The table of cases by which a log is due or not.
 ghost use Rattle.std.specs.Prelude.{◌≡◌};
-ghost use Rattle.lr_due.specs.Due.{age_days, is_young, is_spared_empty, is_above, is_within, size_limit, days_past, is_ahead, is_on_day, has_turned, has_turned_since, due_of};
+ghost use Rattle.lr_due.specs.Due.{age_days, is_young, is_spared_empty, is_above, is_within, size_limit, days_past, is_ahead};
+ghost use Rattle.lr_due.specs.Due.{is_on_day, has_turned, has_turned_since, due_of};
 
 use crate::answer::{Due, Why, WhyNot};
 use crate::calendar::weekday;

@@ -36,7 +36,8 @@ fn rule_of(alloc: Global, rule: &[u8]) -> Result<Zone, PathFault>
 }
 
 fn file_of(alloc: Global, path: &[u8]) -> Result<Zone, PathFault>
-    ensures { MatchResult result (λ zone. (zone ≡ asked.File path.now) × (path_fault path.now ≡ None)) (IsRefusal (path_fault path.now)) }
+    ensures { MatchResult result (λ zone. (zone ≡ asked.File path.now) × (path_fault path.now ≡ None))
+        (IsRefusal (path_fault path.now)) }
 {
     match Path::new(alloc, path) {
         Ok(path) => Ok(Zone::File(path)),
@@ -45,7 +46,8 @@ fn file_of(alloc: Global, path: &[u8]) -> Result<Zone, PathFault>
 }
 
 fn zone_of_text(alloc: Global, value: &[u8]) -> Result<Zone, PathFault>
-    ensures { MatchResult result (λ zone. (zone ≡ zone_asked value.now) × (zone_fault (zone_asked value.now) ≡ None)) (IsRefusal (zone_fault (zone_asked value.now))) }
+    ensures { MatchResult result (λ zone. (zone ≡ zone_asked value.now) × (zone_fault (zone_asked value.now) ≡ None))
+        (IsRefusal (zone_fault (zone_asked value.now))) }
 {
     match value {
         [] => Ok(Zone::Utc),
@@ -59,7 +61,8 @@ fn zone_of_text(alloc: Global, value: &[u8]) -> Result<Zone, PathFault>
 /// leading colon is left out, none, an empty one and `UTC` are UTC; one that begins with a slash is the path of a file,
 /// and a refusal is that of the path; any other is a rule, which is not looked at here.
 pub fn zone_of(alloc: Global, value: Option<&Text>) -> Result<Zone, PathFault>
-    ensures { MatchResult result (λ zone. (zone ≡ zone_value (option_copied value.entry)) × (zone_fault zone ≡ None)) (IsRefusal (zone_fault (zone_value (option_copied value.entry)))) }
+    ensures { MatchResult result (λ zone. (zone ≡ zone_value (option_copied value.entry)) × (zone_fault zone ≡ None))
+        (IsRefusal (zone_fault (zone_value (option_copied value.entry)))) }
 {
     match value {
         Some(text) => zone_of_text(alloc, behind_colon(text.bytes())),

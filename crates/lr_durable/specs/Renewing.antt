@@ -22,13 +22,16 @@ IsAsideOf x e = IsIn x (changed_paths e) → ⊥
 abbrev pub IsWithin : Path → List Path → Entry → Type 0
 IsWithin part dirs e = (x : Path) → IsIn x (renamed_paths e) → (x ≡ part) ⊎ IsIn (parent_of x) dirs
 
--- Behind changes in these directories alone, none of which is of the state, the part file was made, got the text in pieces, and was synced; each of the directories was synced; then the part file got the state's path, and behind that nothing was changed.
+-- Behind changes in these directories alone, none of which is of the state, the part file was made, got the text in pieces, and was
+-- synced; each of the directories was synced; then the part file got the state's path, and behind that nothing was changed.
 pub record Renews (state : Path) (dirs : List Path) (text : List ℕ) (ts : List Entry) : Type 0 where
   pub front : List Entry
   pub mode : Option ℕ
   pub pieces : List (List ℕ)
   pub after : List Entry
-  pub ts_are : ts ≡ front ++ (Makes (state_part state) mode ∷ (map (Appends (state_part state)) pieces ++ (SyncsFile (state_part state) ∷ (map SyncsDir dirs ++ (Renames (state_part state) state ∷ after)))))
+  pub ts_are : ts ≡ front ++ (Makes (state_part state) mode ∷
+      (map (Appends (state_part state)) pieces ++ (SyncsFile (state_part state) ∷
+      (map SyncsDir dirs ++ (Renames (state_part state) state ∷ after)))))
   pub aside : Each (IsAsideOf state) front
   pub within : Each (IsWithin (state_part state) dirs) front
   pub text_is : flat_map (λ piece. piece) pieces ≡ text

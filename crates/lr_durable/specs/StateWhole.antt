@@ -23,7 +23,8 @@ pub record IsSettled (state : Path) (p : Past) : Type 0 where
   pub synced : (g : ℕ) → names (world p) state ≡ thing.File g → length ((world p).files g).bytes ≤ ((world p).files g).synced
   pub durable : list_any (λ c. in_list (paths_in c) state) (world p).pending ≡ false
 
--- No writer holds the state's file as the call begins, and in the call none is attached to the state's path or to that of its part file.
+-- No writer holds the state's file as the call begins, and in the call none is attached to the state's path or to that of its part
+-- file.
 pub record WritersSpare (state : Path) (before after : Past) : Type 0 where
   pub held : (v g : ℕ) → (world before).holds v ≡ Some g → names (world before) state ≢ thing.File g
   pub attached : AttachedOnlySince (λ x. (x ≢ state) × (x ≢ state_part state)) before after
@@ -38,16 +39,20 @@ renamed_paths (Unlinks x) = x ∷ []
 renamed_paths (MakesDir x mode) = x ∷ []
 renamed_paths _ = []
 
--- The last change that the tool made of this path's name, behind the first past, left it naming this; so many files were drawn by then.
+-- The last change that the tool made of this path's name, behind the first past, left it naming this; so many files were drawn by
+-- then.
 pub data LeftAs (before : Past) (x : Path) (left : Thing) (drawn : ℕ) : Past → Type 0 where
-  by_last : {q : Past} {e : Entry} → IsPrefix before q → IsIn x (renamed_paths e) → names (world (q ▸ e)) x ≡ left → (world (q ▸ e)).drawn ≡ drawn → LeftAs before x left drawn (q ▸ e)
-  still : {q : Past} {e : Entry} → LeftAs before x left drawn q → (IsIn x (renamed_paths e) → ⊥) → LeftAs before x left drawn (q ▸ e)
+  by_last : {q : Past} {e : Entry} → IsPrefix before q → IsIn x (renamed_paths e) → names (world (q ▸ e)) x ≡ left
+      → (world (q ▸ e)).drawn ≡ drawn → LeftAs before x left drawn (q ▸ e)
+  still : {q : Past} {e : Entry} → LeftAs before x left drawn q → (IsIn x (renamed_paths e) → ⊥)
+      → LeftAs before x left drawn (q ▸ e)
 
 -- The path names what it was left with; where that is nothing, it may name a file that was made since so many were drawn.
 abbrev pub StandsAs : ℕ → Thing → Thing → Type 0
 StandsAs drawn left now = (now ≡ left) ⊎ ((left ≡ thing.Nothing) × ((g : ℕ) × (now ≡ thing.File g) × (drawn ≤ g)))
 
--- Under these names all changes of names are applied that the tool made between the two pasts: each path that it changed names what the last of them left it with, or, where that is nothing, maybe a file that a writer made behind that change.
+-- Under these names all changes of names are applied that the tool made between the two pasts: each path that it changed names what
+-- the last of them left it with, or, where that is nothing, maybe a file that a writer made behind that change.
 abbrev pub AreApplied : Past → Past → Names → Type 0
 AreApplied before until n = (x : Path) (left : Thing) (drawn : ℕ) → LeftAs before x left drawn until → StandsAs drawn left (n x)
 
@@ -58,7 +63,8 @@ pub record IsAsBefore (state : Path) (before now : Past) : Type 0 where
   pub named : names (world now) state ≡ names (world before) state
   pub same : (g : ℕ) → names (world before) state ≡ thing.File g → ((world now).files g).bytes ≡ ((world before).files g).bytes
 
--- In the world of `now` the state's path names a file whose bytes are a new text, whole. It got that path by a rename up to the moment p, and all changes of names that the tool made up to and with this rename are applied.
+-- In the world of `now` the state's path names a file whose bytes are a new text, whole. It got that path by a rename up to the
+-- moment p, and all changes of names that the tool made up to and with this rename are applied.
 pub record IsRenewed (state : Path) (IsText : List ℕ → Type 0) (before p now : Past) : Type 0 where
   -- just before that rename
   pub turning : Past
@@ -85,8 +91,10 @@ pub record StaysWhole (state : Path) (IsText : List Entry → List ℕ → Type 
   pub made : Made before entries after
   pub each : (p : Past) → IsPrefix before p → IsPrefix p after → IsWholeAt state (IsText (reverse entries)) before p
 
--- The promise over a call: where the journal is told, and the state is settled as the call begins, it stays whole, if writers spare it.
+-- The promise over a call: where the journal is told, and the state is settled as the call begins, it stays whole, if writers spare
+-- it.
 abbrev pub KeepsWhole : Path → (List Entry → List ℕ → Type 0) → Option Journal → Option Journal → Type 0
-KeepsWhole state IsText (Some j) (Some k) = IsJournal (past j) → IsSettled state (past j) → WritersSpare state (past j) (past k) → StaysWhole state IsText (past j) (past k)
+KeepsWhole state IsText (Some j) (Some k) = IsJournal (past j) → IsSettled state (past j) → WritersSpare state (past j) (past k)
+    → StaysWhole state IsText (past j) (past k)
 KeepsWhole state IsText None None = Unit {0}
 KeepsWhole state IsText _ _ = ⊥

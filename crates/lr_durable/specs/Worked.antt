@@ -19,7 +19,8 @@ filled p = p ▸ Makes (state_part state) None ▸ Appends (state_part state) te
 
 -- in order: the directory of the rename is synced before the state gets its new file
 abbrev pub in_order : Past
-in_order = filled (Opens found ▸ Renames second third) ▸ SyncsDir (codes "/v") ▸ Renames (state_part state) state ▸ SyncsDir (codes "/s")
+in_order = filled (Opens found ▸ Renames second third) ▸ SyncsDir (codes "/v") ▸ Renames (state_part state) state
+    ▸ SyncsDir (codes "/s")
 
 -- that directory isn't synced
 abbrev pub not_synced : Past

@@ -35,7 +35,8 @@ pub fn written_state_is_settled()
 /// path nor to that of its part file.
 pub fn renewed_state_has_its_text()
     ensures { (state : Path) (dirs : List Path) (text : List ℕ) (p q : Past) (es : List Entry) → Made p es q → IsJournal p
-        → Renews state dirs text (reverse es) → AttachedOnlySince (λ x. (x ≢ state) × (x ≢ state_part state)) p q → HasText state text q }
+        → Renews state dirs text (reverse es) → AttachedOnlySince (λ x. (x ≢ state) × (x ≢ state_part state)) p q
+        → HasText state text q }
 {}
 
 /// Behind the sync of a directory each path right in it names, after each cut, what it names now.

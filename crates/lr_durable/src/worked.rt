@@ -11,7 +11,8 @@ ghost use Rattle.lr_durable.specs.Worked.{state, text, in_order, not_synced, mad
 /// after each cut.
 pub fn in_order_is_whole()
     ensures settled { IsSettled state (Opens found) }
-    ensures whole { (u : Past) → IsPrefix (Opens found) u → IsPrefix u in_order → IsWholeAt state (λ bytes. bytes ≡ text) (Opens found) u }
+    ensures whole { (u : Past) → IsPrefix (Opens found) u → IsPrefix u in_order
+        → IsWholeAt state (λ bytes. bytes ≡ text) (Opens found) u }
 {}
 
 /// Where it isn't, a cut may leave the new state and undo the rename.

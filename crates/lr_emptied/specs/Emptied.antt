@@ -17,7 +17,8 @@ IsJobIn jobs job = IsIn job jobs
 
 -- ---- by the entries
 
--- The last of these entries are a copy of the log, up to the sync of its directory, by a job that has P and asks that the log is emptied.
+-- The last of these entries are a copy of the log, up to the sync of its directory, by a job that has P and asks that the log is
+-- emptied.
 pub record CopiedLast (P : Job → Type 0) (log : Path) (before : List Entry) : Type 0 where
   pub job : Job
   pub is : P job
@@ -31,11 +32,13 @@ pub record CopiedLast (P : Job → Type 0) (log : Path) (before : List Entry) : 
 
 -- Each log that these entries empty was copied just before, by such a job.
 abbrev pub EmptiesCopied : (Job → Type 0) → List Entry → Type 0
-EmptiesCopied P ts = (before : List Entry) (log : Path) (after : List Entry) → ts ≡ before ++ (Truncates log ∷ after) → CopiedLast P log before
+EmptiesCopied P ts = (before : List Entry) (log : Path) (after : List Entry) → ts ≡ before ++ (Truncates log ∷ after)
+    → CopiedLast P log before
 
 -- ---- in the world
 
--- Such a job copied the log between the two pasts; and where no writer was attached to its part file or its final path meanwhile, the copy is whole now.
+-- Such a job copied the log between the two pasts; and where no writer was attached to its part file or its final path meanwhile,
+-- the copy is whole now.
 pub record IsCopied (P : Job → Type 0) (log : Path) (before now : Past) : Type 0 where
   pub job : Job
   pub is : P job
@@ -43,8 +46,10 @@ pub record IsCopied (P : Job → Type 0) (log : Path) (before now : Past) : Type
   pub cut : job.cut ≡ true
   pub whole : WritersSpare job before now → IsWhole log job.to before now
 
--- The promise over a call: where the journal is told, and was one of a disk, each log that the call emptied was copied so by then, since the call began.
+-- The promise over a call: where the journal is told, and was one of a disk, each log that the call emptied was copied so by then,
+-- since the call began.
 abbrev pub EmptiesWhole : (Job → Type 0) → Option Journal → Option Journal → Type 0
-EmptiesWhole P (Some j) (Some k) = IsJournal (past j) → (u : Past) (log : Path) → IsPrefix (past j) u → IsPrefix (u ▸ Truncates log) (past k) → IsCopied P log (past j) u
+EmptiesWhole P (Some j) (Some k) = IsJournal (past j) → (u : Past) (log : Path) → IsPrefix (past j) u
+    → IsPrefix (u ▸ Truncates log) (past k) → IsCopied P log (past j) u
 EmptiesWhole P None None = Unit {0}
 EmptiesWhole P _ _ = ⊥

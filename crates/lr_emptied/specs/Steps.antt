@@ -9,7 +9,8 @@ use Rattle.lr_plan.specs.Steps.{step_if}
 
 -- the steps of a copy, up to the sync of its directory
 abbrev pub named_steps : Job → List Step
-named_steps job = step_if job.stale (Removes job.part) ++ (Takes job.part job.mode ∷ Copies job.from job.part job.limit ∷ SyncsFile job.part ∷ Renames job.part job.to ∷ SyncsDir job.dir ∷ [])
+named_steps job = step_if job.stale (Removes job.part) ++ (Takes job.part job.mode ∷ Copies job.from job.part job.limit ∷ SyncsFile
+    job.part ∷ Renames job.part job.to ∷ SyncsDir job.dir ∷ [])
 
 -- The last of these steps are those of a copy of the log, by a job that has P and asks that the log is emptied.
 pub record CopyStepsLast (P : Job → Type 0) (log : Path) (before : List Step) : Type 0 where
@@ -22,7 +23,8 @@ pub record CopyStepsLast (P : Job → Type 0) (log : Path) (before : List Step) 
 
 -- Each log that these steps empty they copy just before, by such a job.
 abbrev pub AreCopySteps : (Job → Type 0) → List Step → Type 0
-AreCopySteps P steps = (before : List Step) (log : Path) (after : List Step) → steps ≡ before ++ (Truncates log ∷ after) → CopyStepsLast P log before
+AreCopySteps P steps = (before : List Step) (log : Path) (after : List Step) → steps ≡ before ++ (Truncates log ∷ after)
+    → CopyStepsLast P log before
 
 -- The same of each list of steps of a definition.
 pub record IsCopySet (P : Job → Type 0) (set : SetSteps) : Type 0 where

@@ -12,7 +12,8 @@ behind entries = record { opening = found; entries = entries }
 
 -- the log is copied, and then emptied
 abbrev pub copied_first : List Entry
-copied_first = Makes part None ∷ Reads log 0 (codes "C") ∷ Appends part (codes "C") ∷ Reads log 1 [] ∷ SyncsFile part ∷ Renames part third ∷ SyncsDir (codes "/v") ∷ Truncates log ∷ []
+copied_first = Makes part None ∷ Reads log 0 (codes "C") ∷ Appends part (codes "C") ∷ Reads log 1 [] ∷ SyncsFile part ∷ Renames part
+    third ∷ SyncsDir (codes "/v") ∷ Truncates log ∷ []
 
 -- it is emptied
 abbrev pub at_once : List Entry

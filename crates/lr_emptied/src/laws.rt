@@ -40,7 +40,8 @@ pub fn plan_steps_are_copies()
 pub fn plan_copies_by_rules()
     ensures asked { (rules : List Rule) (sets : List SetLooks) (table : List Row) (clock : Clock) (asked : Asked) (job : Job)
         → IsIn job (jobs_of (plan_of rules sets table clock asked).sets) → IsAskedFor clock rules sets job }
-    ensures way { (rule : Rule) (look : LogLook) (target : Path) (job : Job) → job_by rule.way look target ≡ Some job → job.cut ≡ true → rule.way ≡ way.CopyTruncate }
+    ensures way { (rule : Rule) (look : LogLook) (target : Path) (job : Job) → job_by rule.way look target ≡ Some job
+        → job.cut ≡ true → rule.way ≡ way.CopyTruncate }
 {}
 
 /// Where each log that steps empty they copy just before, so it is in the entries that they leave: whatever failed, also a
@@ -55,20 +56,24 @@ pub fn acts_empty_copied()
 /// So it is in what the acts of a plan leave, the writing of the state behind them; entries that empty nothing may stand
 /// anywhere else, and two such lists of entries one behind the other.
 pub fn emptied_in_run()
-    ensures acts { (plan : Plan) (state : Path) (stale : Bool) (dirs : List Mark → List Path) (text : List Path → List ℕ) (marks : List Mark) (faults : List Fault) (ts : List Entry)
+    ensures acts { (plan : Plan) (state : Path) (stale : Bool) (dirs : List Mark → List Path) (text : List Path → List ℕ)
+        (marks : List Mark) (faults : List Fault) (ts : List Entry)
         → ActsDone plan state stale dirs text marks faults ts → EmptiesCopied (IsJobIn (jobs_of plan.sets)) ts }
     ensures cut_acts { (plan : Plan) (marks : List Mark) (faults : List Fault) (ts : List Entry)
         → SetsCut (steps_of_plan plan) marks faults ts → EmptiesCopied (IsJobIn (jobs_of plan.sets)) ts }
-    ensures state { (jobs : List Job) (state : Path) (stale : Bool) (dirs : List Path) (text : List ℕ) (marks : List Mark) (faults : List Fault) (ts : List Entry)
+    ensures state { (jobs : List Job) (state : Path) (stale : Bool) (dirs : List Path) (text : List ℕ) (marks : List Mark)
+        (faults : List Fault) (ts : List Entry)
         → Course (state_steps state stale dirs text) marks faults ts → EmptiesCopied (IsJobIn jobs) ts }
     ensures none { (jobs : List Job) (ts : List Entry) → Each EmptiesNone ts → EmptiesCopied (IsJobIn jobs) ts }
     ensures quiet { (jobs : List Job) (ts : List Entry) → AreQuiet ts → EmptiesCopied (IsJobIn jobs) ts }
-    ensures both { (jobs : List Job) (xs ys : List Entry) → EmptiesCopied (IsJobIn jobs) xs → EmptiesCopied (IsJobIn jobs) ys → EmptiesCopied (IsJobIn jobs) (xs ++ ys) }
+    ensures both { (jobs : List Job) (xs ys : List Entry) → EmptiesCopied (IsJobIn jobs) xs → EmptiesCopied (IsJobIn jobs) ys
+        → EmptiesCopied (IsJobIn jobs) (xs ++ ys) }
 {}
 
 /// Where by its entries each log that a call empties was copied just before, by a job whose paths are good, it was copied
 /// whole, whatever writers do that spare the copy.
 pub fn copies_are_whole()
-    ensures { (jobs : List Job) (told later : Option Journal) → Left (EmptiesCopied (IsJobIn jobs)) told later → ((job : Job) → IsIn job jobs → ArePaths job)
+    ensures { (jobs : List Job) (told later : Option Journal) → Left (EmptiesCopied (IsJobIn jobs)) told later
+        → ((job : Job) → IsIn job jobs → ArePaths job)
         → EmptiesWhole (IsJobIn jobs) told later }
 {}

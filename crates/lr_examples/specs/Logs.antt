@@ -1,4 +1,5 @@
--- Two logs, what stands of them, and the looks of a run at them: `/v/a.log`, of which two members are kept and stand, and `/w/b.log`, of which one is kept and none stands.
+-- Two logs, what stands of them, and the looks of a run at them: `/v/a.log`, of which two members are kept and stand, and
+-- `/w/b.log`, of which one is kept and none stands.
 use Rattle.std.specs.Prelude.{◌≡◌, ℕ, List, [], ◌∷◌, Some, None, pos, false, true, refl, codes}
 use Rattle.std.specs.List.{list_all}
 use Rattle.lr_rules.specs.declared.path.Path.{Path}
@@ -112,7 +113,8 @@ abbrev pub directory : Seen
 directory = record { kind = kind.Dir; size = 0; mtime = pos 0; mode = None; exposed = false }
 
 abbrev pub a_members : List Member
-a_members = record { path = a_first; place = at.Number 0; seen = file } ∷ record { path = a_second; place = at.Number 1; seen = file } ∷ []
+a_members = record { path = a_first; place = at.Number 0; seen = file } ∷
+    record { path = a_second; place = at.Number 1; seen = file } ∷ []
 
 abbrev pub a_stand : Stand
 a_stand = record { there = true; parent = true; members = a_members; parts = [] }
@@ -158,5 +160,6 @@ b_listed = codes "b.log" ∷ []
 -- at both words first, and then at both families
 abbrev pub looks : List Entry
 looks =
-    entry.Look a_log (Some file) ∷ entry.Look b_log (Some file) ∷ entry.Look (codes "/v") (Some directory) ∷ entry.List (codes "/v") a_listed ∷ entry.Look a_first (Some file) ∷ entry.Look a_second (Some file)
+    entry.Look a_log (Some file) ∷ entry.Look b_log (Some file) ∷ entry.Look (codes "/v") (Some directory) ∷ entry.List (codes "/v")
+    a_listed ∷ entry.Look a_first (Some file) ∷ entry.Look a_second (Some file)
     ∷ entry.Look (codes "/w") (Some directory) ∷ entry.List (codes "/w") b_listed ∷ []

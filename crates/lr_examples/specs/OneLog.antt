@@ -1,4 +1,5 @@
--- A run over both logs in which the steps of the two rotations and the writing of the state stand between one another, while one writer holds the file of `/v/a.log` and another makes that log anew.
+-- A run over both logs in which the steps of the two rotations and the writing of the state stand between one another, while one
+-- writer holds the file of `/v/a.log` and another makes that log anew.
 use Rattle.std.specs.Prelude.{ℕ, List, [], ◌∷◌, codes, pos, Some, None}
 use Rattle.lr_rules.specs.declared.path.Path.{Path}
 use Rattle.lr_rules.specs.declared.civil.Moment.{Moment}
@@ -8,7 +9,8 @@ use Rattle.lr_host.specs.declared.journal.OpenFile.{OpenFile}
 use Rattle.lr_host.specs.World.{Past, Opens, ◌▸◌}
 use Rattle.lr_laws_family.specs.Numbered.{numbered}
 use Rattle.lr_laws_family.specs.Rotation.{Rotation, Rename}
-use Rattle.lr_examples.specs.Logs.{state, part, a_naming, a_count, a_from, a_stand, a_log, a_first, a_second, a_third, b_log, b_first, rules, file, directory, a_listed, b_listed}
+use Rattle.lr_examples.specs.Logs.{state, part, a_naming, a_count, a_from, a_stand, a_log, a_first, a_second, a_third, b_log}
+use Rattle.lr_examples.specs.Logs.{b_first, rules, file, directory, a_listed, b_listed}
 
 -- the paths that the tool changes besides the log's and its members'
 abbrev pub paths : List Path
@@ -38,15 +40,20 @@ begun = Opens stood
 -- the run begins, and looks at both logs and at their families
 abbrev pub looked : Moment → Past
 looked now =
-    begun ▸ entry.Look (codes "/s") (Some directory) ▸ entry.Starts state now rules ▸ entry.Look a_log (Some file) ▸ entry.Look b_log (Some file) ▸ entry.Look (codes "/v") (Some directory) ▸ entry.List (codes "/v") a_listed ▸ entry.Look a_first (Some file)
+    begun ▸ entry.Look (codes "/s") (Some directory) ▸ entry.Starts state now rules ▸ entry.Look a_log (Some file)
+    ▸ entry.Look b_log (Some file) ▸ entry.Look (codes "/v") (Some directory) ▸ entry.List (codes "/v") a_listed
+    ▸ entry.Look a_first (Some file)
     ▸ entry.Look a_second (Some file) ▸ entry.Look (codes "/w") (Some directory) ▸ entry.List (codes "/w") b_listed
 
 -- up to the rename of the log, while its writer feeds its file: the state's part file is made, and the other log is rotated
 abbrev pub renamed : Moment → Past
 renamed now =
-    looked now ▸ entry.Feed 7 (codes "x") (pos 1) ▸ entry.Renames a_second a_third ▸ entry.Makes part None ▸ entry.Renames a_first a_second ▸ entry.Renames b_log b_first ▸ entry.Feed 7 (codes "y") (pos 2) ▸ entry.Renames a_log a_first
+    looked now ▸ entry.Feed 7 (codes "x") (pos 1) ▸ entry.Renames a_second a_third ▸ entry.Makes part None
+    ▸ entry.Renames a_first a_second ▸ entry.Renames b_log b_first ▸ entry.Feed 7 (codes "y") (pos 2)
+    ▸ entry.Renames a_log a_first
 
 -- up to the end, while another writer makes the log anew: the state is written and put in its place
 abbrev pub over : Moment → Past
 over now =
-    renamed now ▸ entry.Attach 8 a_log (pos 3) ▸ entry.Feed 7 (codes "z") (pos 4) ▸ entry.Appends part (codes "new state") ▸ entry.Unlinks a_third ▸ entry.Feed 8 (codes "w") (pos 5) ▸ entry.Renames part state ▸ entry.Ends
+    renamed now ▸ entry.Attach 8 a_log (pos 3) ▸ entry.Feed 7 (codes "z") (pos 4) ▸ entry.Appends part (codes "new state")
+    ▸ entry.Unlinks a_third ▸ entry.Feed 8 (codes "w") (pos 5) ▸ entry.Renames part state ▸ entry.Ends

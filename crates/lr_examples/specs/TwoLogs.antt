@@ -2,7 +2,8 @@
 use Rattle.std.specs.Prelude.{List, [], ◌∷◌, ◌++◌, Some, None, codes}
 use Rattle.lr_rules.specs.declared.clock.Clock.{Clock}
 use Rattle.lr_host.specs.declared.entry.Entry.{Entry}
-use Rattle.lr_host.specs.declared.entry.Entry.TheVariants.{Starts, Ends, Look, Renames, Makes, Appends, Unlinks, SyncsFile, SyncsDir}
+use Rattle.lr_host.specs.declared.entry.Entry.TheVariants.{Starts, Ends, Look, Renames, Makes, Appends, Unlinks, SyncsFile}
+use Rattle.lr_host.specs.declared.entry.Entry.TheVariants.{SyncsDir}
 use Rattle.lr_examples.specs.Logs.{state, part, a_log, a_first, a_second, a_third, b_log, b_first, rules, directory, looks}
 
 -- the highest place first, then the log, then the member that is one too many

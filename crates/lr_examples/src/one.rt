@@ -18,7 +18,8 @@ ghost use Rattle.lr_examples.specs.OneLog.{begun, over, paths, turn};
 /// log's file, which its writer fed before its rename and behind it.
 pub fn one_log_rotates()
     ensures asked { (now : Moment) → (es : List Entry) × Made begun es (over now) × IsJournal begun × IsFamily turn.log a_naming
-        × IsNoMember a_naming turn.source × IsRotation a_naming turn × HasJob turn.by turn × NoneAttached a_naming turn begun (over now)
+        × IsNoMember a_naming turn.source × IsRotation a_naming turn × HasJob turn.by turn
+        × NoneAttached a_naming turn begun (over now)
         × AreOutside (part_paths turn.by ++ paths) a_naming turn × RotatesAmong paths a_naming turn (reverse es) }
     ensures rotated { (now : Moment) → AreThere a_naming (names (world begun)) turn.stood
         × IsTurned paths a_naming turn begun (over now) }

@@ -27,5 +27,6 @@ pub fn two_logs_are_rotated()
 /// the one log's steps.
 pub fn one_log_of_two()
     ensures failed { (clock : Clock) → IsWholeRunBy clock (two_logs_run clock (Renames a_second a_third ∷ b_steps)) }
-    ensures any { (clock : Clock) (made rest : List Entry) → a_steps ≡ made ++ rest → IsWholeRunBy clock (two_logs_run clock (made ++ b_steps)) }
+    ensures any { (clock : Clock) (made rest : List Entry) → a_steps ≡ made ++ rest
+        → IsWholeRunBy clock (two_logs_run clock (made ++ b_steps)) }
 {}

@@ -39,7 +39,8 @@ ShowsMembers n false names members ts = (members ≡ []) × (ts ≡ [])
 
 -- What stands of the family, in a directory that was listed so: the looks at members, and then those at part files.
 abbrev pub ShowsIn : Naming → Bool → Bool → List (List ℕ) → Stand → List Entry → Type 0
-ShowsIn n there parent names stand ts = (stand.there ≡ there) × (stand.parent ≡ parent) × Then (ShowsMembers n there names stand.members) (ShowsParts n there names stand.parts) ts
+ShowsIn n there parent names stand ts = (stand.there ≡ there) × (stand.parent ≡ parent)
+    × Then (ShowsMembers n there names stand.members) (ShowsParts n there names stand.parts) ts
 
 -- The members are known, but not which of their part files stand.
 abbrev pub StopsBehind : Naming → List (List ℕ) → StandStop → List Entry → Type 0
@@ -56,7 +57,8 @@ IsExactlyAmong n names result ts = (path : Path) → (result ≡ Err (stop.NotFi
 
 -- ---- how many entries
 
--- At most one entry for each member and each part file among the names: the paths of the members are different, and so are those of the part files.
+-- At most one entry for each member and each part file among the names: the paths of the members are different, and so are those of
+-- the part files.
 pub record AreFewAmong (n : Naming) (names : List (List ℕ)) (ts : List Entry) : Type 0 where
   pub paths : List Path
   pub once : IsStrictlySortedBy by_bytes paths

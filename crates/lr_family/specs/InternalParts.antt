@@ -10,7 +10,8 @@ use Rattle.lr_family.specs.Parts.{IsMembersPart, IsPartAmong, PartSight, part_lo
 
 -- the path of the name is added, where it is that of a member's part file
 abbrev pub AddsPart : Naming → List ℕ → List Path → List Path → Type 0
-AddsPart n name before now = (IsMembersPart n (joined n.dir name) × (now ≡ before ++ joined n.dir name ∷ [])) ⊎ ((IsMembersPart n (joined n.dir name) → ⊥) × (now ≡ before))
+AddsPart n name before now = (IsMembersPart n (joined n.dir name) × (now ≡ before ++ joined n.dir name ∷ []))
+    ⊎ ((IsMembersPart n (joined n.dir name) → ⊥) × (now ≡ before))
 
 -- These are the part files among the names, in order of bytes.
 pub record HasParts (n : Naming) (names : List (List ℕ)) (paths : List Path) : Type 0 where

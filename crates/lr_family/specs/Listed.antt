@@ -27,7 +27,8 @@ pub record HasListed (dir : Path) (names : List (List ℕ)) (ts : List Entry) : 
 -- The directory is there, and has these names; or it isn't there, and a look at its parent showed whether that is.
 abbrev pub ShowsListing : Path → Bool → Bool → List (List ℕ) → List Entry → Type 0
 ShowsListing dir true parent names ts = (parent ≡ true) × Then (Sees dir IsDir) (HasListed dir names) ts
-ShowsListing dir false parent names ts = (names ≡ []) × Then (Sees dir IsNothing) (Sees (parent_of dir) (λ seen. is_dir seen ≡ parent)) ts
+ShowsListing dir false parent names ts = (names ≡ []) × Then (Sees dir IsNothing)
+    (Sees (parent_of dir) (λ seen. is_dir seen ≡ parent)) ts
 
 -- A call failed: a look at the directory, one at its parent, or the listing.
 abbrev pub NotListedAt : Path → CallKind → Path → List Entry → Type 0

@@ -12,12 +12,14 @@ use Rattle.lr_family.specs.Listed.{ShowsListing, ShowsNoDir, NotListed}
 
 -- The directory was listed, or isn't there, and the looks at the members among its names, and at their part files, show these.
 abbrev pub ShowsStand : Naming → Stand → List Entry → Type 0
-ShowsStand n stand ts = (names : List (List ℕ)) × Then (ShowsListing n.dir stand.there stand.parent names) (ShowsIn n stand.there stand.parent names stand) ts
+ShowsStand n stand ts = (names : List (List ℕ)) × Then (ShowsListing n.dir stand.there stand.parent names)
+    (ShowsIn n stand.there stand.parent names stand) ts
 
 -- The directory wasn't listed for this cause, or it was, and the looks behind it stopped for it.
 abbrev pub ShowsStop : Naming → StandStop → List Entry → Type 0
 ShowsStop n why ts = NotListed n.dir why ts
-    ⊎ ((there parent : Bool) × (names : List (List ℕ)) × Then (ShowsListing n.dir there parent names) (ShowsNoneIn n there names why) ts)
+    ⊎ ((there parent : Bool) × (names : List (List ℕ)) × Then (ShowsListing n.dir there parent names)
+    (ShowsNoneIn n there names why) ts)
 
 -- The family's directory is named and no directory, or a member is no regular file: the first in order of bytes.
 abbrev pub ShowsNoFile : Naming → Path → List Entry → Type 0

@@ -16,7 +16,8 @@ abbrev pub number_in : Place → ℕ
 number_in (at.Number number) = number
 number_in (at.Stamp seconds serial) = 0
 
--- a place as one number, greater where the member is newer; places of one family are of one kind, and a number counts as a moment so many seconds before 1970
+-- a place as one number, greater where the member is newer; places of one family are of one kind, and a number counts as a moment
+-- so many seconds before 1970
 abbrev pub key_in : Place → ℤ
 key_in (at.Number number) = stamp_key (neg_ℤ (pos number)) 0
 key_in (at.Stamp seconds serial) = stamp_key seconds serial

@@ -57,7 +57,8 @@ fn shows_dir(look: Option<Seen>) -> bool
 
 /// Looks for the parent of the directory: whether it is there.
 pub fn parent_there<H: Host>(alloc: Global, host: &mut H, dir: &Path) -> Result<bool, StandStop>
-    ensures told { IfOk result (λ there. Left (Sees (parent_of dir.now) (λ seen. is_dir seen ≡ there)) (H.told host.old) (H.told host.new)) }
+    ensures told { IfOk result (λ there. Left (Sees (parent_of dir.now) (λ seen. is_dir seen ≡ there)) (H.told host.old)
+        (H.told host.new)) }
     ensures stopped { IfErr result (λ stop. Left (ParentStopped dir.now stop) (H.told host.old) (H.told host.new)) }
     ensures cause { IfErr result (λ stop. IsFailedCall stop → Rose (H.counts host.old).faults (H.counts host.new).faults) }
     ensures counts { Onward (H.counts host.old) (H.counts host.new) }

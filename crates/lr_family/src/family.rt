@@ -36,7 +36,8 @@ fn number_place(naming: &Naming, path: &Path) -> Option<Place>
 // The place of the dated member with this path.
 fn stamp_place(naming: &Naming, path: &Path) -> Option<Place>
     requires { or_none is_format naming.now.dated ≡ true }
-    ensures stamps { (seconds : ℤ) (serial : ℕ) → (result ≡ Some (at.Stamp seconds serial)) ↔ IsDatedAt naming.now seconds serial path.now }
+    ensures stamps { (seconds : ℤ) (serial : ℕ) → (result ≡ Some (at.Stamp seconds serial))
+        ↔ IsDatedAt naming.now seconds serial path.now }
     ensures no_number { (place : ℕ) → result ≢ Some (at.Number place) }
 {
     match stamp_at(naming, path) {
@@ -99,7 +100,8 @@ impl Family {
         requires format { or_none is_format self.now.naming.dated ≡ true }
         requires serial { MayHaveSerial self.now.naming.dated serial }
         ensures path { IfOk result (λ path. IsDatedBy self.now.naming clock.entry.now serial path) }
-        ensures member { IfOk result (λ path. IsDatedAt self.now.naming (clock_seconds self.now.naming.dated clock.entry.now) serial path) }
+        ensures member { IfOk result (λ path. IsDatedAt self.now.naming (clock_seconds self.now.naming.dated clock.entry.now) serial
+            path) }
     {
         dated_path(alloc, &self.naming, clock, serial)
     }
@@ -107,8 +109,10 @@ impl Family {
     /// The place of the member with this path; None exactly where the path is no member's. It takes no memory.
     pub fn place_of(&self, path: &Path) -> Option<Place>
         requires format { or_none is_format self.now.naming.dated ≡ true }
-        ensures numbers { (place : ℕ) → (result ≡ Some (at.Number place)) ↔ ((self.now.naming.dated ≡ None) × IsMemberAt self.now.naming place path.now) }
-        ensures stamps { (seconds : ℤ) (serial : ℕ) → (result ≡ Some (at.Stamp seconds serial)) ↔ IsDatedAt self.now.naming seconds serial path.now }
+        ensures numbers { (place : ℕ) → (result ≡ Some (at.Number place))
+            ↔ ((self.now.naming.dated ≡ None) × IsMemberAt self.now.naming place path.now) }
+        ensures stamps { (seconds : ℤ) (serial : ℕ) → (result ≡ Some (at.Stamp seconds serial))
+            ↔ IsDatedAt self.now.naming seconds serial path.now }
     {
         match &self.naming.dated {
             Some(_) => stamp_place(&self.naming, path),
@@ -137,8 +141,10 @@ impl Family {
     ) -> Result<Stand, StandStop>
         requires format { or_none is_format self.now.naming.dated ≡ true }
         requires dir { listing.now.dir ≡ self.now.naming.dir }
-        ensures told { IfOk result (λ stand. Left (ShowsIn self.now.naming listing.now.there listing.now.parent listing.now.names stand) (H.told host.old) (H.told host.new)) }
-        ensures stopped { IfErr result (λ stop. Left (ShowsNoneIn self.now.naming listing.now.there listing.now.names stop) (H.told host.old) (H.told host.new)) }
+        ensures told { IfOk result (λ stand. Left (ShowsIn self.now.naming listing.now.there listing.now.parent listing.now.names
+            stand) (H.told host.old) (H.told host.new)) }
+        ensures stopped { IfErr result (λ stop. Left (ShowsNoneIn self.now.naming listing.now.there listing.now.names stop)
+            (H.told host.old) (H.told host.new)) }
         ensures named { IfOk result (λ stand. AreNamed self.now.naming stand.members) }
         ensures newest { IfOk result (λ stand. AreNewestFirst stand.members) }
         ensures exactly { Left (IsExactlyAmong self.now.naming listing.now.names result) (H.told host.old) (H.told host.new) }

@@ -86,7 +86,8 @@ fn list_there<H: Host>(alloc: Global, host: &mut H, dir: Path) -> Result<Listing
 
 // Looks at the parent of the directory, which isn't there.
 fn list_none<H: Host>(alloc: Global, host: &mut H, dir: Path) -> Result<Listing, StandStop>
-    ensures told { IfOk result (λ l. Left (Sees (parent_of dir) (λ seen. is_dir seen ≡ l.parent)) (H.told host.old) (H.told host.new)) }
+    ensures told { IfOk result (λ l. Left (Sees (parent_of dir) (λ seen. is_dir seen ≡ l.parent)) (H.told host.old)
+        (H.told host.new)) }
     ensures missing { IfOk result (λ l. (l.dir ≡ dir) × (l.there ≡ false) × (l.names ≡ [])) }
     ensures stopped { IfErr result (λ stop. Left (ParentStopped dir stop) (H.told host.old) (H.told host.new)) }
     ensures cause { IfErr result (λ stop. IsFailedCall stop → Rose (H.counts host.old).faults (H.counts host.new).faults) }

@@ -24,7 +24,8 @@ pub fn members_among<H: Host>(
 ) -> Result<Vec<Member>, StandStop>
     requires format { or_none is_format naming.now.dated ≡ true }
     requires rising { AreRising names.now }
-    ensures told { IfOk result (λ members. Left (StandsAmong naming.now names.now members.items) (H.told host.old) (H.told host.new)) }
+    ensures told { IfOk result (λ members. Left (StandsAmong naming.now names.now members.items) (H.told host.old)
+        (H.told host.new)) }
     ensures stopped { IfErr result (λ stop. Left (ShowsNoneIn naming.now true names.now stop) (H.told host.old) (H.told host.new)) }
     ensures named { IfOk result (λ members. AreNamed naming.now members.items) }
     ensures newest { IfOk result (λ members. AreNewestFirst members.items) }

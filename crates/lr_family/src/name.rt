@@ -25,7 +25,8 @@ pub fn path_in(alloc: Global, dir: &Path, name: &Text) -> Result<Path, Memory>
 // The place of the numbered member with this name.
 fn number_of(naming: &Naming, name: &[u8]) -> Option<Place>
     requires { naming.now.dated ≡ None }
-    ensures { MatchOption result (IsMember naming.now (joined naming.now.dir name.now) → ⊥) (λ place. IsPlaceOf naming.now place (joined naming.now.dir name.now)) }
+    ensures { MatchOption result (IsMember naming.now (joined naming.now.dir name.now) → ⊥)
+        (λ place. IsPlaceOf naming.now place (joined naming.now.dir name.now)) }
 {
     match place_of_name(naming, name) {
         Some(place) => Some(Place::Number(place)),
@@ -37,7 +38,8 @@ fn number_of(naming: &Naming, name: &[u8]) -> Option<Place>
 fn stamp_of(naming: &Naming, format: &Format, name: &[u8]) -> Option<Place>
     requires format { is_format format.now ≡ true }
     requires dated { naming.now.dated ≡ Some format.now }
-    ensures { MatchOption result (IsMember naming.now (joined naming.now.dir name.now) → ⊥) (λ place. IsPlaceOf naming.now place (joined naming.now.dir name.now)) }
+    ensures { MatchOption result (IsMember naming.now (joined naming.now.dir name.now) → ⊥)
+        (λ place. IsPlaceOf naming.now place (joined naming.now.dir name.now)) }
 {
     match stamp_in(naming, format, name) {
         Some((seconds, serial)) => Some(Place::Stamp(seconds, serial)),
@@ -48,7 +50,8 @@ fn stamp_of(naming: &Naming, format: &Format, name: &[u8]) -> Option<Place>
 /// The place of the member with this name, numbered or dated, where it is one. It takes no memory.
 pub fn place_in(naming: &Naming, name: &[u8]) -> Option<Place>
     requires { or_none is_format naming.now.dated ≡ true }
-    ensures { MatchOption result (IsMember naming.now (joined naming.now.dir name.now) → ⊥) (λ place. IsPlaceOf naming.now place (joined naming.now.dir name.now)) }
+    ensures { MatchOption result (IsMember naming.now (joined naming.now.dir name.now) → ⊥)
+        (λ place. IsPlaceOf naming.now place (joined naming.now.dir name.now)) }
 {
     match &naming.dated {
         Some(format) => stamp_of(naming, format, name),

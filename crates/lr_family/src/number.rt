@@ -23,7 +23,8 @@ fn small_number(digits: &[u8]) -> Option<u32>
 
 // What stands in the name between the base with a dot, and the extension.
 fn middle<'a>(base: &[u8], ext: &[u8], name: &'a [u8]) -> Option<&'a [u8]>
-    ensures { MatchOption result ((digits : List ℕ) → name.now ≢ framed base.now digits ext.now) (λ digits. name.now ≡ framed base.now digits.now ext.now) }
+    ensures { MatchOption result ((digits : List ℕ) → name.now ≢ framed base.now digits ext.now)
+        (λ digits. name.now ≡ framed base.now digits.now ext.now) }
 {
     match between(base, ext, name) {
         Some(rest) => rest.strip_prefix(b"."),
@@ -44,7 +45,8 @@ fn number_of(base: &[u8], ext: &[u8], name: &[u8]) -> Option<u32>
 
 /// The place of the member with this name, where it is one.
 pub fn place_of_name(naming: &Naming, name: &[u8]) -> Option<u32>
-    ensures { MatchOption result ((place : ℕ) → IsNamedAt naming.now place name.now → ⊥) (λ place. IsNamedAt naming.now place name.now) }
+    ensures { MatchOption result ((place : ℕ) → IsNamedAt naming.now place name.now → ⊥)
+        (λ place. IsNamedAt naming.now place name.now) }
 {
     match number_of(naming.base.bytes(), naming.ext.bytes(), name) {
         Some(number) => number.checked_sub(naming.start),
@@ -54,7 +56,8 @@ pub fn place_of_name(naming: &Naming, name: &[u8]) -> Option<u32>
 
 /// The place of the member with this path, where it is one.
 pub fn place_of_path(naming: &Naming, path: &Path) -> Option<u32>
-    ensures { MatchOption result ((place : ℕ) → IsMemberAt naming.now place path.now → ⊥) (λ place. IsMemberAt naming.now place path.now) }
+    ensures { MatchOption result ((place : ℕ) → IsMemberAt naming.now place path.now → ⊥)
+        (λ place. IsMemberAt naming.now place path.now) }
 {
     match name_under(&naming.dir, path) {
         Some(name) => place_of_name(naming, name),

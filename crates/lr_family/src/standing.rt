@@ -23,8 +23,10 @@ pub fn stand_among<H: Host>(
     listing: &Listing,
 ) -> Result<Stand, StandStop>
     requires format { or_none is_format naming.now.dated ≡ true }
-    ensures told { IfOk result (λ stand. Left (ShowsIn naming.now listing.now.there listing.now.parent listing.now.names stand) (H.told host.old) (H.told host.new)) }
-    ensures stopped { IfErr result (λ stop. Left (ShowsNoneIn naming.now listing.now.there listing.now.names stop) (H.told host.old) (H.told host.new)) }
+    ensures told { IfOk result (λ stand. Left (ShowsIn naming.now listing.now.there listing.now.parent listing.now.names stand)
+        (H.told host.old) (H.told host.new)) }
+    ensures stopped { IfErr result (λ stop. Left (ShowsNoneIn naming.now listing.now.there listing.now.names stop) (H.told host.old)
+        (H.told host.new)) }
     ensures named { IfOk result (λ stand. AreNamed naming.now stand.members) }
     ensures newest { IfOk result (λ stand. AreNewestFirst stand.members) }
     ensures cause { IfErr result (λ stop. IsFailedCall stop → Rose (H.counts host.old).faults (H.counts host.new).faults) }

@@ -12,7 +12,8 @@ use Rattle.lr_fields.specs.declared.fields.Fields.{Fields}
 
 -- `-%Y%m%d`, and with the hour where the criterion is hourly
 abbrev pub default_pieces : Criterion → List Piece
-default_pieces criterion.Hourly = piece.Byte 45 ∷ piece.Field field.Year ∷ piece.Field field.Month ∷ piece.Field field.Day ∷ piece.Field field.Hour ∷ []
+default_pieces criterion.Hourly = piece.Byte 45 ∷ piece.Field field.Year ∷ piece.Field field.Month ∷ piece.Field field.Day ∷
+    piece.Field field.Hour ∷ []
 default_pieces c = piece.Byte 45 ∷ piece.Field field.Year ∷ piece.Field field.Month ∷ piece.Field field.Day ∷ []
 
 -- those that a line gives, else the default by the criterion that the definition has when it ends
@@ -21,7 +22,8 @@ pieces_of c (Some pieces) = pieces
 pieces_of c None = default_pieces c
 
 abbrev pub format_of : Fields → Option Format
-format_of f = if f.dated then Some (record { pieces = pieces_of f.rule.criterion f.pieces; back = f.back; serial = f.serial }) else None
+format_of f = if f.dated then Some (record { pieces = pieces_of f.rule.criterion f.pieces; back = f.back; serial = f.serial }) else
+    None
 
 -- the rule of a definition that is whole
 abbrev pub rule_of : Path → ℕ → List (List ℕ) → Fields → Rule

@@ -15,10 +15,12 @@ pub fn one_more_setting()
 
 /// The last line that sets the count gives it.
 pub fn last_count()
-    ensures { (earlier later : List Set) (n : Count) → filter_map count_set later ≡ [] → (fields_of (earlier ++ set.Count n ∷ later)).rule.count ≡ n }
+    ensures { (earlier later : List Set) (n : Count) → filter_map count_set later ≡ []
+        → (fields_of (earlier ++ set.Count n ∷ later)).rule.count ≡ n }
 {}
 
 /// The last line that sets the criterion gives it.
 pub fn last_criterion()
-    ensures { (earlier later : List Set) (c : Criterion) → filter_map criterion_set later ≡ [] → (fields_of (earlier ++ set.Criterion c ∷ later)).rule.criterion ≡ c }
+    ensures { (earlier later : List Set) (c : Criterion) → filter_map criterion_set later ≡ []
+        → (fields_of (earlier ++ set.Criterion c ∷ later)).rule.criterion ≡ c }
 {}

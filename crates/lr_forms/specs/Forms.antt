@@ -7,7 +7,8 @@ use Rattle.lr_rules.specs.declared.rule.Criterion.TheVariants as criterion
 use Rattle.lr_rules.specs.declared.rule.Make.TheVariants as make
 use Rattle.lr_rules.specs.declared.rule.Way.TheVariants as way
 use Rattle.lr_forms.specs.declared.form.Form.{Form}
-use Rattle.lr_forms.specs.declared.form.Form.TheVariants.{Passed, Script, Ending, Plain, Quiet, One, Day, Make, Include, Taboo, Later}
+use Rattle.lr_forms.specs.declared.form.Form.TheVariants.{Passed, Script, Ending, Plain, Quiet, One, Day, Make, Include, Taboo}
+use Rattle.lr_forms.specs.declared.form.Form.TheVariants.{Later}
 use Rattle.lr_forms.specs.declared.form.Value.TheVariants as value
 use Rattle.lr_forms.specs.declared.set.Set.TheVariants as set
 

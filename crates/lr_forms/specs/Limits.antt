@@ -2,7 +2,8 @@
 use Rattle.std.specs.Prelude.{◌≢◌, Bool, true, false, [], Some}
 use Rattle.std.specs.List.{list_all}
 use Rattle.lr_rules.specs.declared.rule.Back.TheVariants as back
-use Rattle.lr_rules.specs.Limits.{is_small, is_size, is_count, is_criterion, is_make, is_extension, is_address, is_olddir, is_format, is_log_word}
+use Rattle.lr_rules.specs.Limits.{is_small, is_size, is_count, is_criterion, is_make, is_extension, is_address, is_olddir}
+use Rattle.lr_rules.specs.Limits.{is_format, is_log_word}
 use Rattle.lr_forms.specs.declared.set.Set.{Set}
 use Rattle.lr_forms.specs.declared.set.Set.TheVariants as set
 use Rattle.lr_forms.specs.declared.said.Said.{Said}

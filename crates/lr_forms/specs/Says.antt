@@ -1,5 +1,6 @@
 -- What one line says by itself, inside a definition or outside: the first fault that applies to it, else its meaning.
-use Rattle.std.specs.Prelude.{ℕ, Bool, true, false, not, ◌&&◌, ◌||◌, List, [], ◌∷◌, Option, Some, None, find, map, option_map, Result, Ok, Err, length, nat_lt, bytes_eq, if◌then◌else◌}
+use Rattle.std.specs.Prelude.{ℕ, Bool, true, false, not, ◌&&◌, ◌||◌, List, [], ◌∷◌, Option, Some, None, find, map, option_map}
+use Rattle.std.specs.Prelude.{Result, Ok, Err, length, nat_lt, bytes_eq, if◌then◌else◌}
 use Rattle.std.specs.List.{filter_map}
 use Rattle.std.specs.Result.{result_ok, result_err}
 use Rattle.lr_lex.specs.declared.item.Item.{Item}
@@ -122,7 +123,8 @@ or_bad (Some k) s = says.Bad k
 
 abbrev pub by_directive : Bool → Bool → Bool → List ℕ → List (List ℕ) → Option Directive → Said
 by_directive inside brace stray word vs None = says.Unknown
-by_directive inside brace stray word vs (Some d) = or_bad (first_fault (checks inside brace stray (is_unbuilt d) (form_of d) vs)) (means (form_of d) word vs)
+by_directive inside brace stray word vs (Some d) = or_bad (first_fault (checks inside brace stray (is_unbuilt d) (form_of d) vs))
+    (means (form_of d) word vs)
 
 abbrev pub texts : List Word → List (List ℕ)
 texts ws = map (λ w. w.text) ws

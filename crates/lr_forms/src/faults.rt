@@ -3,7 +3,8 @@ ghost use Rattle.std.specs.Prelude.{◌≡◌, IfOk};
 ghost use Rattle.lr_words.specs.Lists.{taboo_value};
 ghost use Rattle.lr_forms.specs.Unbuilt.{is_unbuilt};
 ghost use Rattle.lr_forms.specs.Forms.{form_of};
-ghost use Rattle.lr_forms.specs.Says.{texts, is_passed, is_script, is_outside, lists_nothing, lacks_value, has_more, checks, first_fault};
+ghost use Rattle.lr_forms.specs.Says.{texts, is_passed, is_script, is_outside, lists_nothing, lacks_value, has_more, checks};
+ghost use Rattle.lr_forms.specs.Says.{first_fault};
 
 use crate::form::{Form, form_of};
 use crate::taboo::texts_of;
@@ -114,7 +115,8 @@ pub(crate) fn fault_of(
     directive: Directive,
     values: &[Word],
 ) -> Result<Option<ConfKind>, Memory>
-    ensures { IfOk result (λ fault. fault ≡ first_fault (checks inside brace stray (is_unbuilt directive) (form_of directive) (texts values.now))) }
+    ensures { IfOk result (λ fault. fault ≡ first_fault (checks inside brace stray (is_unbuilt directive) (form_of directive)
+        (texts values.now))) }
 {
     let form = form_of(directive);
     let unbuilt = is_unbuilt(directive);

@@ -20,7 +20,8 @@ round_entries (Asked visits) = flat_map visit_entries visits
 abbrev pub Picks : List ℕ → Visit → List Path → Type 0
 Picks part v paths = Gathers (PickOf part v.dir) (names_of v) paths
 
--- The part leads from these paths to those, by what the round gave: a wildcard to the names that it matches in each of them, another to its one name in each.
+-- The part leads from these paths to those, by what the round gave: a wildcard to the names that it matches in each of them,
+-- another to its one name in each.
 abbrev pub FollowsBy : Bool → List ℕ → List Path → Round → List Path → Type 0
 FollowsBy true part dirs (Asked visits) paths = (map (λ v. v.dir) visits ≡ dirs) × Gathers (Picks part) visits paths
 FollowsBy false part dirs Went paths = Gathers (λ dir its. JoinOf dir (literal_path part) its) dirs paths
@@ -32,7 +33,8 @@ Follows part dirs round paths = FollowsBy (is_wildcard part) part dirs round pat
 -- The parts lead from these paths to those, one after another.
 pub data Leads : List (List ℕ) → List Path → List Round → List Path → Type 0 where
   there : (dirs : List Path) → Leads [] dirs [] dirs
-  on : (part : List ℕ) (parts : List (List ℕ)) (dirs between paths : List Path) (round : Round) (rounds : List Round) → Follows part dirs round between → Leads parts between rounds paths → Leads (part ∷ parts) dirs (round ∷ rounds) paths
+  on : (part : List ℕ) (parts : List (List ℕ)) (dirs between paths : List Path) (round : Round) (rounds : List Round)
+      → Follows part dirs round between → Leads parts between rounds paths → Leads (part ∷ parts) dirs (round ∷ rounds) paths
 
 -- One part was followed; all of them were.
 pub record Followed (part : List ℕ) (dirs paths : List Path) (ts : List Entry) : Type 0 where

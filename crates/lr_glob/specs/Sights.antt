@@ -1,5 +1,6 @@
 -- What the looks at the paths that a word may give saw.
-use Rattle.std.specs.Prelude.{◌≡◌, ℕ, Bool, true, false, not, ◌&&◌, List, [], ◌∷◌, ◌++◌, map, flat_map, length, nat_le, nat_lt, Option, Some, None, Result, Ok, Err, if◌then◌else◌}
+use Rattle.std.specs.Prelude.{◌≡◌, ℕ, Bool, true, false, not, ◌&&◌, List, [], ◌∷◌, ◌++◌, map, flat_map, length, nat_le, nat_lt}
+use Rattle.std.specs.Prelude.{Option, Some, None, Result, Ok, Err, if◌then◌else◌}
 use Rattle.std.specs.List.{list_any}
 use Rattle.std.specs.List.Sorted.{IsPermutation, IsSortedByKey}
 use Rattle.std.specs.Ordering.{nat_cmp}
@@ -87,4 +88,5 @@ is_long f = not (nat_le (length f.path) 2048 && nat_le (length (last_of f.path))
 
 -- what is found, where no path of it is too long and there is room for so many
 abbrev pub judged : ℕ → List Found → Result (List Found) GlobStop
-judged room found = if list_any is_long found then Err stop.LongName else if nat_lt room (length found) then Err stop.TooMany else Ok found
+judged room found = if list_any is_long found then Err stop.LongName else if nat_lt room (length found) then Err stop.TooMany else
+    Ok found

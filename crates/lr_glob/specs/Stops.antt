@@ -13,7 +13,8 @@ use Rattle.lr_glob.specs.declared.visit.VisitStop.TheVariants as visit
 use Rattle.lr_glob.specs.Visits.{Visit, visit_entries}
 use Rattle.lr_glob.specs.Rounds.{Led}
 
--- A visit that ended before its names were there: the look failed; the listing did behind it, which saw a directory; or there was no memory for the names.
+-- A visit that ended before its names were there: the look failed; the listing did behind it, which saw a directory; or there was
+-- no memory for the names.
 abbrev pub NotVisited : Path → VisitStop → List Entry → Type 0
 NotVisited dir visit.Look ts = ts ≡ []
 NotVisited dir visit.List ts = Sees dir IsDir ts

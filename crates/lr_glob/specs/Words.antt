@@ -19,7 +19,8 @@ use Rattle.lr_glob.specs.Stops.{NotLed}
 abbrev pub root : Path
 root = 47 ∷ []
 
--- The paths to which the parts of a wildcard lead were looked at, in order of bytes, but for copies that aren't whole; P holds of these looks.
+-- The paths to which the parts of a wildcard lead were looked at, in order of bytes, but for copies that aren't whole; P holds of
+-- these looks.
 pub record SearchThen (word : List ℕ) (P : List Path → List Entry → Type 0) (ts : List Entry) : Type 0 where
   pub paths : List Path
   pub ordered : List Path
@@ -28,9 +29,11 @@ pub record SearchThen (word : List ℕ) (P : List Path → List Entry → Type 0
 
 -- What the word gives: a literal one what stands at its path, of any kind; a wildcard the regular files to which its parts lead.
 pub data Gave (word : List ℕ) (found : List Found) (ts : List Entry) : Type 0 where
-  literal : is_wildcard word ≡ false → Sees (literal_path word) (λ seen. found ≡ seen_at (literal_path word) seen) ts → Gave word found ts
+  literal : is_wildcard word ≡ false → Sees (literal_path word) (λ seen. found ≡ seen_at (literal_path word) seen) ts
+      → Gave word found ts
   no_path : is_wildcard word ≡ false → (path_fault (literal_path word) ≡ None → ⊥) → found ≡ [] → ts ≡ [] → Gave word found ts
-  wildcard : is_wildcard word ≡ true → is_absolute word ≡ true → SearchThen word (λ ordered us. LookedAt ordered found us) ts → Gave word found ts
+  wildcard : is_wildcard word ≡ true → is_absolute word ≡ true → SearchThen word (λ ordered us. LookedAt ordered found us) ts
+      → Gave word found ts
   relative : is_wildcard word ≡ true → is_absolute word ≡ false → found ≡ [] → ts ≡ [] → Gave word found ts
 
 -- All that the word gives was looked at, and is judged to be that.
@@ -43,7 +46,8 @@ pub record Comes (word : List ℕ) (room : ℕ) (result : Result (List Found) Gl
 pub data CallFailed (word : List ℕ) (kind : CallKind) (path : Path) (ts : List Entry) : Type 0 where
   at_literal : is_wildcard word ≡ false → kind ≡ call.Look → path ≡ literal_path word → ts ≡ [] → CallFailed word kind path ts
   at_visit : is_wildcard word ≡ true → NotLed (parts_in word) (root ∷ []) (stop.Call kind path) ts → CallFailed word kind path ts
-  at_look : is_wildcard word ≡ true → kind ≡ call.Look → SearchThen word (λ ordered us. FailedAt ordered path us) ts → CallFailed word kind path ts
+  at_look : is_wildcard word ≡ true → kind ≡ call.Look → SearchThen word (λ ordered us. FailedAt ordered path us) ts
+      → CallFailed word kind path ts
 
 -- Where there was no memory, a first part of these looks and listings was made.
 pub data Begun (word : List ℕ) (ts : List Entry) : Type 0 where

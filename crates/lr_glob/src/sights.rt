@@ -79,7 +79,8 @@ fn add_file(found: &mut Vec<Found>, path: Path, look: Option<Seen>) -> Result<()
 
 // Looks at one path, and adds the regular file there.
 fn look_at<H: Host>(host: &mut H, path: Path, found: &mut Vec<Found>) -> Result<(), GlobStop>
-    ensures told { OnOk result (Left (Sees path (λ seen. found.new.items ≡ found.old.items ++ file_at path seen)) (H.told host.old) (H.told host.new)) }
+    ensures told { OnOk result (Left (Sees path (λ seen. found.new.items ≡ found.old.items ++ file_at path seen)) (H.told host.old)
+        (H.told host.new)) }
     ensures stopped { IfErr result (λ why. Left (LooksBroken (path ∷ []) why) (H.told host.old) (H.told host.new)) }
     ensures cause { IfErr result (λ why. IsFailedCall why → Rose (H.counts host.old).faults (H.counts host.new).faults) }
     ensures counts { Onward (H.counts host.old) (H.counts host.new) }

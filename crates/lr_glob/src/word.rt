@@ -83,7 +83,8 @@ fn beginning(alloc: Global, word: &[u8]) -> Result<(Vec<Text>, Vec<Path>), Memor
 // The paths to which the parts of the word lead.
 fn paths_of<H: Host>(alloc: Global, host: &mut H, word: &[u8]) -> Result<Vec<Path>, GlobStop>
     requires { is_absolute word.now ≡ true }
-    ensures told { IfOk result (λ paths. Left (Led (parts_in word.now) (root ∷ []) paths.items) (H.told host.old) (H.told host.new)) }
+    ensures told { IfOk result (λ paths. Left (Led (parts_in word.now) (root ∷ []) paths.items) (H.told host.old)
+        (H.told host.new)) }
     ensures stopped { IfErr result (λ why. Left (NotSought word.now why) (H.told host.old) (H.told host.new)) }
     ensures cause { IfErr result (λ why. IsFailedCall why → Rose (H.counts host.old).faults (H.counts host.new).faults) }
     ensures counts { Onward (H.counts host.old) (H.counts host.new) }
@@ -143,7 +144,8 @@ fn seen_there(alloc: Global, path: Path, look: Option<Seen>) -> Result<Vec<Found
 
 // Looks at the path, without following a link: what stands there, of any kind.
 fn look_at_literal<H: Host>(alloc: Global, host: &mut H, path: Path) -> Result<Vec<Found>, GlobStop>
-    ensures told { IfOk result (λ found. Left (Sees path (λ seen. found.items ≡ seen_at path seen)) (H.told host.old) (H.told host.new)) }
+    ensures told { IfOk result (λ found. Left (Sees path (λ seen. found.items ≡ seen_at path seen)) (H.told host.old)
+        (H.told host.new)) }
     ensures stopped { IfErr result (λ why. Left (LiteralBroken path why) (H.told host.old) (H.told host.new)) }
     ensures cause { IfErr result (λ why. IsFailedCall why → Rose (H.counts host.old).faults (H.counts host.new).faults) }
     ensures counts { Onward (H.counts host.old) (H.counts host.new) }
@@ -166,7 +168,8 @@ fn no_path(fault: PathFault) -> Result<Option<Path>, Memory>
 
 // The path of a literal word; None where it names no path.
 fn literal_of(alloc: Global, word: &[u8]) -> Result<Option<Path>, Memory>
-    ensures { IfOk result (λ path. MatchOption path (path_fault (literal_path word.now) ≡ None → ⊥) (λ p. p ≡ literal_path word.now)) }
+    ensures { IfOk result (λ path. MatchOption path (path_fault (literal_path word.now) ≡ None → ⊥)
+        (λ p. p ≡ literal_path word.now)) }
 {
     let bytes = literal(alloc, word)?;
     match Path::new(alloc, bytes.as_slice()) {

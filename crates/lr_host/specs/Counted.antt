@@ -38,7 +38,8 @@ NoneAround (f ∷ fs) = (IsAround f → ⊥) × NoneAround fs
 abbrev pub RoseBy : ℕ → ℕ → ℕ → Type 0
 RoseBy n before now = min (before + n) (2 ^ 64 - 1) ≤ now
 
--- These faults came: no more failed calls than `faults` rose by, no more bad ends than `bad_ends` rose by, none of the clock, the zone or the output.
+-- These faults came: no more failed calls than `faults` rose by, no more bad ends than `bad_ends` rose by, none of the clock, the
+-- zone or the output.
 pub record AreCounted (faults : List Fault) (counted counts : Counts) : Type 0 where
   pub calls : RoseBy (calls_in faults) counted.faults counts.faults
   pub scripts : RoseBy (scripts_in faults) counted.bad_ends counts.bad_ends

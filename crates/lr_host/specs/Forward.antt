@@ -6,6 +6,8 @@ use Rattle.lr_host.specs.Fits.{IsFileAt}
 use Rattle.lr_host.specs.Sets.{LogSet}
 use Rattle.lr_host.specs.Kept.{Leaves}
 
--- No member of the dated set that names a file, now or after a cut that is allowed now, has a stamp later than this moment: that of the stamp which a call's clock gives.
+-- No member of the dated set that names a file, now or after a cut that is allowed now, has a stamp later than this moment: that of
+-- the stamp which a call's clock gives.
 abbrev pub IsForward : LogSet → Past → ℤ → Type 0
-IsForward s p stamp = (n : Names) (undone : List Change) → Leaves p n undone → (y : Path) (t : ℤ) → s.key y ≡ Some t → IsFileAt n y → t ≤ℤ stamp
+IsForward s p stamp = (n : Names) (undone : List Change) → Leaves p n undone → (y : Path) (t : ℤ) → s.key y ≡ Some t → IsFileAt n y
+    → t ≤ℤ stamp

@@ -3,20 +3,23 @@ use Rattle.std.specs.Prelude.{◌≡◌, ◌⊎◌, ℕ, List, [], ◌++◌, con
 use Rattle.lr_rules.specs.declared.path.Path.{Path}
 use Rattle.lr_host.specs.declared.thing.Thing.TheVariants as thing
 use Rattle.lr_host.specs.declared.entry.Entry.TheVariants.{Feed, Cut}
-use Rattle.lr_host.specs.World.{MayLeave, Names, Change, Past, Opens, ◌▸◌, world, names, step, makes, length_of, cut_to, holds_file, opening_file}
+use Rattle.lr_host.specs.World.{MayLeave, Names, Change, Past, Opens, ◌▸◌, world, names, step, makes, length_of, cut_to, holds_file}
+use Rattle.lr_host.specs.World.{opening_file}
 use Rattle.lr_host.specs.Fits.{IsNamed}
 use Rattle.lr_host.specs.Sets.{LogSet, order, IsUnplaced, IsWithin}
 use Rattle.lr_host.specs.Later.{IsGeneration, later}
 use Rattle.lr_host.specs.Released.{IsUnnamed, IsMadeIn, IsReleased}
 
--- Exactly one path names the file, and it is the log, the path where the log waits while it is set aside, or a member whose place is at most the limit.
+-- Exactly one path names the file, and it is the log, the path where the log waits while it is set aside, or a member whose place
+-- is at most the limit.
 pub record Stands (s : LogSet) (n : Names) (limit g : ℕ) : Type 0 where
   pub at : Path
   pub named : n at ≡ thing.File g
   pub only : (y : Path) → n y ≡ thing.File g → y ≡ at
   pub placed : IsUnplaced s at ⊎ IsWithin (order s) s.key n at limit
 
--- the bytes that a file must have: those at the opening, or none as it is made; then what writers fed it, in order, cut where a cut lists it
+-- the bytes that a file must have: those at the opening, or none as it is made; then what writers fed it, in order, cut where a cut
+-- lists it
 abbrev pub content : Past → ℕ → List ℕ
 content (Opens o) g = (opening_file o.files g).bytes
 content (p ▸ Feed writer bytes at) g = cond (holds_file ((world p).holds writer) g) (content p g ++ bytes) (content p g)
@@ -42,7 +45,8 @@ IsGoneIn then now undone released g = IsUnnamed then g × ((IsNamed now g × IsM
 
 -- what is kept under names that a cut may leave, by the later rotations of now
 abbrev pub IsKeptUnder : LogSet → Past → Names → List Change → Type 0
-IsKeptUnder s p n undone = (g : ℕ) → IsGeneration s p g → IsGoneIn n (names (world p)) undone (IsReleased s p g) g ⊎ (Stands s n (later s p g) g × IsWhole p g)
+IsKeptUnder s p n undone = (g : ℕ) → IsGeneration s p g → IsGoneIn n (names (world p)) undone (IsReleased s p g) g
+    ⊎ (Stands s n (later s p g) g × IsWhole p g)
 
 -- what is kept, whatever a cut leaves
 abbrev pub IsKeptWithin : LogSet → Past → Type 0

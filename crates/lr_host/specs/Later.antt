@@ -1,5 +1,6 @@
 -- The generations of a log, and how many rotations each has seen.
-use Rattle.std.specs.Prelude.{◌≡◌, ◌⊎◌, ℕ, ◌+◌, ◌-◌, List, [], ◌∷◌, Bool, true, false, cond, ◌||◌, ◌&&◌, nat_eq, bytes_eq, ℤ, pos, negsuc, int_lt, Option, Some, None}
+use Rattle.std.specs.Prelude.{◌≡◌, ◌⊎◌, ℕ, ◌+◌, ◌-◌, List, [], ◌∷◌, Bool, true, false, cond, ◌||◌, ◌&&◌, nat_eq, bytes_eq, ℤ, pos}
+use Rattle.std.specs.Prelude.{negsuc, int_lt, Option, Some, None}
 use Rattle.lr_rules.specs.declared.path.Path.{Path}
 use Rattle.lr_host.specs.declared.thing.Thing.TheVariants as thing
 use Rattle.lr_host.specs.declared.entry.Entry.{Entry}
@@ -73,12 +74,14 @@ place_first s all (n ∷ ns) g = cond (nat_eq n.1 g) (place_among (order s) s.ke
 abbrev pub first_place : LogSet → List (Path × ℕ) → ℕ → ℕ
 first_place s all g = place_first s all all g
 
--- the later rotations, by the last rename away from the log, whether the file stood at the log, the rotations begun, and the place at the opening
+-- the later rotations, by the last rename away from the log, whether the file stood at the log, the rotations begun, and the place
+-- at the opening
 abbrev pub counted : Option ℕ → Bool → ℕ → ℕ → ℕ
 counted (Some n) at_log rotations first = rotations - n
 counted None true rotations first = 0
 counted None false rotations first = first + rotations
 
--- The later rotations of a generation: the runs that began a rotation after the run that last renamed it away from the log; of one that never stood at the log its place at the opening and all such runs; else none.
+-- The later rotations of a generation: the runs that began a rotation after the run that last renamed it away from the log; of one
+-- that never stood at the log its place at the opening and all such runs; else none.
 abbrev pub later : LogSet → Past → ℕ → ℕ
 later s p g = counted (left_at s p g) (stood s p g) (rotations s p) (first_place s (opening_of p).names g)

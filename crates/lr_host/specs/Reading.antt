@@ -39,4 +39,5 @@ pub record ReadsOf (path : Path) (bytes : List ℕ) (ts : List Entry) : Type 0 w
 -- They are as many as the limit; or all bytes of the path, fewer than the limit, and a last read gave nothing.
 pub data ReadsAll (path : Path) (limit : ℕ) (bytes : List ℕ) (ts : List Entry) : Type 0 where
   to_limit : length bytes ≡ limit → ReadsOf path bytes ts → ReadsAll path limit bytes ts
-  to_end : length bytes < limit → Then (ReadsOf path bytes) (Are (Reads path (length bytes) [] ∷ [])) ts → ReadsAll path limit bytes ts
+  to_end : length bytes < limit → Then (ReadsOf path bytes) (Are (Reads path (length bytes) [] ∷ [])) ts
+      → ReadsAll path limit bytes ts

@@ -1,5 +1,6 @@
 -- A log and its members, and the place of a member.
-use Rattle.std.specs.Prelude.{◌≡◌, ◌⊎◌, ◌↔◌, ◌≤◌, ℕ, Bool, true, ◌||◌, ◌&&◌, List, [], ◌∷◌, length, bytes_eq, ℤ, pos, ◌<ℤ◌, Option, Some, None, is_some}
+use Rattle.std.specs.Prelude.{◌≡◌, ◌⊎◌, ◌↔◌, ◌≤◌, ℕ, Bool, true, ◌||◌, ◌&&◌, List, [], ◌∷◌, length, bytes_eq, ℤ, pos, ◌<ℤ◌, Option}
+use Rattle.std.specs.Prelude.{Some, None, is_some}
 use Rattle.lr_rules.specs.declared.path.Path.{Path}
 use Rattle.lr_rules.specs.declared.rule.Naming.{Naming}
 use Rattle.lr_rules.specs.declared.rule.Format.{Format}
@@ -19,10 +20,12 @@ abbrev pub order_of : Option Format → Order
 order_of None = Numbered
 order_of (Some format) = Dated
 
--- The key of each path is what the naming says: a numbered member's is its place, that of a dated one its stamp's seconds and its serial number as one number (`stamp_key`), and no other path has one.
+-- The key of each path is what the naming says: a numbered member's is its place, that of a dated one its stamp's seconds and its
+-- serial number as one number (`stamp_key`), and no other path has one.
 abbrev pub IsKeyBy : Order → Naming → (Path → Option ℤ) → Type 0
 IsKeyBy Numbered n key = (x : Path) (k : ℤ) → (key x ≡ Some k) ↔ ((place : ℕ) × (k ≡ pos place) × IsMemberAt n place x)
-IsKeyBy Dated n key = (x : Path) (k : ℤ) → (key x ≡ Some k) ↔ ((seconds : ℤ) × (serial : ℕ) × (k ≡ stamp_key seconds serial) × IsDatedAt n seconds serial x)
+IsKeyBy Dated n key = (x : Path) (k : ℤ) → (key x ≡ Some k) ↔ ((seconds : ℤ) × (serial : ℕ) × (k ≡ stamp_key seconds serial)
+    × IsDatedAt n seconds serial x)
 
 -- A log, which is a path, and the naming of its members, of which it is none.
 pub record LogSet : Type 0 where
@@ -67,7 +70,9 @@ abbrev pub AreLaterMembers : (Path → Option ℤ) → Names → ℤ → List Pa
 AreLaterMembers key n t [] = Unit {0}
 AreLaterMembers key n t (y ∷ ys) = IsLaterMember key n t y × AreLaterMembers key n t ys
 
--- The path is a member whose place is at most the limit. The place of a numbered member is its key, that of a dated one the number of later members that name files.
+-- The path is a member whose place is at most the limit. The place of a numbered member is its key, that of a dated one the number
+-- of later members that name files.
 abbrev pub IsWithin : Order → (Path → Option ℤ) → Names → Path → ℕ → Type 0
 IsWithin Numbered key n x limit = (place : ℕ) × (key x ≡ Some (pos place)) × (place ≤ limit)
-IsWithin Dated key n x limit = (t : ℤ) × (key x ≡ Some t) × ((ys : List Path) → AreDistinct ys → AreLaterMembers key n t ys → length ys ≤ limit)
+IsWithin Dated key n x limit = (t : ℤ) × (key x ≡ Some t) × ((ys : List Path) → AreDistinct ys → AreLaterMembers key n t ys
+    → length ys ≤ limit)

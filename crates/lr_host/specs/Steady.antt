@@ -12,7 +12,8 @@ use Rattle.lr_host.specs.Fits.{IsFileAt}
 use Rattle.lr_host.specs.Sets.{LogSet}
 use Rattle.lr_host.specs.Runs.{rules_of, state_of, StoodAtStart}
 
--- The path is a member of the set that only wildcards give, each of which gives the log too, and the log named a file as the run began: the run passes it over.
+-- The path is a member of the set that only wildcards give, each of which gives the log too, and the log named a file as the run
+-- began: the run passes it over.
 pub record IsPassedOver (s : LogSet) (p : Past) (x : Path) : Type 0 where
   pub member : s.key x ≡ None → ⊥
   pub wildcards : All (λ r. All (λ word. WordGives word x → (is_wildcard word ≡ true) × WordGives word s.log) r.words) (rules_of p)
@@ -23,13 +24,15 @@ pub record IsSteadyAtBy (way : Way) (s : LogSet) (p : Past) : Type 0 where
   -- each rule that gives the log rotates it in this way and gives it this naming
   pub rules : All (λ r. RuleGives r s.log → (r.way ≡ way) × (naming_of r s.log ≡ s.naming)) (rules_of p)
   -- any two such rules agree in count and age
-  pub agree : All (λ r. All (λ q. RuleGives r s.log → RuleGives q s.log → (r.count ≡ q.count) × (r.maxage ≡ q.maxage)) (rules_of p)) (rules_of p)
+  pub agree : All (λ r. All (λ q. RuleGives r s.log → RuleGives q s.log → (r.count ≡ q.count) × (r.maxage ≡ q.maxage)) (rules_of p))
+      (rules_of p)
   -- the set meets no path of the state
   pub state : (x : Path) → state_of p ≡ Some x → IsName s.log s.naming x → ⊥
   pub new_state : (x : Path) → state_of p ≡ Some x → IsName s.log s.naming (x ++ codes ".tmp") → ⊥
   pub lock : (x : Path) → state_of p ≡ Some x → IsName s.log s.naming (x ++ codes ".lock") → ⊥
   -- it meets no set of another log that a rule gives and that names a file now, but for members that the run passes over
-  pub apart : (x : Path) → x ≢ s.log → IsFileAt (names (world p)) x → All (λ r. RuleGives r x → Meet s.log s.naming x (naming_of r x) → IsPassedOver s p x) (rules_of p)
+  pub apart : (x : Path) → x ≢ s.log → IsFileAt (names (world p)) x
+      → All (λ r. RuleGives r x → Meet s.log s.naming x (naming_of r x) → IsPassedOver s p x) (rules_of p)
 
 -- so for logs that are rotated by rename
 abbrev pub IsSteadyAt : LogSet → Past → Type 0

@@ -1,5 +1,6 @@
 -- What calls leave in a journal that is told.
-use Rattle.std.specs.Prelude.{◌≡◌, ◌≢◌, ◌≤◌, ◌+◌, ◌-◌, ◌^◌, min, ◌⊎◌, ℕ, Bool, true, false, List, [], ◌∷◌, ◌++◌, reverse, take, length, Option, Some, None, Result, Ok, Err}
+use Rattle.std.specs.Prelude.{◌≡◌, ◌≢◌, ◌≤◌, ◌+◌, ◌-◌, ◌^◌, min, ◌⊎◌, ℕ, Bool, true, false, List, [], ◌∷◌, ◌++◌, reverse, take}
+use Rattle.std.specs.Prelude.{length, Option, Some, None, Result, Ok, Err}
 use Rattle.lr_rules.specs.declared.path.Path.{Path}
 use Rattle.lr_rules.specs.Path.{parent_of}
 use Rattle.lr_rules.specs.declared.fault.Ended.{Ended}
@@ -46,7 +47,8 @@ IsTools (entry.Detach writer) = ⊥
 IsTools (entry.Cut kept lengths) = ⊥
 IsTools _ = Unit {0}
 
--- The tool left these entries, the newest first, and writers theirs between them; each fits the world before it. Writers may act also behind the last of them, up to the answer.
+-- The tool left these entries, the newest first, and writers theirs between them; each fits the world before it. Writers may act
+-- also behind the last of them, up to the answer.
 pub data Made (p : Past) : List Entry → Past → Type 0 where
   at_first : Made p [] p
   by_writer : {es : List Entry} {q : Past} {e : Entry} → Made p es q → IsWriters e → Fits (world q) e → Made p es (q ▸ e)
@@ -101,12 +103,14 @@ abbrev pub WhereTold : Option Journal → (Past → Type 0) → Type 0
 WhereTold None P = Unit {0}
 WhereTold (Some j) P = P (past j)
 
--- The condition of the call that leaves this entry, on the names; what the call will see or give makes no difference. Of `end` it is not one on names.
+-- The condition of the call that leaves this entry, on the names; what the call will see or give makes no difference. Of `end` it
+-- is not one on names.
 abbrev pub CanCall : Names → Entry → Type 0
 CanCall n (entry.Starts state now rules) = IsDirectoryAt n (parent_of state)
 CanCall n (entry.List dir listed) = IsDirectoryAt n dir
 CanCall n (entry.Reads x from piece) = IsFileAt n x
-CanCall n (entry.Renames from to) = IsFileAt n from × (n to ≢ thing.Directory) × (n to ≢ thing.Other) × IsDirectoryAt n (parent_of to) × (from ≢ to)
+CanCall n (entry.Renames from to) = IsFileAt n from × (n to ≢ thing.Directory) × (n to ≢ thing.Other)
+    × IsDirectoryAt n (parent_of to) × (from ≢ to)
 CanCall n (entry.Makes x mode) = IsDirectoryAt n (parent_of x)
 CanCall n (entry.Appends x piece) = IsFileAt n x
 CanCall n (entry.Truncates x) = IsFileAt n x

@@ -44,14 +44,16 @@ pub record TookPiece (old new : Course) (p : Piece) (lines : List Line) (inside 
   pub todo : reverse new.todo.items ≡ asks_now inside lines p ++ reverse old.todo.items
 
 abbrev pub TakesPiece : Course → Course → Piece → Type 0
-TakesPiece old new p = (lines : List Line) (inside : List Path) → Knows old.layer old.faults.items lines inside → TookPiece old new p lines inside
+TakesPiece old new p = (lines : List Line) (inside : List Path) → Knows old.layer old.faults.items lines inside
+    → TookPiece old new p lines inside
 
 -- The reading went on from one stage to another, by visits that the entries show, of which no more have a failed call than
 -- the count of them rose by.
 pub record WentOn (s t : Stage) (before after : Option Journal) (low high : ℕ) : Type 0 where
   pub visits : List (Option Visit)
   pub leads : (more : List (Option Visit)) → at_visits s (visits ++ more) ≡ at_visits t more
-  pub shown : Left (λ ts. (more : List (Option Visit)) (us : List Entry) → ShowsVisits t more us → ShowsVisits s (visits ++ more) (ts ++ us)) before after
+  pub shown : Left (λ ts. (more : List (Option Visit)) (us : List Entry) → ShowsVisits t more us
+      → ShowsVisits s (visits ++ more) (ts ++ us)) before after
   pub counted : RoseBy (failed_in visits) low high
 
 -- The course went on, from where it stood.
@@ -86,13 +88,15 @@ TellsAnswer old new file (Err s) = Tells old new file (faults_of file s) (includ
 
 -- a fault was told behind these lines
 pub record ToldFault (old new : Course) (f : Fault) : Type 0 where
-  pub knows : (lines : List Line) (inside : List Path) → Knows old.layer old.faults.items lines inside → Knows new.layer new.faults.items (lines ++ Spoiled f ∷ []) inside
+  pub knows : (lines : List Line) (inside : List Path) → Knows old.layer old.faults.items lines inside
+      → Knows new.layer new.faults.items (lines ++ Spoiled f ∷ []) inside
   pub entered_are : entered new.layer ≡ entered old.layer
   pub rest : SameRest old new
 
 -- the end of the file was taken in, and it is entered still
 pub record ClosesFile (old new : Course) : Type 0 where
-  pub knows : (lines : List Line) (inside : List Path) → Knows old.layer old.faults.items lines inside → Knows new.layer new.faults.items (lines ++ End (file_of_layer old.layer) ∷ []) inside
+  pub knows : (lines : List Line) (inside : List Path) → Knows old.layer old.faults.items lines inside
+      → Knows new.layer new.faults.items (lines ++ End (file_of_layer old.layer) ∷ []) inside
   pub entered_are : entered new.layer ≡ entered old.layer
   pub rest : SameRest old new
 

@@ -1,5 +1,6 @@
 -- What is read of the paths of a command line: the lines in order of reading, as what the visits gave has them.
-use Rattle.std.specs.Prelude.{◌≡◌, ◌-◌, ℕ, min, Bool, true, false, ◌&&◌, List, [], ◌∷◌, ◌++◌, map, Option, Some, None, Ok, Err, length, take, drop, is_none, nat_lt, if◌then◌else◌}
+use Rattle.std.specs.Prelude.{◌≡◌, ◌-◌, ℕ, min, Bool, true, false, ◌&&◌, List, [], ◌∷◌, ◌++◌, map, Option, Some, None, Ok, Err}
+use Rattle.std.specs.Prelude.{length, take, drop, is_none, nat_lt, if◌then◌else◌}
 use Rattle.std.specs.List.{filter_map, list_any}
 use Rattle.std.specs.Str.{bytes_eq}
 use Rattle.lr_rules.specs.declared.path.Path.{Path}
@@ -86,7 +87,8 @@ before_asks (t ∷ ts) here next = here
 -- Behind all pieces up to the next path that is asked for.
 abbrev pub settled_from : Stage → List Task → Stage
 settled_from s [] = record s { todo = [] }
-settled_from s (task.Line p ∷ todo) = before_asks (asks_now s.inside s.lines p) (record (taken s p) { todo = asks_now s.inside s.lines p ++ todo }) (settled_from (taken s p) todo)
+settled_from s (task.Line p ∷ todo) = before_asks (asks_now s.inside s.lines p)
+    (record (taken s p) { todo = asks_now s.inside s.lines p ++ todo }) (settled_from (taken s p) todo)
 settled_from s (task.Ask a ∷ todo) = record s { todo = task.Ask a ∷ todo }
 settled_from s (task.Name a ∷ todo) = record s { todo = task.Name a ∷ todo }
 
@@ -150,11 +152,13 @@ telling s f todo = record s { lines = s.lines ++ Spoiled f ∷ []; todo = todo }
 -- others may write the file, which is told once
 abbrev pub telling_exposed : Stage → Path → List Task → Stage
 telling_exposed s file todo =
-    if list_any (bytes_eq file) s.exposed then record s { todo = todo } else record s { lines = s.lines ++ Spoiled (conf file kind.Writable 0) ∷ []; exposed = s.exposed ++ file ∷ []; todo = todo }
+    if list_any (bytes_eq file) s.exposed then record s { todo = todo } else record s
+    { lines = s.lines ++ Spoiled (conf file kind.Writable 0) ∷ []; exposed = s.exposed ++ file ∷ []; todo = todo }
 
 -- the names in a directory that make a path
 abbrev pub name_task : Ask → List ℕ → Option Task
-name_task a name = if is_none (path_fault (joined a.path name)) then Some (task.Name (record { file = a.file; line = a.line; path = joined a.path name })) else None
+name_task a name = if is_none (path_fault (joined a.path name)) then Some
+    (task.Name (record { file = a.file; line = a.line; path = joined a.path name })) else None
 
 abbrev pub name_tasks : Ask → List (List ℕ) → List Task
 name_tasks a names = filter_map (name_task a) names

@@ -48,8 +48,10 @@ fn asks_of(alloc: Global, paths: &[Path]) -> Result<Vec<Task>, Memory>
 impl Course {
     // Reads on by the next task; false where nothing is still to be read.
     fn step<H: Host>(&mut self, host: &mut H) -> Result<bool, Memory>
-        ensures told { IfOk result (λ more. (s : Stage) → StandsAt self.old s → GoesOn s self.new (H.told host.old) (H.told host.new) (H.counts host.old).faults (H.counts host.new).faults) }
-        ensures lacking { OnErr result ((s : Stage) → StandsAt self.old s → Left (LacksFrom s) (H.told host.old) (H.told host.new)) }
+        ensures told { IfOk result (λ more. (s : Stage) → StandsAt self.old s
+            → GoesOn s self.new (H.told host.old) (H.told host.new) (H.counts host.old).faults (H.counts host.new).faults) }
+        ensures lacking { OnErr result ((s : Stage) → StandsAt self.old s
+            → Left (LacksFrom s) (H.told host.old) (H.told host.new)) }
         ensures none { result ≡ Ok false → self.new.todo.items ≡ [] }
         ensures counts { Onward (H.counts host.old) (H.counts host.new) }
     {
@@ -64,8 +66,10 @@ impl Course {
 
     // Reads on until nothing is still to be read.
     fn run<H: Host>(&mut self, host: &mut H) -> Result<(), Memory>
-        ensures told { OnOk result ((s : Stage) → StandsAt self.old s → GoesOn s self.new (H.told host.old) (H.told host.new) (H.counts host.old).faults (H.counts host.new).faults) }
-        ensures lacking { OnErr result ((s : Stage) → StandsAt self.old s → Left (LacksFrom s) (H.told host.old) (H.told host.new)) }
+        ensures told { OnOk result ((s : Stage) → StandsAt self.old s
+            → GoesOn s self.new (H.told host.old) (H.told host.new) (H.counts host.old).faults (H.counts host.new).faults) }
+        ensures lacking { OnErr result ((s : Stage) → StandsAt self.old s
+            → Left (LacksFrom s) (H.told host.old) (H.told host.new)) }
         ensures none { OnOk result (self.new.todo.items ≡ []) }
         ensures counts { Onward (H.counts host.old) (H.counts host.new) }
     {
@@ -120,7 +124,8 @@ pub fn read_all<H: Host>(alloc: Global, host: &mut H, paths: &[Path]) -> Result<
     ensures told { IfOk result (λ r. Left (Reads paths.now (meaning_of r)) (H.told host.old) (H.told host.new)) }
     ensures lacking { OnErr result (Left (LacksReading paths.now) (H.told host.old) (H.told host.new)) }
     ensures counted { IfOk result (λ r. RoseBy (calls_in r.faults) (H.counts host.old).faults (H.counts host.new).faults) }
-    ensures cause { IfOk result (λ r. (kind : CallKind) (path : Path) → Contains r.faults (fault.Call kind path) → Rose (H.counts host.old).faults (H.counts host.new).faults) }
+    ensures cause { IfOk result (λ r. (kind : CallKind) (path : Path) → Contains r.faults (fault.Call kind path)
+        → Rose (H.counts host.old).faults (H.counts host.new).faults) }
     ensures only { IfOk result (λ r. All IsConfOrCall r.faults) }
     ensures plain { IfOk result (λ r. All IsPlainRule r.rules.sets) }
     ensures counts { Onward (H.counts host.old) (H.counts host.new) }

@@ -14,7 +14,8 @@ ghost use Rattle.lr_include.specs.Lacking.{LacksReading};
 
 /// Where no call of the visits failed, they mean no failed call; and no fault is of another kind than those two.
 pub fn visits_tell_their_calls()
-    ensures { (calls : Bool) (paths : List Path) (visits : List (Option Visit)) → AreAllowedVisits calls visits → All (IsAllowed calls) (visits_mean paths visits).faults }
+    ensures { (calls : Bool) (paths : List Path) (visits : List (Option Visit)) → AreAllowedVisits calls visits
+        → All (IsAllowed calls) (visits_mean paths visits).faults }
 {}
 
 /// The reading of all paths changes nothing.

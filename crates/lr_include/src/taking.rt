@@ -18,7 +18,8 @@ impl Course {
     fn tell(&mut self, line: u32, kind: ConfKind) -> Result<(), Memory>
         requires { 0 < length (entered self.old.layer) }
         ensures layer { OnOk result (self.new.layer ≡ self.old.layer) }
-        ensures told { OnOk result (self.new.faults.items ≡ self.old.faults.items ++ conf (file_of_layer self.old.layer) kind line ∷ []) }
+        ensures told { OnOk result (self.new.faults.items ≡ self.old.faults.items
+            ++ conf (file_of_layer self.old.layer) kind line ∷ []) }
         ensures rest { OnOk result (SameRest self.old self.new) }
     {
         let file = self.layer.file().copy(self.alloc)?;
@@ -40,7 +41,8 @@ impl Course {
     // Tells that names have no brace, and a fault of the line that shows it.
     fn tell_both(&mut self, first: u32, line: u32, kind: ConfKind) -> Result<(), Memory>
         requires { 0 < length (entered self.old.layer) }
-        ensures { OnOk result (Tells self.old self.new (file_of_layer self.old.layer) (conf (file_of_layer self.old.layer) kinds.NoBrace first ∷ conf (file_of_layer self.old.layer) kind line ∷ []) []) }
+        ensures { OnOk result (Tells self.old self.new (file_of_layer self.old.layer)
+            (conf (file_of_layer self.old.layer) kinds.NoBrace first ∷ conf (file_of_layer self.old.layer) kind line ∷ []) []) }
     {
         self.tell(first, ConfKind::NoBrace)?;
         self.tell(line, kind)
@@ -49,7 +51,8 @@ impl Course {
     // Tells that names have no brace, and asks for the file of the line that shows it.
     fn tell_and_ask(&mut self, first: u32, include: Include) -> Result<(), Memory>
         requires { 0 < length (entered self.old.layer) }
-        ensures { OnOk result (Tells self.old self.new (file_of_layer self.old.layer) (conf (file_of_layer self.old.layer) kinds.NoBrace first ∷ []) (include ∷ [])) }
+        ensures { OnOk result (Tells self.old self.new (file_of_layer self.old.layer)
+            (conf (file_of_layer self.old.layer) kinds.NoBrace first ∷ []) (include ∷ [])) }
     {
         self.tell(first, ConfKind::NoBrace)?;
         self.ask(include)

@@ -1,11 +1,13 @@
 // Visits of the paths that are asked for.
-ghost use Rattle.std.specs.Prelude.{◌≡◌, ◌<◌, ◌≤◌, ◌+◌, ◌^◌, ◌↔◌, ◌∷◌, ◌++◌, [], true, Some, option_copied, length, reverse, IfOk, OnOk, OnErr};
+ghost use Rattle.std.specs.Prelude.{◌≡◌, ◌<◌, ◌≤◌, ◌+◌, ◌^◌, ◌↔◌, ◌∷◌, ◌++◌, [], true, Some, option_copied, length, reverse, IfOk};
+ghost use Rattle.std.specs.Prelude.{OnOk, OnErr};
 ghost use Rattle.lr_host.specs.Told.{Left, Onward};
 ghost use Rattle.lr_conf.specs.Meaning.{conf};
 ghost use Rattle.lr_conf.specs.Fold.{entered};
 ghost use Rattle.lr_visits.specs.Visits.{IsRead, HasRoom};
 ghost use Rattle.lr_include.specs.declared.task.Task.TheVariants as task;
-ghost use Rattle.lr_include.specs.Stages.{Stage, is_shallow, room_of, room_for, limit_kind, telling_exposed, line_tasks, name_tasks, is_name, behind_names, entering, after_ask, after_name, IsBarred};
+ghost use Rattle.lr_include.specs.Stages.{Stage, is_shallow, room_of, room_for, limit_kind, telling_exposed, line_tasks};
+ghost use Rattle.lr_include.specs.Stages.{name_tasks, is_name, behind_names, entering, after_ask, after_name, IsBarred};
 ghost use Rattle.lr_include.specs.Course.{StandsAt, SameButTodo, ToldFault, GoesOn};
 ghost use Rattle.lr_include.specs.Lacking.{LacksFrom};
 
@@ -110,7 +112,8 @@ impl Course {
 
     // Puts the path of a name in front of what is still to be read, where it is one.
     fn push_name(&mut self, ask: &Ask, name: &Text) -> Result<(), Memory>
-        ensures todo { OnOk result (reverse self.new.todo.items ≡ name_tasks ask.now (name.now ∷ []) ++ reverse self.old.todo.items) }
+        ensures todo { OnOk result (reverse self.new.todo.items ≡ name_tasks ask.now (name.now ∷ [])
+            ++ reverse self.old.todo.items) }
         ensures rest { OnOk result (SameButTodo self.old self.new) }
     {
         match ask.path.join(self.alloc, name.bytes()) {
@@ -230,8 +233,11 @@ impl Course {
 
     // Visits a path that a line or the command line asks for.
     fn turn_ask<H: Host>(&mut self, host: &mut H, ask: Ask) -> Result<(), Memory>
-        ensures told { OnOk result ((s : Stage) → StandsAt self.old s → GoesOn (record s { todo = task.Ask ask ∷ s.todo }) self.new (H.told host.old) (H.told host.new) (H.counts host.old).faults (H.counts host.new).faults) }
-        ensures lacking { OnErr result ((s : Stage) → StandsAt self.old s → Left (LacksFrom (record s { todo = task.Ask ask ∷ s.todo })) (H.told host.old) (H.told host.new)) }
+        ensures told { OnOk result ((s : Stage) → StandsAt self.old s
+            → GoesOn (record s { todo = task.Ask ask ∷ s.todo }) self.new (H.told host.old) (H.told host.new)
+            (H.counts host.old).faults (H.counts host.new).faults) }
+        ensures lacking { OnErr result ((s : Stage) → StandsAt self.old s
+            → Left (LacksFrom (record s { todo = task.Ask ask ∷ s.todo })) (H.told host.old) (H.told host.new)) }
         ensures counts { Onward (H.counts host.old) (H.counts host.new) }
     {
         let lists = self.shallow();
@@ -242,8 +248,11 @@ impl Course {
 
     // Visits a name in a directory, where it isn't barred.
     fn turn_name<H: Host>(&mut self, host: &mut H, ask: Ask) -> Result<(), Memory>
-        ensures told { OnOk result ((s : Stage) → StandsAt self.old s → GoesOn (record s { todo = task.Name ask ∷ s.todo }) self.new (H.told host.old) (H.told host.new) (H.counts host.old).faults (H.counts host.new).faults) }
-        ensures lacking { OnErr result ((s : Stage) → StandsAt self.old s → Left (LacksFrom (record s { todo = task.Name ask ∷ s.todo })) (H.told host.old) (H.told host.new)) }
+        ensures told { OnOk result ((s : Stage) → StandsAt self.old s
+            → GoesOn (record s { todo = task.Name ask ∷ s.todo }) self.new (H.told host.old) (H.told host.new)
+            (H.counts host.old).faults (H.counts host.new).faults) }
+        ensures lacking { OnErr result ((s : Stage) → StandsAt self.old s
+            → Left (LacksFrom (record s { todo = task.Name ask ∷ s.todo })) (H.told host.old) (H.told host.new)) }
         ensures counts { Onward (H.counts host.old) (H.counts host.new) }
     {
         let barred = self.is_barred(&ask.path)?;
@@ -257,8 +266,11 @@ impl Course {
 
     /// Reads on by a task that was the next.
     pub(crate) fn turn<H: Host>(&mut self, host: &mut H, task: Task) -> Result<(), Memory>
-        ensures told { OnOk result ((s : Stage) → StandsAt self.old s → GoesOn (record s { todo = task ∷ s.todo }) self.new (H.told host.old) (H.told host.new) (H.counts host.old).faults (H.counts host.new).faults) }
-        ensures lacking { OnErr result ((s : Stage) → StandsAt self.old s → Left (LacksFrom (record s { todo = task ∷ s.todo })) (H.told host.old) (H.told host.new)) }
+        ensures told { OnOk result ((s : Stage) → StandsAt self.old s
+            → GoesOn (record s { todo = task ∷ s.todo }) self.new (H.told host.old) (H.told host.new) (H.counts host.old).faults
+            (H.counts host.new).faults) }
+        ensures lacking { OnErr result ((s : Stage) → StandsAt self.old s
+            → Left (LacksFrom (record s { todo = task ∷ s.todo })) (H.told host.old) (H.told host.new)) }
         ensures counts { Onward (H.counts host.old) (H.counts host.new) }
     {
         match task {

@@ -31,7 +31,8 @@ pub record AreOpened (logs : List (Bor Family)) (reserved : List Path) (old choi
   pub each : (k : ℕ) (c : Choice) → slice_get choices k ≡ Some c → IsOpened logs reserved old k c
 
 -- It is for the first n logs, and the others are as they were.
-pub record HaveOpened (logs : List (Bor Family)) (reserved : List Path) (old : List Choice) (n : ℕ) (choices : List Choice) : Type 0 where
+pub record HaveOpened (logs : List (Bor Family)) (reserved : List Path) (old : List Choice) (n : ℕ)
+    (choices : List Choice) : Type 0 where
   pub as_many : length choices ≡ length old
   pub below : (k : ℕ) (c : Choice) → k < n → slice_get choices k ≡ Some c → IsOpened logs reserved old k c
   pub from : (k : ℕ) (c : Choice) → n ≤ k → slice_get choices k ≡ Some c → slice_get old k ≡ Some c

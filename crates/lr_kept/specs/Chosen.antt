@@ -1,4 +1,5 @@
--- Which of the logs that a run found it keeps, told over their list: it has them in order of definitions, then words, then bytes of the path.
+-- Which of the logs that a run found it keeps, told over their list: it has them in order of definitions, then words, then bytes of
+-- the path.
 use Rattle.std.specs.Prelude.{◌≡◌, ◌≢◌, ◌<◌, ℕ, Bool, true, List, Some, All, length, slice_get}
 use Rattle.std.specs.Borrow.{Bor}
 use Rattle.lr_rules.specs.declared.path.Path.{Path}
@@ -84,7 +85,8 @@ pub record HasReserved (logs : List (Bor Family)) (reserved : List Path) (k i : 
 abbrev pub IsFree : List (Bor Family) → List Path → ℕ → Type 0
 IsFree logs reserved k = (i : ℕ) → HasReserved logs reserved k i → ⊥
 
--- The path of this log wasn't found before and isn't passed over, and of the reserved paths this is the first that is one of its names.
+-- The path of this log wasn't found before and isn't passed over, and of the reserved paths this is the first that is one of its
+-- names.
 pub record IsBarred (logs : List (Bor Family)) (wild : List Bool) (reserved : List Path) (k i : ℕ) : Type 0 where
   pub new : IsNew logs k
   pub no_member : IsNoMember logs wild k
@@ -97,8 +99,10 @@ pub record IsBarred (logs : List (Bor Family)) (wild : List Bool) (reserved : Li
 abbrev pub IsKeptAt : List Choice → ℕ → Type 0
 IsKeptAt choices k = slice_get choices k ≡ Some Kept
 
--- The path of this log wasn't found before and isn't passed over, none of its names is reserved, and of the logs before it that are kept this is the first that it meets.
-pub record IsMet (logs : List (Bor Family)) (wild : List Bool) (reserved : List Path) (choices : List Choice) (k i : ℕ) : Type 0 where
+-- The path of this log wasn't found before and isn't passed over, none of its names is reserved, and of the logs before it that are
+-- kept this is the first that it meets.
+pub record IsMet (logs : List (Bor Family)) (wild : List Bool) (reserved : List Path) (choices : List Choice)
+    (k i : ℕ) : Type 0 where
   pub new : IsNew logs k
   pub no_member : IsNoMember logs wild k
   pub free : IsFree logs reserved k
@@ -107,8 +111,10 @@ pub record IsMet (logs : List (Bor Family)) (wild : List Bool) (reserved : List 
   pub meet : MeetAt logs i k
   pub first : (j : ℕ) → j < i → IsKeptAt choices j → MeetAt logs j k → ⊥
 
--- The path of this log wasn't found before and isn't passed over, none of its names is reserved, and it meets no log before it that is kept.
-pub record IsKept (logs : List (Bor Family)) (wild : List Bool) (reserved : List Path) (choices : List Choice) (k : ℕ) : Type 0 where
+-- The path of this log wasn't found before and isn't passed over, none of its names is reserved, and it meets no log before it that
+-- is kept.
+pub record IsKept (logs : List (Bor Family)) (wild : List Bool) (reserved : List Path) (choices : List Choice)
+    (k : ℕ) : Type 0 where
   pub new : IsNew logs k
   pub no_member : IsNoMember logs wild k
   pub free : IsFree logs reserved k
@@ -122,7 +128,8 @@ IsChoice logs wild reserved choices k (MemberOf i) = IsPassedOver logs wild k i
 IsChoice logs wild reserved choices k (Reserved i) = IsBarred logs wild reserved k i
 IsChoice logs wild reserved choices k (Meets i) = IsMet logs wild reserved choices k i
 
--- These are the choices for the logs, one for each, where wildcards gave the paths that are marked so and these paths are reserved: each is fixed by the logs and by the choices before it.
+-- These are the choices for the logs, one for each, where wildcards gave the paths that are marked so and these paths are reserved:
+-- each is fixed by the logs and by the choices before it.
 pub record AreChosen (logs : List (Bor Family)) (wild : List Bool) (reserved : List Path) (choices : List Choice) : Type 0 where
   pub as_many : length choices ≡ length logs
   pub each : (k : ℕ) (c : Choice) → slice_get choices k ≡ Some c → IsChoice logs wild reserved choices k c

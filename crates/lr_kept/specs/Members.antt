@@ -44,4 +44,5 @@ pub record MayJoin (logs : List (Bor Family)) (wild : List Bool) (choices : List
 
 -- the path at the first place is passed over as a member of the log at the other, where it is one
 abbrev pub Joins : List (Bor Family) → List Bool → ℕ → ℕ → List Choice → List Choice → Type 0
-Joins logs wild k i old new = (MayJoin logs wild old k i × ((c : Choice) × (slice_get old k ≡ Some c) × (new ≡ slice_set old k (lowered c i)))) ⊎ ((MayJoin logs wild old k i → ⊥) × (new ≡ old))
+Joins logs wild k i old new = (MayJoin logs wild old k i × ((c : Choice) × (slice_get old k ≡ Some c)
+    × (new ≡ slice_set old k (lowered c i)))) ⊎ ((MayJoin logs wild old k i → ⊥) × (new ≡ old))

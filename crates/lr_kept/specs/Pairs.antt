@@ -1,5 +1,6 @@
 -- The pairs of logs that meet.
-use Rattle.std.specs.Prelude.{◌≡◌, ◌≢◌, ◌⊎◌, ◌<◌, ◌≤◌, ℕ, true, nat_lt, List, Some, length, slice_get, slice_set, All, Contains, if◌then◌else◌}
+use Rattle.std.specs.Prelude.{◌≡◌, ◌≢◌, ◌⊎◌, ◌<◌, ◌≤◌, ℕ, true, nat_lt, List, Some, length, slice_get, slice_set, All, Contains}
+use Rattle.std.specs.Prelude.{if◌then◌else◌}
 use Rattle.std.specs.Borrow.{Bor}
 use Rattle.std.specs.List.Sorted.{IsNonDecreasingBy}
 use Rattle.lr_rules.specs.Names.{aside_path}
@@ -37,7 +38,8 @@ pub record AddsPair (logs : List (Bor Family)) (i k : ℕ) (old new : List Pair)
   pub found : HasPair logs new i k
 
 -- Of this place the pairs come with all whose fronts begin so.
-pub record AddsPairs (logs : List (Bor Family)) (fronts : List Front) (place : ℕ) (begin : List ℕ) (old new : List Pair) : Type 0 where
+pub record AddsPairs (logs : List (Bor Family)) (fronts : List Front) (place : ℕ) (begin : List ℕ)
+    (old new : List Pair) : Type 0 where
   pub grows : Grows logs old new
   pub found : (bytes : List ℕ) (k : ℕ) → Contains fronts (front_at k bytes) → Begins begin bytes → HasPair logs new place k
 
@@ -49,17 +51,22 @@ pub record AddsBetween (logs : List (Bor Family)) (fronts : List Front) (place f
 -- Of this place the pairs come with all whose fronts begin with the path where its log waits, where that is set aside.
 pub record AddsAside (logs : List (Bor Family)) (fronts : List Front) (place : ℕ) (old new : List Pair) : Type 0 where
   pub grows : Grows logs old new
-  pub found : (f : Bor Family) (bytes : List ℕ) (k : ℕ) → slice_get logs place ≡ Some f → f.now.naming.aside ≡ true → Contains fronts (front_at k bytes) → Begins (aside_path f.now.log) bytes → HasPair logs new place k
+  pub found : (f : Bor Family) (bytes : List ℕ) (k : ℕ) → slice_get logs place ≡ Some f → f.now.naming.aside ≡ true
+      → Contains fronts (front_at k bytes) → Begins (aside_path f.now.log) bytes → HasPair logs new place k
 
 -- Of this place, unless it is left out, the pairs come with all that its log finds.
-pub record AddsFound (logs : List (Bor Family)) (choices : List Choice) (fronts : List Front) (place : ℕ) (old new : List Pair) : Type 0 where
+pub record AddsFound (logs : List (Bor Family)) (choices : List Choice) (fronts : List Front) (place : ℕ)
+    (old new : List Pair) : Type 0 where
   pub grows : Grows logs old new
-  pub found : (f : Bor Family) (bytes : List ℕ) (k : ℕ) → slice_get logs place ≡ Some f → IsKeptAt choices place → Contains fronts (front_at k bytes) → Finds f.now bytes → HasPair logs new place k
+  pub found : (f : Bor Family) (bytes : List ℕ) (k : ℕ) → slice_get logs place ≡ Some f → IsKeptAt choices place
+      → Contains fronts (front_at k bytes) → Finds f.now bytes → HasPair logs new place k
 
 -- These are pairs of logs that meet, and of the first n places they have what the logs find.
-pub record HaveFound (logs : List (Bor Family)) (choices : List Choice) (fronts : List Front) (n : ℕ) (pairs : List Pair) : Type 0 where
+pub record HaveFound (logs : List (Bor Family)) (choices : List Choice) (fronts : List Front) (n : ℕ)
+    (pairs : List Pair) : Type 0 where
   pub sound : All (IsPair logs) pairs
-  pub found : (i : ℕ) (f : Bor Family) (bytes : List ℕ) (k : ℕ) → i < n → slice_get logs i ≡ Some f → IsKeptAt choices i → Contains fronts (front_at k bytes) → Finds f.now bytes → HasPair logs pairs i k
+  pub found : (i : ℕ) (f : Bor Family) (bytes : List ℕ) (k : ℕ) → i < n → slice_get logs i ≡ Some f → IsKeptAt choices i
+      → Contains fronts (front_at k bytes) → Finds f.now bytes → HasPair logs pairs i k
 
 -- These are the pairs of logs that meet, of all that aren't left out.
 pub record HavePairs (logs : List (Bor Family)) (choices : List Choice) (pairs : List Pair) : Type 0 where
@@ -72,7 +79,8 @@ AreRising pairs = IsNonDecreasingBy (λ p. p.earlier) pairs
 
 -- of a pair whose logs are both kept the later one isn't any more
 abbrev pub IsSettled : List Choice → Pair → List Choice → Type 0
-IsSettled old p new = (IsKeptAt old p.later × IsKeptAt old p.earlier × (new ≡ slice_set old p.later (Meets p.earlier))) ⊎ ((IsKeptAt old p.later → IsKeptAt old p.earlier → ⊥) × (new ≡ old))
+IsSettled old p new = (IsKeptAt old p.later × IsKeptAt old p.earlier × (new ≡ slice_set old p.later (Meets p.earlier)))
+    ⊎ ((IsKeptAt old p.later → IsKeptAt old p.earlier → ⊥) × (new ≡ old))
 
 -- this pair is among the first n
 abbrev pub IsAmong : List Pair → ℕ → ℕ → ℕ → Type 0

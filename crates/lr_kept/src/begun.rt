@@ -33,7 +33,8 @@ fn add_choice(
     path: &[u8],
     place: usize,
 ) -> Result<(), Memory>
-    ensures { OnOk result (AddsChoice (place_in found.old.entries) (place_in found.new.entries) path.now place choices.old.items choices.new.items) }
+    ensures { OnOk result (AddsChoice (place_in found.old.entries) (place_in found.new.entries) path.now place choices.old.items
+        choices.new.items) }
 {
     let choice = note(alloc, found, path, place)?;
     choices.push(choice)?;

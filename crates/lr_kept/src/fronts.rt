@@ -5,7 +5,8 @@ ghost use Rattle.std.specs.Cmp.Lexicographic.{slice_cmp};
 ghost use Rattle.std.specs.List.Sorted.{IsPermutation};
 ghost use Rattle.lr_rules.specs.Names.{aside_path};
 ghost use Rattle.lr_rules.specs.Path.{joined};
-ghost use Rattle.lr_kept.specs.Fronts.{aside_front, before_field, middle_front, member_front, below, front_at, fronts_at, AddsFronts, AreInOrder, HaveFronts};
+ghost use Rattle.lr_kept.specs.Fronts.{aside_front, before_field, middle_front, member_front, below, front_at, fronts_at};
+ghost use Rattle.lr_kept.specs.Fronts.{AddsFronts, AreInOrder, HaveFronts};
 
 use crate::choice::Choice;
 use crate::front::Front;

@@ -8,5 +8,6 @@ ghost use Rattle.lr_kept.specs.Chosen.{AreChosen};
 
 /// For the same logs, marks of wildcards and reserved paths there is one choice alone.
 pub fn choice_is_fixed()
-    ensures { (logs : List (Bor Family)) (wild : List Bool) (reserved : List Path) (choices others : List Choice) → AreChosen logs wild reserved choices → AreChosen logs wild reserved others → choices ≡ others }
+    ensures { (logs : List (Bor Family)) (wild : List Bool) (reserved : List Path) (choices others : List Choice)
+        → AreChosen logs wild reserved choices → AreChosen logs wild reserved others → choices ≡ others }
 {}

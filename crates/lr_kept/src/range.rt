@@ -44,7 +44,8 @@ fn begun_up_to(fronts: &[Front], from: usize, begin: &[u8]) -> usize
 /// From which place on, and up to which, the fronts begin with these bytes.
 pub fn beginning_with(fronts: &[Front], begin: &[u8]) -> (usize, usize)
     requires { AreInOrder fronts.now }
-    ensures exactly { (t : ℕ) (f : Front) → slice_get fronts.now t ≡ Some f → ((result.0 ≤ t) × (t < result.1)) ↔ Begins begin.now f.bytes }
+    ensures exactly { (t : ℕ) (f : Front) → slice_get fronts.now t ≡ Some f
+        → ((result.0 ≤ t) × (t < result.1)) ↔ Begins begin.now f.bytes }
     ensures bound { result.1 ≤ length fronts.now }
 {
     let from = fronts.partition_point(|front| is_before(front, begin));

@@ -31,17 +31,22 @@ turned_behind s turned (_ ∷ es) = turned_behind s turned es
 abbrev pub has_turned : LogSet → List Entry → Bool
 has_turned s es = turned_behind s false es
 
--- A step of a rotation that began behind p, where the names are n: as long as no member got a file, the log turns, to a path that names nothing; behind that a member goes that as many later ones follow as the rule's count says, or that was seen too old; what waited aside goes; and the log is made anew.
+-- A step of a rotation that began behind p, where the names are n: as long as no member got a file, the log turns, to a path that
+-- names nothing; behind that a member goes that as many later ones follow as the rule's count says, or that was seen too old; what
+-- waited aside goes; and the log is made anew.
 abbrev pub IsDatedStep : LogSet → Past → ℤ → Names → Bool → Entry → Type 0
 IsDatedStep s p newest n turned (Renames from to) = (turned ≡ false) × (n to ≡ thing.Nothing) × IsTurn s n newest from to
-IsDatedStep s p newest n turned (Unlinks x) = IsAsideOf s x ⊎ ((turned ≡ true) × (key : ℤ) × (s.key x ≡ Some key) × (IsPastLater s p n key ⊎ IsPastAge s p n x))
+IsDatedStep s p newest n turned (Unlinks x) = IsAsideOf s x ⊎ ((turned ≡ true) × (key : ℤ) × (s.key x ≡ Some key)
+    × (IsPastLater s p n key ⊎ IsPastAge s p n x))
 IsDatedStep s p newest n turned (Makes x mode) = x ≡ s.log
 IsDatedStep s p newest n turned _ = ⊥
 
--- These entries behind p, the newest first, are steps of one rotation of the dated set to the member with this key, or lie aside, where a member had got a file before, or none had.
+-- These entries behind p, the newest first, are steps of one rotation of the dated set to the member with this key, or lie aside,
+-- where a member had got a file before, or none had.
 abbrev pub IsDatedRotationBy : LogSet → Past → ℤ → Bool → List Entry → Type 0
 IsDatedRotationBy s p newest turned [] = Unit {0}
-IsDatedRotationBy s p newest turned (e ∷ es) = IsDatedRotationBy s p newest turned es × (IsAside s e ⊎ IsDatedStep s p newest (names_after (names (world p)) (changes_of es)) (turned_behind s turned es) e)
+IsDatedRotationBy s p newest turned (e ∷ es) = IsDatedRotationBy s p newest turned es
+    × (IsAside s e ⊎ IsDatedStep s p newest (names_after (names (world p)) (changes_of es)) (turned_behind s turned es) e)
 
 -- so where none had
 abbrev pub IsDatedRotation : LogSet → Past → ℤ → List Entry → Type 0

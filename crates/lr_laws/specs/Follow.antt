@@ -11,7 +11,8 @@ use Rattle.lr_host.specs.Later.{IsGeneration, later}
 use Rattle.lr_host.specs.Released.{Releases}
 use Rattle.lr_host.specs.Kept.{Leaves}
 
--- Where the names become others, no generation of a dated set comes to a place above its later rotations. In a numbered set a path has its place whatever the others name.
+-- Where the names become others, no generation of a dated set comes to a place above its later rotations. In a numbered set a path
+-- has its place whatever the others name.
 abbrev pub KeepsPlaces : Order → LogSet → Past → Entry → Names → Names → Type 0
 KeepsPlaces Numbered s p e then after = Unit {0}
 KeepsPlaces Dated s p e then after = (g : ℕ) (x : Path) → IsGeneration s p g → then x ≡ thing.File g → after x ≡ thing.File g
@@ -30,15 +31,19 @@ MakesPlaces s p e _ = Unit {0}
 abbrev pub NamesNone : LogSet → Past → Path → Type 0
 NamesNone s p x = (g : ℕ) → IsGeneration s p g → names (world p) x ≡ thing.File g → ⊥
 
--- A rename needs another path than the log's to go to, one that names no generation; where it moves a generation, that is the path where the log waits while it is set aside, or a member's, and its place there is not above the later rotations, under all names that a cut may leave.
+-- A rename needs another path than the log's to go to, one that names no generation; where it moves a generation, that is the path
+-- where the log waits while it is set aside, or a member's, and its place there is not above the later rotations, under all names
+-- that a cut may leave.
 pub record MayRename (s : LogSet) (p : Past) (from to : Path) : Type 0 where
   pub not_to_log : to ≢ s.log
   pub over_none : NamesNone s p to
-  pub room : (g : ℕ) → IsGeneration s p g → names (world p) from ≡ thing.File g → (n : Names) (undone : List Change) → Leaves p n undone
+  pub room : (g : ℕ) → IsGeneration s p g → names (world p) from ≡ thing.File g → (n : Names) (undone : List Change)
+      → Leaves p n undone
       → IsAsideOf s to ⊎ IsWithin (order s) s.key (changed (Moves from to) n) to (later s (p ▸ entry.Renames from to) g)
   pub places : KeepsAllPlaces s p (entry.Renames from to) (Moves from to)
 
--- What an entry that fits needs. An unlink of a generation needs a cause of release; appends and truncations need a path that names none; a make or an attach at most that a dated set keeps its places; every other kind needs nothing.
+-- What an entry that fits needs. An unlink of a generation needs a cause of release; appends and truncations need a path that names
+-- none; a make or an attach at most that a dated set keeps its places; every other kind needs nothing.
 abbrev pub MayFollow : LogSet → Past → Entry → Type 0
 MayFollow s p (entry.Renames from to) = MayRename s p from to
 MayFollow s p (entry.Unlinks x) = (g : ℕ) → IsGeneration s p g → names (world p) x ≡ thing.File g → Releases s p (entry.Unlinks x) g

@@ -17,9 +17,11 @@ later_once_begun s p g = later s p g + cond (has_begun s p) 0 1
 abbrev pub HasRoom : LogSet → Past → Path → ℕ → Type 0
 HasRoom s p x place = (g : ℕ) → names (world p) x ≡ thing.File g → IsGeneration s p g → place ≤ later_once_begun s p g
 
--- Under all names that a cut may leave, each generation that a member names may get one more later member, once this run has begun a rotation.
+-- Under all names that a cut may leave, each generation that a member names may get one more later member, once this run has begun
+-- a rotation.
 abbrev pub HasRoomForOne : LogSet → Past → Type 0
-HasRoomForOne s p = (m : Names) (undone : List Change) → Leaves p m undone → (g : ℕ) (x : Path) (t : ℤ) → IsGeneration s p g → m x ≡ thing.File g → s.key x ≡ Some t
+HasRoomForOne s p = (m : Names) (undone : List Change) → Leaves p m undone → (g : ℕ) (x : Path) (t : ℤ) → IsGeneration s p g
+    → m x ≡ thing.File g → s.key x ≡ Some t
     → (ys : List Path) → AreDistinct ys → AreLaterMembers s.key m t ys → length ys + 1 ≤ later_once_begun s p g
 
 -- each numbered member at a place below the limit may go one place further

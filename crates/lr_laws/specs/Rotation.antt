@@ -20,17 +20,22 @@ IsPastCount s p place = (count : ℕ) × SomeRule (rules_of p) s.log (λ r. r.co
 abbrev pub IsPastAge : LogSet → Past → Names → Path → Type 0
 IsPastAge s p n x = (g : ℕ) → n x ≡ thing.File g → SomeRule (rules_of p) s.log (ByAge p g)
 
--- The rename turns the log, where the names are n: the log goes to the member with the newest key, or to where it waits while it is set aside; or what waits there is taken up again, and goes to that member.
+-- The rename turns the log, where the names are n: the log goes to the member with the newest key, or to where it waits while it is
+-- set aside; or what waits there is taken up again, and goes to that member.
 pub data IsTurn (s : LogSet) (n : Names) (newest : ℤ) (from to : Path) : Type 0 where
   straight : from ≡ s.log → s.key to ≡ Some newest → IsTurn s n newest from to
   put_aside : from ≡ s.log → IsAsideOf s to → IsTurn s n newest from to
   taken_up : IsAsideOf s from → IsFileAt n from → s.key to ≡ Some newest → IsTurn s n newest from to
 
--- A step of a rotation that began behind p, where the names are n and members below the limit haven't moved: such a member goes one place further, or the log turns, to a path that names nothing; what waited aside goes, or a member that may; the log is made anew.
+-- A step of a rotation that began behind p, where the names are n and members below the limit haven't moved: such a member goes one
+-- place further, or the log turns, to a path that names nothing; what waited aside goes, or a member that may; the log is made
+-- anew.
 abbrev pub IsStep : LogSet → Past → ℕ → Names → Entry → Type 0
 IsStep s p limit n (Renames from to) = (n to ≡ thing.Nothing)
-    × (((place : ℕ) × (place < limit) × (s.key from ≡ Some (pos place)) × (s.key to ≡ Some (pos (place + 1)))) ⊎ IsTurn s n (pos 0) from to)
-IsStep s p limit n (Unlinks x) = IsAsideOf s x ⊎ ((place : ℕ) × (s.key x ≡ Some (pos place)) × (IsPastCount s p place ⊎ IsPastAge s p n x))
+    × (((place : ℕ) × (place < limit) × (s.key from ≡ Some (pos place)) × (s.key to ≡ Some (pos (place + 1))))
+    ⊎ IsTurn s n (pos 0) from to)
+IsStep s p limit n (Unlinks x) = IsAsideOf s x ⊎ ((place : ℕ) × (s.key x ≡ Some (pos place))
+    × (IsPastCount s p place ⊎ IsPastAge s p n x))
 IsStep s p limit n (Makes x mode) = x ≡ s.log
 IsStep s p limit n _ = ⊥
 
@@ -59,7 +64,8 @@ IsAside s e = IsElsewhere s e
 -- These entries behind p, the newest first, are steps of one rotation of the set, highest place first, or lie aside.
 abbrev pub IsRotation : LogSet → Past → ℕ → List Entry → Type 0
 IsRotation s p limit [] = Unit {0}
-IsRotation s p limit (e ∷ es) = IsRotation s p limit es × (IsAside s e ⊎ IsStep s p (limit_after s limit es) (names_after (names (world p)) (changes_of es)) e)
+IsRotation s p limit (e ∷ es) = IsRotation s p limit es × (IsAside s e
+    ⊎ IsStep s p (limit_after s limit es) (names_after (names (world p)) (changes_of es)) e)
 
 -- the log's path names a file where one of these entries, the newest first, renames it
 abbrev pub LogFits : LogSet → Names → List Entry → Type 0

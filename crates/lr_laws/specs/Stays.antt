@@ -15,9 +15,11 @@ use Rattle.lr_laws.specs.Room.{IsReady}
 use Rattle.lr_laws.specs.Rotation.{IsRotation}
 use Rattle.lr_laws.specs.DatedRotation.{IsDatedRotation}
 
--- where the journal is told, each set of which the one condition holds before, and which is safe then, is safe after, where the other condition holds of it then
+-- where the journal is told, each set of which the one condition holds before, and which is safe then, is safe after, where the
+-- other condition holds of it then
 abbrev pub KeepsSafeIf : (LogSet → Past → Type 0) → (LogSet → Past → Type 0) → Option Journal → Option Journal → Type 0
-KeepsSafeIf when then (Some j) (Some k) = (s : LogSet) → when s (past j) → IsJournal (past j) → IsSafe s (past j) → then s (past k) → IsSafe s (past k)
+KeepsSafeIf when then (Some j) (Some k) = (s : LogSet) → when s (past j) → IsJournal (past j) → IsSafe s (past j) → then s (past k)
+    → IsSafe s (past k)
 KeepsSafeIf when then None None = Unit {0}
 KeepsSafeIf when then _ _ = ⊥
 
@@ -33,14 +35,16 @@ KeepsSafeBy way when before after = KeepsSafeIf when (IsSteadyBy way) before aft
 abbrev pub KeepsSafeWhere : (LogSet → Past → Type 0) → Option Journal → Option Journal → Type 0
 KeepsSafeWhere when before after = KeepsSafeBy Rename when before after
 
--- These steps, in order, are those of one rotation of the numbered set in this run, each member below a limit being ready, or lie aside.
+-- These steps, in order, are those of one rotation of the numbered set in this run, each member below a limit being ready, or lie
+-- aside.
 pub record Rotates (steps : List Entry) (s : LogSet) (p : Past) : Type 0 where
   pub numbered : order s ≡ Numbered
   pub limit : ℕ
   pub ready : IsReady s p limit
   pub rotation : IsRotation s p limit (reverse steps)
 
--- These steps, in order, are those of one rotation of the dated set in this run, which has begun none, to a member that none is later than; or they lie aside.
+-- These steps, in order, are those of one rotation of the dated set in this run, which has begun none, to a member that none is
+-- later than; or they lie aside.
 pub record RotatesDated (steps : List Entry) (s : LogSet) (p : Past) : Type 0 where
   pub dated : order s ≡ Dated
   pub not_begun : has_begun s p ≡ false

@@ -49,7 +49,8 @@ pub fn cut_stays_safe()
 /// waits there is taken up again; those past the count or too old go. Of the entries aside nothing else is asked.
 pub fn rotation_stays_safe()
     ensures { (s : LogSet) (p q : Past) (limit : ℕ) (es : List Entry) → order s ≡ Numbered → IsJournal p → IsSafe s p
-        → IsReady s p limit → Made p es q → LogFits s (names (world p)) es → IsRotation s p limit es → NoneAttached s q → IsSafe s q }
+        → IsReady s p limit → Made p es q → LogFits s (names (world p)) es → IsRotation s p limit es → NoneAttached s q
+        → IsSafe s q }
 {}
 
 /// So it is behind entries of the tool on no path of the set, with writers' entries between them; of numbered and dated sets.

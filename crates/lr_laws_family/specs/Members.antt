@@ -19,7 +19,8 @@ use Rattle.lr_family.specs.Stands.{AreNewestFirst}
 abbrev pub IsNoMember : Naming → Path → Type 0
 IsNoMember n x = IsMember n x → ⊥
 
--- The path, which may be the log's, is of no member, and the naming is one of a family: a format of dates meets its limits, and the directory has a path.
+-- The path, which may be the log's, is of no member, and the naming is one of a family: a format of dates meets its limits, and the
+-- directory has a path.
 pub record IsFamily (log : Path) (n : Naming) : Type 0 where
   pub kin : IsKin log n
   pub format : or_none is_format n.dated ≡ true

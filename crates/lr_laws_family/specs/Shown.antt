@@ -30,13 +30,15 @@ WasSeen ts m = (m.seen.kind ≡ kind.File) × IsIn (entry.Look m.path (Some m.se
 abbrev pub IsUnlisted : Path → List (List ℕ) → Path → Type 0
 IsUnlisted dir names x = (name : List ℕ) → Contains names name → x ≡ joined dir name → ⊥
 
--- The looks show that nothing has the path, of a member in this directory: that was listed, and the path isn't in the list; or a look at the path saw nothing; or one at the directory did.
+-- The looks show that nothing has the path, of a member in this directory: that was listed, and the path isn't in the list; or a
+-- look at the path saw nothing; or one at the directory did.
 pub data IsUnseen (dir x : Path) (ts : List Entry) : Type 0 where
   unlisted : (names : List (List ℕ)) → IsIn (entry.List dir names) ts → IsUnlisted dir names x → IsUnseen dir x ts
   gone : IsIn (entry.Look x None) ts → IsUnseen dir x ts
   no_dir : IsIn (entry.Look dir None) ts → IsUnseen dir x ts
 
--- Looks among these entries, in any order, show that these members stand, each a regular file, the newest first, and that no other does.
+-- Looks among these entries, in any order, show that these members stand, each a regular file, the newest first, and that no other
+-- does.
 pub record Shown (n : Naming) (members : List Member) (ts : List Entry) : Type 0 where
   pub newest_first : AreNewestFirst members
   pub named : AreNamed n members

@@ -31,7 +31,8 @@ pub fn numbers_rotate()
 /// one of the family.
 pub fn dates_rotate()
     ensures { (n : Naming) (c : Count) (all : List Ranked) (members : List Member) (log source target : Path) (by : By)
-        (seconds : ℤ) (serial : ℕ) → IsDatedAt n seconds serial target → IsNoMember n source → HasNone members target → AreDatedAt n all
+        (seconds : ℤ) (serial : ℕ) → IsDatedAt n seconds serial target → IsNoMember n source → HasNone members target
+        → AreDatedAt n all
         → IsRotation n (dated c all members log source target by) }
 {}
 

@@ -30,4 +30,5 @@ pub record CanCalls (told : Option Journal) (calls : List Entry) : Type 0 where
 
 -- the calls of a copy, as they are asked for; what a call will give or take makes no difference
 abbrev pub copy_calls : Job → List Entry
-copy_calls job = clearing job ++ (Makes job.part job.mode ∷ Reads job.from 0 [] ∷ Appends job.part [] ∷ SyncsFile job.part ∷ Renames job.part job.to ∷ SyncsDir job.dir ∷ cutting job)
+copy_calls job = clearing job ++ (Makes job.part job.mode ∷ Reads job.from 0 [] ∷ Appends job.part [] ∷ SyncsFile job.part ∷ Renames
+    job.part job.to ∷ SyncsDir job.dir ∷ cutting job)

@@ -33,7 +33,8 @@ IsPartFile t x = (job : Job) × (t.job ≡ Some job) × (x ≡ job.part)
 abbrev pub IsItsDir : Target → Path → Type 0
 IsItsDir t x = (mode : Option ℕ) × (t.ready.dir ≡ Some (x, mode))
 
--- What a rotation does besides its renames and unlinks: the family's directory is made where it wasn't there; the log is made anew; where it is copied, its part file is made and filled, and the log is emptied.
+-- What a rotation does besides its renames and unlinks: the family's directory is made where it wasn't there; the log is made anew;
+-- where it is copied, its part file is made and filled, and the log is emptied.
 abbrev pub AlsoDoes : Target → Entry → Type 0
 AlsoDoes t (entry.MakesDir x mode) = IsItsDir t x
 AlsoDoes t (entry.Makes x mode) = (x ≡ t.log) ⊎ IsPartFile t x
@@ -81,6 +82,7 @@ paths_of_others log (t ∷ ts) = cond (bytes_eq t.log log) (paths_of_others log 
 abbrev pub other_paths : Path → Path → List Target → List Path
 other_paths state log targets = state ∷ (state ++ codes ".tmp") ∷ paths_of_others log targets
 
--- the paths that a run changes besides the names of this log's family: those of others, and of the directory that its rotation makes
+-- the paths that a run changes besides the names of this log's family: those of others, and of the directory that its rotation
+-- makes
 abbrev pub paths_beside : Path → Target → List Target → List Path
 paths_beside state t targets = dir_paths t.ready.dir ++ other_paths state t.log targets

@@ -8,7 +8,9 @@ use Rattle.lr_family.specs.Stands.{AreNewestFirst}
 use Rattle.lr_laws_family.specs.Members.{IsFamily}
 use Rattle.lr_laws_targets.specs.Target.{Target, IsReadyBy, HasDir, HasJob}
 
--- Each member that was seen, the newest first, has the path of its place; the count and the first number are such as a rule in its limits gives; and nothing hinders the rotation by some clock: so each member has a name that it comes to, and so has the log. The rotation that is ready is theirs, and so are the directory and the copy.
+-- Each member that was seen, the newest first, has the path of its place; the count and the first number are such as a rule in its
+-- limits gives; and nothing hinders the rotation by some clock: so each member has a name that it comes to, and so has the log. The
+-- rotation that is ready is theirs, and so are the directory and the copy.
 pub record HasNames (t : Target) : Type 0 where
   pub family : IsFamily t.log t.naming
   pub newest_first : AreNewestFirst t.stand.members

@@ -14,6 +14,8 @@ abbrev pub transfer_calls : Ready → Option Job → List Entry
 transfer_calls ready None = Renames ready.log ready.target ∷ []
 transfer_calls ready (Some job) = copy_calls job
 
--- All of them, but for the making of the log anew, which may be left out. The final path is a file behind the transfer: the mail of the first file can read it.
+-- All of them, but for the making of the log anew, which may be left out. The final path is a file behind the transfer: the mail of
+-- the first file can read it.
 abbrev pub calls_of : Target → List Entry
-calls_of t = unlinks t.ready.leftovers ++ (dir_calls t.ready.dir ++ (map move_step t.ready.moves ++ (transfer_calls t.ready t.job ++ Reads t.ready.target 0 [] ∷ unlinks t.ready.retire)))
+calls_of t = unlinks t.ready.leftovers ++ (dir_calls t.ready.dir
+    ++ (map move_step t.ready.moves ++ (transfer_calls t.ready t.job ++ Reads t.ready.target 0 [] ∷ unlinks t.ready.retire)))

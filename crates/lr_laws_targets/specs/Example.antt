@@ -1,4 +1,5 @@
--- A log with dates, what stands of it, and the looks of a run at it: `/w/b.log`, of which one member is kept, named by the seconds since 1970, and none stands.
+-- A log with dates, what stands of it, and the looks of a run at it: `/w/b.log`, of which one member is kept, named by the seconds
+-- since 1970, and none stands.
 use Rattle.std.specs.Prelude.{List, [], ◌∷◌, Some, None, pos, false, true, codes}
 use Rattle.lr_rules.specs.declared.clock.Clock.{Clock}
 use Rattle.lr_rules.specs.declared.path.Path.{Path}
@@ -70,7 +71,15 @@ stand = record { there = true; parent = true; members = []; parts = [] }
 
 -- the log and its rotation, by a clock
 abbrev pub target : Clock → Target
-target clock = record { log = log; naming = naming; count = Keep 1; maxage = None; stand = stand; ready = dated_ready log naming (Keep 1) None clock No []; job = None }
+target clock = record {
+  log = log;
+  naming = naming;
+  count = Keep 1;
+  maxage = None;
+  stand = stand;
+  ready = dated_ready log naming (Keep 1) None clock No [];
+  job = None;
+}
 
 -- the looks, and the rename to the clock's stamp
 abbrev pub looks : List Entry

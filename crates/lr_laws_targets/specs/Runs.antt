@@ -14,7 +14,9 @@ use Rattle.lr_laws_targets.specs.AllTurns.{IsOfState, IsOfSome, StandsBetween}
 use Rattle.lr_laws_targets.specs.Target.{Target, rotation_of}
 use Rattle.lr_laws_targets.specs.Seen.{AreLogsSeen}
 
--- All logs were looked at while nothing was changed. Of the changes behind that, each is of the rotation of one of the logs, or the state's; seen from each log, they are a first part of its own renames and unlinks, in order, with the changes of others between, and what its rotation does besides. The clock tells the moment of the run.
+-- All logs were looked at while nothing was changed. Of the changes behind that, each is of the rotation of one of the logs, or the
+-- state's; seen from each log, they are a first part of its own renames and unlinks, in order, with the changes of others between,
+-- and what its rotation does besides. The clock tells the moment of the run.
 pub record AllTurnsBy (state : Path) (clock : Clock) (rules : Rules) (ts : List Entry) : Type 0 where
   pub looks : List Entry
   pub acts : List Entry
@@ -25,15 +27,18 @@ pub record AllTurnsBy (state : Path) (clock : Clock) (rules : Rules) (ts : List 
   pub all : Each (λ e. IsOfSome targets e ⊎ IsOfState state e) (filter is_change acts)
   pub each : (t : Target) → IsIn t targets → FirstWoven (StandsBetween state t targets) (rotation_of t) (filter is_change acts)
 
--- Each log was rotated whole: its renames and unlinks stand in order, with the changes of others between, and what its rotation does besides.
+-- Each log was rotated whole: its renames and unlinks stand in order, with the changes of others between, and what its rotation
+-- does besides.
 pub record AllTurnedBy (state : Path) (clock : Clock) (rules : Rules) (ts : List Entry) : Type 0 where
   pub turns : AllTurnsBy state clock rules ts
-  pub whole : (t : Target) → IsIn t turns.targets → Weave (StandsBetween state t turns.targets) (rotation_of t) (filter is_change turns.acts)
+  pub whole : (t : Target) → IsIn t turns.targets → Weave (StandsBetween state t turns.targets) (rotation_of t)
+      (filter is_change turns.acts)
 
 -- What a run did behind what it read: nothing more, or it started at the clock's moment, looked, and rotated.
 pub data MayTurnAllBy (clock : Clock) (ts : List Entry) : Type 0 where
   not_yet : ts ≡ [] → MayTurnAllBy clock ts
-  started : (state : Path) (rules : Rules) (tail : List Entry) → ts ≡ entry.Starts state clock.now rules ∷ tail → AllTurnsBy state clock rules tail → MayTurnAllBy clock ts
+  started : (state : Path) (rules : Rules) (tail : List Entry) → ts ≡ entry.Starts state clock.now rules ∷ tail
+      → AllTurnsBy state clock rules tail → MayTurnAllBy clock ts
 
 -- The entries of a run, in order, as far as it came.
 pub record IsWholeRunBy (clock : Clock) (ts : List Entry) : Type 0 where

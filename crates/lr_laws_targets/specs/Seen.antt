@@ -10,7 +10,9 @@ use Rattle.lr_laws_family.specs.Shown.{Shown}
 use Rattle.lr_laws_family.specs.Weave.{Among}
 use Rattle.lr_laws_targets.specs.Target.{IsGiven, Target, IsReadyBy, IsDirSeen, IsJobOf}
 
--- A word of a rule gives the log; it was seen as a file, and the members of its family were, wherever these looks stand. Nothing hinders its rotation, which is that of the members that were seen, by the rule's count and age and by the clock; and so is its copy. The family's directory was seen, or its rotation makes it.
+-- A word of a rule gives the log; it was seen as a file, and the members of its family were, wherever these looks stand. Nothing
+-- hinders its rotation, which is that of the members that were seen, by the rule's count and age and by the clock; and so is its
+-- copy. The family's directory was seen, or its rotation makes it.
 pub record IsLogSeen (rules : Rules) (clock : Clock) (looks : List Entry) (t : Target) : Type 0 where
   pub given : IsGiven rules.sets looks t.log t.naming t.count t.maxage t.job
   pub family : IsFamily t.log t.naming

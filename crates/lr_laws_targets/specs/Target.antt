@@ -31,15 +31,20 @@ use Rattle.lr_laws_family.specs.Shown.{SawDir}
 use Rattle.lr_laws_rotations.specs.Steps.{unlinks}
 use Rattle.lr_laws_family.specs.Weave.{Among}
 
--- What looks and listings tell of a log where they are true: this word of one of the rules gives it. Where the word is a wildcard that gives another log too, which named a file before and of which it is a member, by numbers or dates, it is none by the naming of a rule that gives that log.
+-- What looks and listings tell of a log where they are true: this word of one of the rules gives it. Where the word is a wildcard
+-- that gives another log too, which named a file before and of which it is a member, by numbers or dates, it is none by the naming
+-- of a rule that gives that log.
 pub record Gives (rules : List Rule) (rule : Rule) (word : List ℕ) (log : Path) (ts : List Entry) : Type 0 where
   pub gives : (p q : Past) (es : List Entry) → Made p es q → ts ≡ reverse es → WordGives word log
   pub alone : (p q : Past) (es : List Entry) → Made p es q → IsJournal p → ts ≡ reverse es → is_wildcard word ≡ true
-      → (x : Path) → x ≢ log → path_fault x ≡ None → WordGives word x → IsFileAt (names (world p)) x → IsMember (naming_of rule x) log
+      → (x : Path) → x ≢ log → path_fault x ≡ None → WordGives word x → IsFileAt (names (world p)) x
+      → IsMember (naming_of rule x) log
       → SomeRule rules x (λ r. IsMember (naming_of r x) log → ⊥)
 
--- One of the rules has a word that gives this log, as some of these looks tell. The rule gives the log this naming, this count and this age in days; it has the log copied where there is a job, and renamed where there is none.
-pub record IsGiven (rules : List Rule) (looks : List Entry) (log : Path) (n : Naming) (c : Count) (maxage : Option ℕ) (job : Option Job) : Type 0 where
+-- One of the rules has a word that gives this log, as some of these looks tell. The rule gives the log this naming, this count and
+-- this age in days; it has the log copied where there is a job, and renamed where there is none.
+pub record IsGiven (rules : List Rule) (looks : List Entry) (log : Path) (n : Naming) (c : Count) (maxage : Option ℕ)
+    (job : Option Job) : Type 0 where
   pub rule : Rule
   pub word : List ℕ
   pub among : Contains rules rule
@@ -50,7 +55,8 @@ pub record IsGiven (rules : List Rule) (looks : List Entry) (log : Path) (n : Na
   pub maxage_is : rule.maxage ≡ maxage
   pub way_is : (rule.way ≡ Rename) ↔ (job ≡ None)
 
--- A log that a run may rotate: its naming, count and age in days, what stood of its family, its rotation, which is ready, and the copy that stands in the place of the log's rename, if any.
+-- A log that a run may rotate: its naming, count and age in days, what stood of its family, its rotation, which is ready, and the
+-- copy that stands in the place of the log's rename, if any.
 pub record Target : Type 0 where
   pub log : Path
   pub naming : Naming
@@ -75,10 +81,13 @@ IsReadyBy clock t = with_dir None t.ready ≡ ready_of t.log t.naming t.count t.
 
 -- the directory that is made, if any, is that of the family, and no other name of the set
 abbrev pub HasDir : Target → Type 0
-HasDir t = (dir : Path) (mode : Option ℕ) → t.ready.dir ≡ Some (dir, mode) → (dir ≡ t.naming.dir) × (IsOwnName t.log t.naming dir → ⊥)
+HasDir t = (dir : Path) (mode : Option ℕ) → t.ready.dir ≡ Some (dir, mode)
+    → (dir ≡ t.naming.dir) × (IsOwnName t.log t.naming dir → ⊥)
 
--- The directory is that of the family, and no other name of the set. These looks saw nothing at its path, and saw its parent, a directory; so no member stood, and no part file.
-pub record IsMissingDir (log : Path) (n : Naming) (members : List Member) (job : Option Job) (looks : List Entry) (dir : Path) : Type 0 where
+-- The directory is that of the family, and no other name of the set. These looks saw nothing at its path, and saw its parent, a
+-- directory; so no member stood, and no part file.
+pub record IsMissingDir (log : Path) (n : Naming) (members : List Member) (job : Option Job) (looks : List Entry)
+    (dir : Path) : Type 0 where
   pub dir_is : dir ≡ n.dir
   pub apart : IsOwnName log n dir → ⊥
   pub gone : IsIn (entry.Look dir None) looks

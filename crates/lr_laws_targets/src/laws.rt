@@ -56,7 +56,8 @@ pub fn seen_log_can_be_rotated()
 pub fn whole_run_rotates_all()
     ensures { (state : Path) (clock : Clock) (rules : Rules) (reads tail : List Entry) (t : AllTurnedBy state clock rules tail)
         (x : Target) → AreQuiet reads → IsIn x t.turns.targets → x.job ≡ None
-        → RotatesAmong (paths_beside state x t.turns.targets) x.naming (rotation_by x) (reads ++ Starts state clock.now rules ∷ tail) }
+        → RotatesAmong (paths_beside state x t.turns.targets) x.naming (rotation_by x)
+        (reads ++ Starts state clock.now rules ∷ tail) }
 {}
 
 /// Each member of a set whose log the run doesn't rotate, numbered or dated, names what it named as the run began, however
@@ -81,7 +82,8 @@ pub fn plan_is_one()
 
 /// A run that changes nothing is such a run.
 pub fn quiet_runs_are_such()
-    ensures looks { (state : Path) (clock : Clock) (rules : Rules) (ts : List Entry) → AreQuiet ts → AllTurnsBy state clock rules ts }
+    ensures looks { (state : Path) (clock : Clock) (rules : Rules) (ts : List Entry) → AreQuiet ts
+        → AllTurnsBy state clock rules ts }
     ensures quiet { (clock : Clock) (ts : List Entry) → AreQuiet ts → IsWholeRunBy clock ts }
 {}
 

@@ -1,7 +1,8 @@
 // The words and braces of a line.
 ghost use Rattle.std.specs.Prelude.{◌≡◌, ◌+◌, ◌<◌, ◌≤◌, ◌^◌, length, position, count_by, IfOk, IsUtf8, Some};
 ghost use Rattle.std.specs.List.{list_any};
-ghost use Rattle.lr_lex.specs.Words.{is_gap, is_ink, is_open, is_close, is_brace, is_equals, closes, opens, before_open, words as words_of_signs, line_words, parted};
+ghost use Rattle.lr_lex.specs.Words.{is_gap, is_ink, is_open, is_close, is_brace, is_equals, closes, opens, before_open};
+ghost use Rattle.lr_lex.specs.Words.{words as words_of_signs, line_words, parted};
 ghost use Rattle.lr_lex.specs.Scanning.{sign_bytes, InkEnds};
 
 use crate::scan::Scan;

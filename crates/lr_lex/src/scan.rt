@@ -105,7 +105,8 @@ impl Scan {
         requires place { at + length signs.now < 2 ^ 63 }
         requires size { self.old.len + length signs.now < 2 ^ 63 - 1 }
         requires utf8 { IsUtf8 (draft_bytes self.old ++ sign_bytes signs.now) }
-        ensures words { OnOk result ((ss : List Sign) → to_come self.old at (signs.now ++ ss) ≡ to_come self.new (at + length signs.now) ss) }
+        ensures words { OnOk result ((ss : List Sign) → to_come self.old at (signs.now ++ ss)
+            ≡ to_come self.new (at + length signs.now) ss) }
         ensures utf8 { OnOk result (IsUtf8 (draft_bytes self.new)) }
         ensures len { OnOk result (self.new.len ≤ self.old.len + length signs.now) }
     {

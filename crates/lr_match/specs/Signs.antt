@@ -13,14 +13,16 @@ pub data Begins (pattern : List ℕ) : Sign → List ℕ → Type 0 where
   one : (rest : List ℕ) → pattern ≡ 63 ∷ rest → Begins pattern sign.One rest
   itself : (c : ℕ) (rest : List ℕ) → pattern ≡ c ∷ rest → IsPlain c rest → Begins pattern (sign.Itself c) rest
   escaped : (c : ℕ) (rest : List ℕ) → pattern ≡ 92 ∷ c ∷ rest → Begins pattern (sign.Itself c) rest
-  of_class : (k : Class) (part rest : List ℕ) → pattern ≡ 91 ∷ part → IsClass part k.turned (signs_of (chars k.signs.now)) rest → Begins pattern (sign.Class k) rest
+  of_class : (k : Class) (part rest : List ℕ) → pattern ≡ 91 ∷ part → IsClass part k.turned (signs_of (chars k.signs.now)) rest
+      → Begins pattern (sign.Class k) rest
 
 -- a sign that goes with one character goes with this one
 abbrev pub sign_has : Sign → ℕ → Bool
 sign_has sign.Run c = false
 sign_has sign.One c = true
 sign_has (sign.Itself d) c = d == c
-sign_has (sign.Class k) c = if k.turned then not (class_has (signs_of (chars k.signs.now)) c) else class_has (signs_of (chars k.signs.now)) c
+sign_has (sign.Class k) c = if k.turned then not (class_has (signs_of (chars k.signs.now)) c) else class_has
+    (signs_of (chars k.signs.now)) c
 
 -- it goes with one character
 abbrev pub IsSingle : Sign → Type 0

@@ -5,12 +5,14 @@ use Rattle.lr_match.specs.declared.taboo.Taboo.{Taboo}
 
 -- the name ends with an extension of the list, or a pattern of it matches the name
 abbrev pub Bars : Taboo → List ℕ → Type 0
-Bars taboo name = Any (λ end. EndsWith name end) taboo.extensions ⊎ Any (λ pattern. Matches true (chars pattern) (chars name)) taboo.patterns
+Bars taboo name = Any (λ end. EndsWith name end) taboo.extensions
+    ⊎ Any (λ pattern. Matches true (chars pattern) (chars name)) taboo.patterns
 
 -- the extensions to begin with
 abbrev pub first_extensions : List (List ℕ)
 first_extensions =
-    codes ",v" ∷ codes ".cfsaved" ∷ codes ".disabled" ∷ codes ".dpkg-bak" ∷ codes ".dpkg-del" ∷ codes ".dpkg-dist" ∷ codes ".dpkg-new" ∷ codes ".dpkg-old" ∷ codes ".dpkg-tmp" ∷ codes ".rpmnew" ∷ codes ".rpmorig" ∷ codes ".rpmsave" ∷ codes ".swp"
+    codes ",v" ∷ codes ".cfsaved" ∷ codes ".disabled" ∷ codes ".dpkg-bak" ∷ codes ".dpkg-del" ∷ codes ".dpkg-dist" ∷ codes
+    ".dpkg-new" ∷ codes ".dpkg-old" ∷ codes ".dpkg-tmp" ∷ codes ".rpmnew" ∷ codes ".rpmorig" ∷ codes ".rpmsave" ∷ codes ".swp"
     ∷ codes ".ucf-dist" ∷ codes ".ucf-new" ∷ codes ".ucf-old" ∷ codes "~" ∷ []
 
 -- the list to begin with: no patterns

@@ -1,5 +1,6 @@
 // The classes of a pattern.
-ghost use Rattle.std.specs.Prelude.{◌≡◌, ◌≤◌, ◌+◌, ◌*◌, ℕ, Bool, false, List, [], ◌∷◌, ◌++◌, ◌||◌, ◌&&◌, nat_le, length, drop, IfNone, MatchOption};
+ghost use Rattle.std.specs.Prelude.{◌≡◌, ◌≤◌, ◌+◌, ◌*◌, ℕ, Bool, false, List, [], ◌∷◌, ◌++◌, ◌||◌, ◌&&◌, nat_le, length, drop};
+ghost use Rattle.std.specs.Prelude.{IfNone, MatchOption};
 ghost use Rattle.std.specs.List.{list_any};
 ghost use Rattle.std.specs.Str.{chars};
 ghost use Rattle.lr_rules.specs.Match.{ranges_have, class_has, is_close, IsClass};
@@ -19,8 +20,10 @@ pub struct Class<'a> {
 
 // What stands behind the first `]`.
 fn behind_close<'a, L: Ledger>(text: &'a str, steps: &mut Steps<L>) -> Option<&'a str>
-    ensures close { MatchOption result (list_any is_close (chars text.now) ≡ false) (λ r. chars text.now ≡ before_close (chars text.now) ++ 93 ∷ chars r.now) }
-    ensures few { MatchOption result (steps.new ≤ steps.old + length (chars text.now) + 1) (λ r. steps.new + length (chars r.now) ≤ steps.old + length (chars text.now)) }
+    ensures close { MatchOption result (list_any is_close (chars text.now) ≡ false)
+        (λ r. chars text.now ≡ before_close (chars text.now) ++ 93 ∷ chars r.now) }
+    ensures few { MatchOption result (steps.new ≤ steps.old + length (chars text.now) + 1)
+        (λ r. steps.new + length (chars r.now) ≤ steps.old + length (chars text.now)) }
 {
     let mut left = text;
     while let Some((c, rest)) = first(left, steps) {
@@ -34,8 +37,10 @@ fn behind_close<'a, L: Ledger>(text: &'a str, steps: &mut Steps<L>) -> Option<&'
 
 // What stands behind the class of these signs.
 fn behind_signs<'a, L: Ledger>(signs: &'a str, steps: &mut Steps<L>) -> Option<&'a str>
-    ensures close { MatchOption result (list_any is_close (drop 1 (chars signs.now)) ≡ false) (λ r. chars signs.now ≡ signs_of (chars signs.now) ++ 93 ∷ chars r.now) }
-    ensures few { MatchOption result (steps.new ≤ steps.old + length (chars signs.now) + 1) (λ r. steps.new + length (chars r.now) ≤ steps.old + length (chars signs.now)) }
+    ensures close { MatchOption result (list_any is_close (drop 1 (chars signs.now)) ≡ false)
+        (λ r. chars signs.now ≡ signs_of (chars signs.now) ++ 93 ∷ chars r.now) }
+    ensures few { MatchOption result (steps.new ≤ steps.old + length (chars signs.now) + 1)
+        (λ r. steps.new + length (chars r.now) ≤ steps.old + length (chars signs.now)) }
 {
     let (_, behind) = first(signs, steps)?;
     behind_close(behind, steps)
@@ -64,9 +69,11 @@ fn turned<'a, L: Ledger>(behind: &'a str, steps: &mut Steps<L>) -> (bool, &'a st
 /// The class that begins behind a `[`; None where none does: then no `]` stands behind the first two characters, so none
 /// begins further on.
 pub fn class_of<'a, L: Ledger>(behind: &'a str, steps: &mut Steps<L>) -> Option<Class<'a>>
-    ensures class { MatchOption result (list_any is_close (drop 2 (chars behind.now)) ≡ false) (λ k. IsClass (chars behind.now) k.turned (signs_of (chars k.signs.now)) (chars k.rest.now)) }
+    ensures class { MatchOption result (list_any is_close (drop 2 (chars behind.now)) ≡ false)
+        (λ k. IsClass (chars behind.now) k.turned (signs_of (chars k.signs.now)) (chars k.rest.now)) }
     ensures none { IfNone result ((is_turned : Bool) (signs rest : List ℕ) → IsClass (chars behind.now) is_turned signs rest → ⊥) }
-    ensures few { MatchOption result (steps.new ≤ steps.old + length (chars behind.now) + 2) (λ k. steps.new + length (chars k.rest.now) ≤ steps.old + length (chars behind.now) + 1) }
+    ensures few { MatchOption result (steps.new ≤ steps.old + length (chars behind.now) + 2)
+        (λ k. steps.new + length (chars k.rest.now) ≤ steps.old + length (chars behind.now) + 1) }
 {
     let (turned, signs) = turned(behind, steps);
     let rest = behind_signs(signs, steps)?;
@@ -79,7 +86,8 @@ pub fn class_of<'a, L: Ledger>(behind: &'a str, steps: &mut Steps<L>) -> Option<
 
 // The next sign of a class.
 fn next_sign<'a, L: Ledger>(text: &'a str, steps: &mut Steps<L>) -> Option<(char, &'a str)>
-    ensures next { MatchOption result (before_close (chars text.now) ≡ []) (λ r. (before_close (chars text.now) ≡ r.0 ∷ before_close (chars r.1.now)) × (chars text.now ≡ r.0 ∷ chars r.1.now)) }
+    ensures next { MatchOption result (before_close (chars text.now) ≡ [])
+        (λ r. (before_close (chars text.now) ≡ r.0 ∷ before_close (chars r.1.now)) × (chars text.now ≡ r.0 ∷ chars r.1.now)) }
     ensures counted { steps.new ≡ steps.old + 1 }
 {
     let (c, rest) = first(text, steps)?;
@@ -88,7 +96,9 @@ fn next_sign<'a, L: Ledger>(text: &'a str, steps: &mut Steps<L>) -> Option<(char
 
 // The end of a range, which stands behind a `-`.
 fn range_end<'a, L: Ledger>(text: &'a str, steps: &mut Steps<L>) -> Option<(char, &'a str)>
-    ensures end { MatchOption result ((b : ℕ) (signs : List ℕ) → before_close (chars text.now) ≡ 45 ∷ b ∷ signs → ⊥) (λ r. (before_close (chars text.now) ≡ 45 ∷ r.0 ∷ before_close (chars r.1.now)) × (length (chars r.1.now) ≤ length (chars text.now))) }
+    ensures end { MatchOption result ((b : ℕ) (signs : List ℕ) → before_close (chars text.now) ≡ 45 ∷ b ∷ signs → ⊥)
+        (λ r. (before_close (chars text.now) ≡ 45 ∷ r.0 ∷ before_close (chars r.1.now))
+        × (length (chars r.1.now) ≤ length (chars text.now))) }
     ensures few { steps.new ≤ steps.old + 2 }
 {
     let (c, rest) = next_sign(text, steps)?;
@@ -101,7 +111,8 @@ fn range_end<'a, L: Ledger>(text: &'a str, steps: &mut Steps<L>) -> Option<(char
 
 // The end of the range that this sign begins, itself where it is a single one, and what is left.
 fn member<'a, L: Ledger>(from: char, behind: &'a str, steps: &mut Steps<L>) -> (char, &'a str)
-    ensures has { (c : ℕ) → ranges_have (from ∷ before_close (chars behind.now)) c ≡ ((nat_le from c && nat_le c result.0) || ranges_have (before_close (chars result.1.now)) c) }
+    ensures has { (c : ℕ) → ranges_have (from ∷ before_close (chars behind.now)) c
+        ≡ ((nat_le from c && nat_le c result.0) || ranges_have (before_close (chars result.1.now)) c) }
     ensures shorter { length (chars result.1.now) ≤ length (chars behind.now) }
     ensures signs { length (before_close (chars result.1.now)) ≤ length (before_close (chars behind.now)) }
     ensures few { steps.new ≤ steps.old + 2 }

@@ -103,7 +103,10 @@ impl Taboo {
     }
 
     fn with_patterns(&self, alloc: Global, items: &[Text], adding: bool) -> Result<Taboo, Memory>
-        ensures { IfOk result (λ taboo. taboo ≡ record { extensions = self.now.extensions; patterns = list_after adding self.now.patterns items.now }) }
+        ensures { IfOk result (λ taboo. taboo ≡ record {
+          extensions = self.now.extensions;
+          patterns = list_after adding self.now.patterns items.now;
+        }) }
     {
         let extensions = copy_texts(alloc, self.extensions.as_slice())?;
         let patterns = list_after(alloc, adding, self.patterns.as_slice(), items)?;
@@ -114,7 +117,10 @@ impl Taboo {
     }
 
     fn with_extensions(&self, alloc: Global, items: &[Text], adding: bool) -> Result<Taboo, Memory>
-        ensures { IfOk result (λ taboo. taboo ≡ record { extensions = list_after adding self.now.extensions items.now; patterns = self.now.patterns }) }
+        ensures { IfOk result (λ taboo. taboo ≡ record {
+          extensions = list_after adding self.now.extensions items.now;
+          patterns = self.now.patterns;
+        }) }
     {
         let extensions = list_after(alloc, adding, self.extensions.as_slice(), items)?;
         let patterns = copy_texts(alloc, self.patterns.as_slice())?;

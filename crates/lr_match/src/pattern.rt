@@ -23,7 +23,8 @@ fn behind_dot<'a, L: Ledger>(name: &'a str, steps: &mut Steps<L>) -> Option<&'a 
 // Whether the pattern matches a dot with this behind it: no sign but a dot goes with it.
 fn matches_dotted<L: Ledger>(pattern: &str, rest: &str, steps: &mut Steps<L>) -> bool
     ensures matches { (result ≡ true) ↔ Matches true (chars pattern.now) (46 ∷ chars rest.now) }
-    ensures few { steps.new ≤ steps.old + 12 * length (chars pattern.now) + 6 + reach_steps (length (chars pattern.now)) * (length (chars rest.now) + 1) }
+    ensures few { steps.new ≤ steps.old + 12 * length (chars pattern.now) + 6 + reach_steps (length (chars pattern.now)) *
+        (length (chars rest.now) + 1) }
 {
     let mut asked = pattern;
     let mut closes = true;

@@ -31,7 +31,8 @@ fn opened<'a, L: Ledger>(
     requires closes { closes.old ≡ false → HasNoClass (91 ∷ chars behind.now) }
     ensures begins { Begins (91 ∷ chars behind.now) result.0 (chars result.1.now) }
     ensures closes { closes.new ≡ false → HasNoClass (chars result.1.now) }
-    ensures few { (m : ℕ) → length (chars behind.now) ≤ m → steps.new + length (chars result.1.now) + spare closes.new (m + 2) ≤ steps.old + length (chars behind.now) + 1 + spare closes.old (m + 2) }
+    ensures few { (m : ℕ) → length (chars behind.now) ≤ m → steps.new + length (chars result.1.now) + spare closes.new (m + 2) ≤
+        steps.old + length (chars behind.now) + 1 + spare closes.old (m + 2) }
 {
     if !*closes {
         return (Sign::Itself('['), behind);
@@ -66,7 +67,8 @@ fn sign_of<'a, L: Ledger>(
     requires closes { closes.old ≡ false → HasNoClass (c ∷ chars behind.now) }
     ensures begins { Begins (c ∷ chars behind.now) result.0 (chars result.1.now) }
     ensures closes { closes.new ≡ false → HasNoClass (chars result.1.now) }
-    ensures few { (m : ℕ) → length (chars behind.now) ≤ m → steps.new + length (chars result.1.now) + spare closes.new (m + 2) ≤ steps.old + length (chars behind.now) + 1 + spare closes.old (m + 2) }
+    ensures few { (m : ℕ) → length (chars behind.now) ≤ m → steps.new + length (chars result.1.now) + spare closes.new (m + 2) ≤
+        steps.old + length (chars behind.now) + 1 + spare closes.old (m + 2) }
 {
     if c == '*' {
         return (Sign::Run, behind);
@@ -93,7 +95,9 @@ pub fn first_sign<'a, L: Ledger>(
     requires closes { closes.old ≡ false → HasNoClass (chars pattern.now) }
     ensures begins { MatchOption result (chars pattern.now ≡ []) (λ r. Begins (chars pattern.now) r.0 (chars r.1.now)) }
     ensures closes { IfSome result (λ r. closes.new ≡ false → HasNoClass (chars r.1.now)) }
-    ensures few { MatchOption result ((steps.new ≡ steps.old + 1) × (closes.new ≡ closes.old)) (λ r. (m : ℕ) → length (chars pattern.now) ≤ m → steps.new + length (chars r.1.now) + spare closes.new (m + 2) ≤ steps.old + length (chars pattern.now) + 1 + spare closes.old (m + 2)) }
+    ensures few { MatchOption result ((steps.new ≡ steps.old + 1) × (closes.new ≡ closes.old))
+        (λ r. (m : ℕ) → length (chars pattern.now) ≤ m → steps.new + length (chars r.1.now) + spare closes.new (m + 2) ≤ steps.old +
+        length (chars pattern.now) + 1 + spare closes.old (m + 2)) }
 {
     let (c, behind) = first(pattern, steps)?;
     Some(sign_of(c, behind, closes, steps))

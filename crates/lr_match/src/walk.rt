@@ -31,7 +31,8 @@ fn reach<'a, L: Ledger>(
     requires closes { closes.old ≡ false → HasNoClass (chars pattern.now) }
     ensures reaches { Reaches (chars pattern.now) (chars name.now) result }
     ensures closes { closes.new ≡ false → HasNoClassLeft result }
-    ensures few { (m : ℕ) → length (chars pattern.now) ≤ m → steps.new + 6 * length_left result + spare closes.new (m + 2) ≤ steps.old + 6 * length (chars pattern.now) + 2 + spare closes.old (m + 2) }
+    ensures few { (m : ℕ) → length (chars pattern.now) ≤ m → steps.new + 6 * length_left result + spare closes.new (m + 2) ≤
+        steps.old + 6 * length (chars pattern.now) + 2 + spare closes.old (m + 2) }
 {
     let mut asked = pattern;
     let mut left = name;
@@ -64,7 +65,8 @@ fn matches_somewhere<L: Ledger>(
 ) -> bool
     requires closes { closes ≡ false → HasNoClass (chars pattern.now) }
     ensures matches { (result ≡ true) ↔ Matches false (42 ∷ chars pattern.now) (chars name.now) }
-    ensures few { (m : ℕ) → length (chars pattern.now) ≤ m → steps.new ≤ steps.old + 8 * length (chars pattern.now) + spare closes (m + 2) + reach_steps m * (length (chars name.now) + 1) }
+    ensures few { (m : ℕ) → length (chars pattern.now) ≤ m → steps.new ≤ steps.old + 8 * length (chars pattern.now) + spare closes
+        (m + 2) + reach_steps m * (length (chars name.now) + 1) }
 {
     let mut asked = pattern;
     let mut left = name;
@@ -91,7 +93,8 @@ fn matches_somewhere<L: Ledger>(
 /// Whether the pattern matches what is left of a name, whose first characters stand before it.
 pub fn matches_rest<L: Ledger>(pattern: &str, name: &str, steps: &mut Steps<L>) -> bool
     ensures matches { (result ≡ true) ↔ Matches false (chars pattern.now) (chars name.now) }
-    ensures few { steps.new ≤ steps.old + 9 * length (chars pattern.now) + 4 + reach_steps (length (chars pattern.now)) * (length (chars name.now) + 1) }
+    ensures few { steps.new ≤ steps.old + 9 * length (chars pattern.now) + 4 + reach_steps (length (chars pattern.now)) *
+        (length (chars name.now) + 1) }
 {
     let mut closes = true;
     match reach(pattern, name, &mut closes, steps) {

@@ -1,6 +1,7 @@
 -- What each call to a host in memory does: writers act, and then the call is made or fails.
 use Rattle.std.specs.Ordering.{int_eq}
-use Rattle.std.specs.Prelude.{◌≡◌, ◌≢◌, ℕ, ◌+◌, ◌-◌, ◌^◌, ◌<◌, ◌≤◌, min, ◌==◌, ◌⊎◌, Bool, true, false, not, cond, pos, List, [], ◌∷◌, drop, Option, Some, None, option_to_list}
+use Rattle.std.specs.Prelude.{◌≡◌, ◌≢◌, ℕ, ◌+◌, ◌-◌, ◌^◌, ◌<◌, ◌≤◌, min, ◌==◌, ◌⊎◌, Bool, true, false, not, cond, pos, List, []}
+use Rattle.std.specs.Prelude.{◌∷◌, drop, Option, Some, None, option_to_list}
 use Rattle.lr_rules.specs.declared.path.Path.{Path}
 use Rattle.lr_host.specs.declared.entry.Entry.{Entry}
 use Rattle.lr_host.specs.declared.entry.Entry.TheVariants as entry
@@ -71,7 +72,14 @@ one_more n = min (n + 1) (2 ^ 64 - 1)
 
 -- a program ran
 abbrev pub after_end : Rest → Rest
-after_end r = record { ends = drop 1 r.ends; piece = r.piece; mine = r.mine; another = r.another; bad_ends = cond (is_bad (first_end r.ends)) (one_more r.bad_ends) r.bad_ends; held = r.held }
+after_end r = record {
+  ends = drop 1 r.ends;
+  piece = r.piece;
+  mine = r.mine;
+  another = r.another;
+  bad_ends = cond (is_bad (first_end r.ends)) (one_more r.bad_ends) r.bad_ends;
+  held = r.held;
+}
 
 -- how the call with this number is to fail, by the first that lists it
 abbrev pub how_of : List Failing → ℕ → Option How
@@ -94,17 +102,22 @@ Starved before after = Rose before.starved after.starved
 abbrev pub Unraised : View → View → Type 0
 Unraised before after = (after.faults ≡ before.faults) × (after.acts ≡ [] → after.starved ≡ before.starved)
 
--- Before the call with this number came, in order, the acts that were due: each that is a writer's and fits stands in the journal, the others are passed over, and those that aren't due stay. Where it was stopped, the rest stays.
+-- Before the call with this number came, in order, the acts that were due: each that is a writer's and fits stands in the journal,
+-- the others are passed over, and those that aren't due stay. Where it was stopped, the rest stays.
 pub data Came (number : ℕ) (stopped : Bool) : Past → List Act → Past → List Act → Type 0 where
   all : {p : Past} → Came number stopped p [] p []
-  stays : {p q : Past} {a : Act} {acts left : List Act} → number < a.before → Came number stopped p acts q left → Came number stopped p (a ∷ acts) q (a ∷ left)
-  enters : {p q : Past} {a : Act} {acts left : List Act} → a.before ≤ number → IsWriters a.what → Fits (world p) a.what → Came number stopped (p ▸ a.what) acts q left → Came number stopped p (a ∷ acts) q left
-  passes : {p q : Past} {a : Act} {acts left : List Act} → a.before ≤ number → ¬ (IsWriters a.what × Fits (world p) a.what) → Came number stopped p acts q left → Came number stopped p (a ∷ acts) q left
+  stays : {p q : Past} {a : Act} {acts left : List Act} → number < a.before → Came number stopped p acts q left
+      → Came number stopped p (a ∷ acts) q (a ∷ left)
+  enters : {p q : Past} {a : Act} {acts left : List Act} → a.before ≤ number → IsWriters a.what → Fits (world p) a.what
+      → Came number stopped (p ▸ a.what) acts q left → Came number stopped p (a ∷ acts) q left
+  passes : {p q : Past} {a : Act} {acts left : List Act} → a.before ≤ number → ¬ (IsWriters a.what × Fits (world p) a.what)
+      → Came number stopped p acts q left → Came number stopped p (a ∷ acts) q left
   stops : {p : Past} {acts : List Act} → stopped ≡ true → Came number stopped p acts p acts
 
 -- an act that is due came: it stands in the journal where it is a writer's and fits, and is passed over elsewhere
 abbrev pub Comes : Act → Past → Past → Type 0
-Comes a p q = (IsWriters a.what × Fits (world p) a.what × (q ≡ p ▸ a.what)) ⊎ ((IsWriters a.what × Fits (world p) a.what → ⊥) × (q ≡ p))
+Comes a p q = (IsWriters a.what × Fits (world p) a.what × (q ≡ p ▸ a.what))
+    ⊎ ((IsWriters a.what × Fits (world p) a.what → ⊥) × (q ≡ p))
 
 -- the call left this entry, or none
 abbrev pub Entered : Past → Option Entry → Past → Type 0

@@ -11,7 +11,8 @@ pub record IsCalm (v : View) : Type 0 where
 
 -- no count rose
 abbrev pub NoneRose : View → View → Type 0
-NoneRose before after = (after.faults ≡ before.faults) × (after.rest.bad_ends ≡ before.rest.bad_ends) × (after.rest.held ≡ before.rest.held)
+NoneRose before after = (after.faults ≡ before.faults) × (after.rest.bad_ends ≡ before.rest.bad_ends)
+    × (after.rest.held ≡ before.rest.held)
 
 -- A call to a calm host leaves it calm, and raises no count unless memory was wanting.
 abbrev pub StaysCalm : View → View → Type 0

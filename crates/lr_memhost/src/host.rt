@@ -61,7 +61,23 @@ impl Model for MemHost {
 
     ghost Value = { View };
 
-    ghost view = { λ h. record { journal = h.disk; acts = h.acts.items; failing = h.failing.items; calls = h.calls; faults = h.faults; starved = h.starved; down = h.down; rest = record { ends = h.ends.items; piece = h.piece; mine = h.mine; another = h.another; bad_ends = h.bad_ends; held = h.held } } };
+    ghost view = { λ h. record {
+      journal = h.disk;
+      acts = h.acts.items;
+      failing = h.failing.items;
+      calls = h.calls;
+      faults = h.faults;
+      starved = h.starved;
+      down = h.down;
+      rest = record {
+        ends = h.ends.items;
+        piece = h.piece;
+        mine = h.mine;
+        another = h.another;
+        bad_ends = h.bad_ends;
+        held = h.held;
+      };
+    } };
 
     ghost use Rattle.std.specs.Prelude.{◌<◌};
 
@@ -80,7 +96,16 @@ impl MemHost {
         ends: Vec<Ended>,
         piece: usize,
     ) -> Result<MemHost, MemFault>
-        ensures ok { IfOk result (λ h. h ≡ record { journal = opened_journal opening; acts = acts.items; failing = failing.items; calls = 0; faults = 0; starved = 0; down = false; rest = record { ends = ends.items; piece = piece; mine = false; another = false; bad_ends = 0; held = 0 } }) }
+        ensures ok { IfOk result (λ h. h ≡ record {
+          journal = opened_journal opening;
+          acts = acts.items;
+          failing = failing.items;
+          calls = 0;
+          faults = 0;
+          starved = 0;
+          down = false;
+          rest = record { ends = ends.items; piece = piece; mine = false; another = false; bad_ends = 0; held = 0 };
+        }) }
         ensures safe { IfOk result (λ h. (s : LogSet) → IsSafe s (past h.journal)) }
         ensures valid { OnOk result (IsValid opening × (0 < piece)) }
         ensures bad { result ≡ Err MemFault.BadOpening → ¬ (IsValid opening × (0 < piece)) }
@@ -131,7 +156,11 @@ impl MemHost {
     /// Ends what a `Stop` began, and frees the lock, whoever has it. A `Stop` that hasn't come goes too: the machine that it
     /// would have stopped isn't there any more.
     pub fn revive(&mut self)
-        ensures { self.new ≡ record self.old { down = false; failing = without_stops self.old.failing; rest = record self.old.rest { mine = false; another = false } } }
+        ensures { self.new ≡ record self.old {
+          down = false;
+          failing = without_stops self.old.failing;
+          rest = record self.old.rest { mine = false; another = false };
+        } }
     {
         self.down = false;
         drop_stops(&mut self.failing);
@@ -151,7 +180,8 @@ impl MemHost {
     /// change they hold every older one that shares a name with it. What is left counts as synced and durable. After
     /// `NotAllowed` and `Memory` all is as it was.
     pub fn cut(&mut self, kept: &[usize], lengths: &[(u64, u64)]) -> Result<(), CutFault>
-        ensures ok { OnOk result (self.new ≡ record self.old { journal = with_entry self.old.journal (entry.Cut kept.now lengths.now) }) }
+        ensures ok { OnOk result (self.new ≡ record self.old
+            { journal = with_entry self.old.journal (entry.Cut kept.now lengths.now) }) }
         ensures allowed { OnOk result (IsCut (world (past self.old.journal)) kept.now lengths.now) }
         ensures refused { result ≡ Err CutFault.NotAllowed → ¬ IsCut (world (past self.old.journal)) kept.now lengths.now }
         ensures err { OnErr result (self.new ≡ self.old) }
@@ -192,7 +222,8 @@ impl MemHost {
 
     /// The bytes of the regular file that has the path.
     pub fn file(&self, path: &Path) -> Option<&[u8]>
-        ensures { let w = world (past self.now.journal) in MatchOption result (¬ (IsFileAt (names w) path.now)) (λ bytes. HasBytes w (names w path.now) bytes.now) }
+        ensures { let w = world (past self.now.journal) in MatchOption result (¬ (IsFileAt (names w) path.now))
+            (λ bytes. HasBytes w (names w path.now) bytes.now) }
     {
         self.disk.file(path)
     }

@@ -24,7 +24,13 @@ impl Model for MemSink {
 
     ghost Value = { Sheet };
 
-    ghost view = { λ s. record { taken = s.bytes.items; failing = s.failing.items; puts = s.puts; faults = s.faults; starved = s.starved } };
+    ghost view = { λ s. record {
+      taken = s.bytes.items;
+      failing = s.failing.items;
+      puts = s.puts;
+      faults = s.faults;
+      starved = s.starved;
+    } };
 }
 
 impl MemSink {

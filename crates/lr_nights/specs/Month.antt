@@ -1,5 +1,6 @@
 -- The thirty nights that a trial draws: what the writers append, and when the machine stops.
-use Rattle.std.specs.Prelude.{◌≡◌, ℕ, zero, suc, ◌+◌, ◌*◌, ◌%◌, ◌==◌, Bool, true, false, cond, pos, ℤ, List, [], ◌∷◌, map, replicate, filter, flat_map, Any, Option, Some, None}
+use Rattle.std.specs.Prelude.{◌≡◌, ℕ, zero, suc, ◌+◌, ◌*◌, ◌%◌, ◌==◌, Bool, true, false, cond, pos, ℤ, List, [], ◌∷◌, map}
+use Rattle.std.specs.Prelude.{replicate, filter, flat_map, Any, Option, Some, None}
 use Rattle.lr_host.specs.declared.entry.Entry.{Entry}
 use Rattle.lr_host.specs.declared.entry.Entry.TheVariants as entry
 use Rattle.lr_nights.specs.declared.month.Fed.{Fed}
@@ -28,7 +29,11 @@ behind_stop x = cond (first_of x % 4 == 0) (behind_two x) (next x)
 
 -- a night of so many logs, and the generator behind it
 abbrev pub night_of : ℕ → ℕ → ℕ → Night
-night_of logs night x = record { seconds = pos (seconds_of night); feeds = feeds_from 0 logs (seconds_of night) x; stop = stop_of (behind_logs logs x) }
+night_of logs night x = record {
+  seconds = pos (seconds_of night);
+  feeds = feeds_from 0 logs (seconds_of night) x;
+  stop = stop_of (behind_logs logs x);
+}
 
 abbrev pub behind_night : ℕ → ℕ → ℕ
 behind_night logs x = behind_stop (behind_logs logs x)
@@ -38,7 +43,8 @@ abbrev pub nights_from : ℕ → ℕ → ℕ → ℕ → List Night
 nights_from logs night zero x = []
 nights_from logs night (suc left) x = night_of logs night x ∷ nights_from logs (night + 1) left (behind_night logs x)
 
--- The thirty nights of so many logs. The generator begins with their number, and two draws for each log come first: those of its definition.
+-- The thirty nights of so many logs. The generator begins with their number, and two draws for each log come first: those of its
+-- definition.
 unfoldable pub drawn_nights : ℕ → List Night
 drawn_nights logs = nights_from logs 1 30 (behind_logs logs logs)
 

@@ -1,5 +1,6 @@
 -- The disk on which a trial begins, and its logs.
-use Rattle.std.specs.Prelude.{ℕ, zero, suc, ◌+◌, ◌%◌, ◌==◌, cond, false, pos, List, [], ◌∷◌, ◌++◌, codes, decimal, length, replicate, None}
+use Rattle.std.specs.Prelude.{ℕ, zero, suc, ◌+◌, ◌%◌, ◌==◌, cond, false, pos, List, [], ◌∷◌, ◌++◌, codes, decimal, length}
+use Rattle.std.specs.Prelude.{replicate, None}
 use Rattle.lr_rules.specs.declared.path.Path.{Path}
 use Rattle.lr_rules.specs.declared.rule.Naming.{Naming}
 use Rattle.lr_host.specs.declared.journal.OpenFile.{OpenFile}
@@ -19,7 +20,8 @@ create_line draw = cond (draw % 2 == 0) (codes "create\n") []
 
 -- the definition of a log: two draws say how many members it keeps, 1 to 7, and whether it is made anew
 abbrev pub definition : ℕ → ℕ → List ℕ
-definition log x = log_path log ++ (codes " {\ndaily\nrotate " ++ (decimal (1 + first_of x % 7) ++ (codes "\n" ++ (create_line (second_of x) ++ codes "}\n"))))
+definition log x = log_path log ++ (codes " {\ndaily\nrotate "
+    ++ (decimal (1 + first_of x % 7) ++ (codes "\n" ++ (create_line (second_of x) ++ codes "}\n"))))
 
 -- those of so many logs from this one on
 abbrev pub definitions_from : ℕ → ℕ → ℕ → List ℕ
@@ -56,7 +58,8 @@ directories = codes "/" ∷ codes "/etc" ∷ codes "/v" ∷ codes "/var" ∷ cod
 -- The disk: so many empty logs, each held by its writer, the configuration `/etc/c`, and the state file.
 abbrev pub trial_opening : ℕ → Opening
 trial_opening logs = record {
-  files = replicate logs (file_of []) ++ (file_of (definitions_from 0 logs logs) ∷ file_of (codes "logrotate state -- version 2\n" ++ state_lines_from 0 logs) ∷ []);
+  files = replicate logs (file_of []) ++ (file_of (definitions_from 0 logs logs) ∷ file_of
+      (codes "logrotate state -- version 2\n" ++ state_lines_from 0 logs) ∷ []);
   dirs = directories;
   others = [];
   names = log_names_from 0 logs ++ ((codes "/etc/c", logs) ∷ (codes "/var/lib/logrotate/status", logs + 1) ∷ []);

@@ -8,4 +8,6 @@ number_line name number = name ++ (codes " " ++ (decimal number ++ codes "\n"))
 
 -- the six lines
 abbrev pub summary_text : Summary → List ℕ
-summary_text s = number_line (codes "nights") s.nights ++ (number_line (codes "runs") s.runs ++ (number_line (codes "begun") s.begun ++ (number_line (codes "files") s.files ++ (number_line (codes "bytes") s.bytes ++ number_line (codes "released") s.released))))
+summary_text s = number_line (codes "nights") s.nights ++ (number_line (codes "runs") s.runs
+    ++ (number_line (codes "begun") s.begun ++ (number_line (codes "files") s.files
+    ++ (number_line (codes "bytes") s.bytes ++ number_line (codes "released") s.released))))

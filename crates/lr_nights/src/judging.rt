@@ -106,7 +106,8 @@ fn behind_night<'a>(entries: &'a [Entry], feeds: &[Fed]) -> Option<&'a [Entry]>
 
 // What stands behind all that the writers appended in these nights.
 fn behind_nights<'a>(entries: &'a [Entry], nights: &[Night]) -> Option<&'a [Entry]>
-    ensures { IfSome result (λ rest. feeds_in entries.now ≡ flat_map (λ night. map entry_of night.feeds) nights.now ++ feeds_in rest.now) }
+    ensures { IfSome result (λ rest. feeds_in entries.now ≡ flat_map (λ night. map entry_of night.feeds) nights.now
+        ++ feeds_in rest.now) }
 {
     let mut rest = entries;
     for night in nights {

@@ -1,7 +1,8 @@
 // The thirty nights that a trial draws.
 ghost use Rattle.std.specs.Prelude.{◌≡◌, ◌<◌, ◌≤◌, IfOk, OnOk};
 ghost use Rattle.lr_nights.specs.Draws.{behind_two, behind_logs};
-ghost use Rattle.lr_nights.specs.Month.{fed_by, feeds_from, stop_of, behind_stop, night_of, behind_night, nights_from, drawn_nights};
+ghost use Rattle.lr_nights.specs.Month.{fed_by, feeds_from, stop_of, behind_stop, night_of, behind_night, nights_from};
+ghost use Rattle.lr_nights.specs.Month.{drawn_nights};
 
 use crate::draws::draw;
 use lr_rules::{Listed, Memory};

@@ -1,6 +1,7 @@
 // The host on which a trial begins.
 ghost use Rattle.std.specs.Prelude.{◌≡◌, ◌≤◌, ◌∷◌, [], ◌++◌, codes, replicate, OnOk, IfOk};
-ghost use Rattle.lr_nights.specs.Opening.{file_of, log_path, log_names_from, holds_from, directories, state_lines_from, trial_opening, trial_view};
+ghost use Rattle.lr_nights.specs.Opening.{file_of, log_path, log_names_from, holds_from, directories, state_lines_from};
+ghost use Rattle.lr_nights.specs.Opening.{trial_opening, trial_view};
 
 use crate::texts::{add_state_lines, configuration, log_path, path_of};
 use lr_host::{OpenFile, Opening};

@@ -92,7 +92,8 @@ pub fn nights<R: Run, K: Sink>(
     ensures fed { OnOk result (feeds_in host.new.journal.entries ≡ drawn_feeds logs) }
     ensures summary { IfOk result (λ s. IsTrialSummary logs host.new.journal s) }
     ensures printed { IfOk result (λ s. Took (summary_text s) (K.taken out.old) (K.taken out.new)) }
-    ensures part { result ≡ Err TrialStop.Out → (s : Summary) × IsTrialSummary logs host.new.journal s × TookPart (summary_text s) (K.taken out.old) (K.taken out.new) }
+    ensures part { result ≡ Err TrialStop.Out → (s : Summary) × IsTrialSummary logs host.new.journal s
+        × TookPart (summary_text s) (K.taken out.old) (K.taken out.new) }
     ensures none { result ≡ Err TrialStop.Memory → K.taken out.new ≡ K.taken out.old }
     ensures out { result ≡ Err TrialStop.Out → Rose (K.faults out.old) (K.faults out.new) }
     ensures counts { K.faults out.old ≤ K.faults out.new }

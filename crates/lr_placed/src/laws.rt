@@ -31,11 +31,15 @@ use lr_seen::targets_are_free;
 /// those that are synced, on a disk: the looks saw each of them or a file in it, or a mark of the acts tells that it was
 /// made. The state was read, the logs were looked at and the acts were made, one behind another.
 pub fn state_has_its_place()
-    ensures { (state : Path) (size : ℕ) (remembered : Remembered) (rules : Rules) (sets : List SetLooks) (clock : Clock) (mailer : Path) (decide : Rule → LogLook → Due) (marks : List Mark) (faults : List Fault) (dirs : List Path)
+    ensures { (state : Path) (size : ℕ) (remembered : Remembered) (rules : Rules) (sets : List SetLooks) (clock : Clock)
+        (mailer : Path) (decide : Rule → LogLook → Due) (marks : List Mark) (faults : List Fault) (dirs : List Path)
         (before read looked acted : Option Journal)
-        → AreSynced (all_plans clock mailer decide rules.sets sets) marks dirs → WhereTold before IsJournal → Can before (entry.List (parent_of state) [])
-        → Left (ReadsState state size (Ok (Ok remembered))) before read → Left (LooksCameTo (reserved_by state) rules.sets sets) read looked
-        → Left (SetsDone (map steps_of_set (all_plans clock mailer decide rules.sets sets)) marks faults) looked acted → CanBegin acted state remembered.stale dirs }
+        → AreSynced (all_plans clock mailer decide rules.sets sets) marks dirs → WhereTold before IsJournal
+        → Can before (entry.List (parent_of state) [])
+        → Left (ReadsState state size (Ok (Ok remembered))) before read
+        → Left (LooksCameTo (reserved_by state) rules.sets sets) read looked
+        → Left (SetsDone (map steps_of_set (all_plans clock mailer decide rules.sets sets)) marks faults) looked acted
+        → CanBegin acted state remembered.stale dirs }
 {
     targets_are_free();
 }

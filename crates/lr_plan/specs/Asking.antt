@@ -11,7 +11,8 @@ use Rattle.lr_scripts.specs.Programs.{runs}
 use Rattle.lr_plan.specs.declared.mark.Mark.{Mark}
 use Rattle.lr_plan.specs.declared.step.SetSteps.{SetSteps}
 use Rattle.lr_plan.specs.declared.step.Step.{Step}
-use Rattle.lr_plan.specs.declared.step.Step.TheVariants.{Runs, Removes, MakesDir, Renames, Creates, Takes, Copies, Appends, SyncsFile, SyncsDir, Truncates, Rotated}
+use Rattle.lr_plan.specs.declared.step.Step.TheVariants.{Runs, Removes, MakesDir, Renames, Creates, Takes, Copies, Appends}
+use Rattle.lr_plan.specs.declared.step.Step.TheVariants.{SyncsFile, SyncsDir, Truncates, Rotated}
 use Rattle.lr_plan.specs.Outcomes.{Succeeds}
 use Rattle.lr_plan.specs.Course.{Part, Course}
 use Rattle.lr_plan.specs.Done.{EachDone, SetDone}
@@ -48,7 +49,8 @@ CanEach told (steps ∷ each) = CanMake told steps × ((now : Option Journal) �
 pub record CanSet (told : Option Journal) (set : SetSteps) : Type 0 where
   pub first : CanMake told set.first
   pub each : (now : Option Journal) → LeadsTo (Course set.first) told now → CanEach now set.each
-  pub last : (now later : Option Journal) → LeadsTo (Course set.first) told now → LeadsTo (EachDone set.each) now later → CanMake later set.last
+  pub last : (now later : Option Journal) → LeadsTo (Course set.first) told now → LeadsTo (EachDone set.each) now later
+      → CanMake later set.last
 
 abbrev pub CanSets : Option Journal → List SetSteps → Type 0
 CanSets told [] = Unit {0}

@@ -24,7 +24,8 @@ pub record CourseCut (steps : List Step) (marks : List Mark) (faults : List Faul
   pub part : Unbroken (Course made) marks faults ts
 
 -- the first parts of the list were done, and of the next this
-pub record ListCut {A : Type 0} (P Q : A → Part) (list : List A) (marks : List Mark) (faults : List Fault) (ts : List Entry) : Type 0 where
+pub record ListCut {A : Type 0} (P Q : A → Part) (list : List A) (marks : List Mark) (faults : List Fault)
+    (ts : List Entry) : Type 0 where
   pub done : List A
   pub next : A
   pub rest : List A
@@ -32,7 +33,8 @@ pub record ListCut {A : Type 0} (P Q : A → Part) (list : List A) (marks : List
   pub part : Both (Every P done) (Q next) marks faults ts
 
 -- in the steps of one log; or in the last, where a log was rotated
-pub data LogsCut (each : List (List Step)) (last : List Step) (marks : List Mark) (faults : List Fault) (ts : List Entry) : Type 0 where
+pub data LogsCut (each : List (List Step)) (last : List Step) (marks : List Mark) (faults : List Fault)
+    (ts : List Entry) : Type 0 where
   in_each : ListCut Course CourseCut each marks faults ts → LogsCut each last marks faults ts
   in_last : LogsThen CourseCut each last marks faults ts → LogsCut each last marks faults ts
 

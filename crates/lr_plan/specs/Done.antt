@@ -32,7 +32,8 @@ abbrev pub if_rotated : List Mark → List Step → List Step
 if_rotated marks steps = if list_any is_rotated marks then steps else []
 
 -- Each log's steps, and then so much of the last, where a log was rotated.
-pub record LogsThen (Q : List Step → Part) (each : List (List Step)) (last : List Step) (marks : List Mark) (faults : List Fault) (ts : List Entry) : Type 0 where
+pub record LogsThen (Q : List Step → Part) (each : List (List Step)) (last : List Step) (marks : List Mark) (faults : List Fault)
+    (ts : List Entry) : Type 0 where
   pub by_each : List Mark
   pub by_last : List Mark
   pub marks_are : marks ≡ by_each ++ by_last
@@ -57,9 +58,12 @@ SetsDone sets = Every SetDone sets
 abbrev pub PlanDone : Plan → Part
 PlanDone plan = SetsDone (steps_of_plan plan)
 
--- And then the state text, which says which logs were rotated, behind the directories that the steps touched; its steps are begun in any case.
-pub record ActsDone (plan : Plan) (state : Path) (stale : Bool) (dirs : List Mark → List Path) (text : List Path → List ℕ) (marks : List Mark) (faults : List Fault) (ts : List Entry) : Type 0 where
+-- And then the state text, which says which logs were rotated, behind the directories that the steps touched; its steps are begun
+-- in any case.
+pub record ActsDone (plan : Plan) (state : Path) (stale : Bool) (dirs : List Mark → List Path) (text : List Path → List ℕ)
+    (marks : List Mark) (faults : List Fault) (ts : List Entry) : Type 0 where
   pub of_plan : List Fault
   pub of_state : List Fault
   pub faults_are : faults ≡ of_plan ++ of_state
-  pub entries : Then (PlanDone plan marks of_plan) (Course (state_steps state stale (dirs marks) (text (rotated_logs marks))) [] of_state) ts
+  pub entries : Then (PlanDone plan marks of_plan) (Course (state_steps state stale (dirs marks) (text (rotated_logs marks))) []
+      of_state) ts

@@ -22,7 +22,8 @@ use Rattle.lr_plan.specs.Appending.{Appended, AppendBroke}
 use Rattle.lr_plan.specs.declared.mark.Mark.{Mark}
 use Rattle.lr_plan.specs.declared.mark.Mark.TheVariants as mark
 use Rattle.lr_plan.specs.declared.step.Step.{Step}
-use Rattle.lr_plan.specs.declared.step.Step.TheVariants.{Runs, Removes, MakesDir, Renames, Creates, Takes, Copies, Appends, SyncsFile, SyncsDir, Truncates, Rotated}
+use Rattle.lr_plan.specs.declared.step.Step.TheVariants.{Runs, Removes, MakesDir, Renames, Creates, Takes, Copies, Appends}
+use Rattle.lr_plan.specs.declared.step.Step.TheVariants.{SyncsFile, SyncsDir, Truncates, Rotated}
 
 -- this entry alone
 abbrev pub One : Entry → List Entry → Type 0
@@ -56,9 +57,11 @@ CallFailed told f e ts = (f ≡ told) × Maybe e ts
 
 -- a program ended badly, or couldn't be run
 pub data ProgramFailed (phase : Phase) (on : List ℕ) (command : Command) (f : Fault) (ts : List Entry) : Type 0 where
-  badly : (end : Ended) → end ≢ ended.Exit (pos 0) → f ≡ fault.Script phase on end → One (runs command end) ts → ProgramFailed phase on command f ts
+  badly : (end : Ended) → end ≢ ended.Exit (pos 0) → f ≡ fault.Script phase on end → One (runs command end) ts
+      → ProgramFailed phase on command f ts
   not_run : f ≡ fault.Call call.Run command.program → ts ≡ [] → ProgramFailed phase on command f ts
-  maybe_run : (end : Ended) → f ≡ fault.Call call.Run command.program → One (runs command end) ts → ProgramFailed phase on command f ts
+  maybe_run : (end : Ended) → f ≡ fault.Call call.Run command.program → One (runs command end) ts
+      → ProgramFailed phase on command f ts
 
 -- what is told of a directory that wasn't made
 abbrev pub dir_fault : Path → DirStop → Fault
@@ -79,7 +82,8 @@ Fails (Removes path) f ts = CallFailed (fault.Call call.Unlink path) f (entry.Un
 Fails (MakesDir path mode) f ts = (why : DirStop) × (f ≡ dir_fault path why) × DirStopped path mode why ts
 Fails (Renames from to) f ts = CallFailed (fault.Call call.Rename from) f (entry.Renames from to) ts
 Fails (Creates path mode) f ts = CallFailed (fault.Call call.Make path) f (entry.Makes path mode) ts
-Fails (Takes path mode) f ts = CallFailed (fault.Call call.Make path) f (entry.Makes path mode) ts ⊎ ((f ≡ fault.Taken path) × (ts ≡ []))
+Fails (Takes path mode) f ts = CallFailed (fault.Call call.Make path) f (entry.Makes path mode) ts
+    ⊎ ((f ≡ fault.Taken path) × (ts ≡ []))
 Fails (Copies from to limit) f ts = (why : BytesStop) × (f ≡ bytes_fault from to why) × BytesBroke from to limit why ts
 Fails (Appends path text) f ts = (f ≡ fault.Call call.Append path) × AppendBroke path text ts
 Fails (SyncsFile path) f ts = CallFailed (fault.Call call.Sync path) f (entry.SyncsFile path) ts

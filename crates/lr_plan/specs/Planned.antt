@@ -1,6 +1,7 @@
 -- The plan that the rules, what was seen of their logs, the table of the state, the clock of the run, `--force` and the
 -- program that mails files make together.
-use Rattle.std.specs.Prelude.{◌≡◌, ◌≤◌, ◌&&◌, ◌||◌, ℕ, Bool, true, false, not, List, [], ◌∷◌, ◌++◌, map, All, Option, Some, None, if◌then◌else◌}
+use Rattle.std.specs.Prelude.{◌≡◌, ◌≤◌, ◌&&◌, ◌||◌, ℕ, Bool, true, false, not, List, [], ◌∷◌, ◌++◌, map, All, Option, Some, None}
+use Rattle.std.specs.Prelude.{if◌then◌else◌}
 use Rattle.std.specs.List.{flat_map, list_any}
 use Rattle.std.specs.Str.{bytes_eq}
 use Rattle.lr_rules.specs.declared.path.Path.{Path}
@@ -62,9 +63,11 @@ mode_of (make.Yes mode) = mode
 abbrev pub dir_is_log : Naming → Path → Bool
 dir_is_log n log = bytes_eq n.dir log || (n.aside && bytes_eq n.dir (aside_path log))
 
--- The rotation makes the family's directory: the rule says so, and where the directory would stand there was nothing, in a directory that was there. No path of the log's own file is made a directory.
+-- The rotation makes the family's directory: the rule says so, and where the directory would stand there was nothing, in a
+-- directory that was there. No path of the log's own file is made a directory.
 abbrev pub makes_dir : Rule → LogLook → Bool
-makes_dir rule look = is_made rule.createolddir && (not look.stand.there && (look.stand.parent && not (dir_is_log look.family.naming look.path)))
+makes_dir rule look = is_made rule.createolddir && (not look.stand.there &&
+    (look.stand.parent && not (dir_is_log look.family.naming look.path)))
 
 -- the directory that the rotation makes, if any, and the mode that the rule gives it
 abbrev pub dir_of : Rule → LogLook → Option (Path × Option ℕ)
@@ -101,21 +104,32 @@ make_of (make.Yes (Some mode)) seen = make.Yes (Some mode)
 -- Its rotation, with all its paths, and with the directory that it makes; each removal is without the programs before it.
 abbrev pub ready_for : Clock → Rule → LogLook → Ready
 ready_for clock rule look =
-    with_dir (dir_of rule look) (ready_of look.path look.family.naming rule.count rule.maxage clock (make_of rule.create look.seen) (stand_for rule look).members)
+    with_dir (dir_of rule look) (ready_of look.path look.family.naming rule.count rule.maxage clock (make_of rule.create look.seen)
+    (stand_for rule look).members)
 
 -- the rotation with these removals, the first ones and those at the end
 abbrev pub with_removals : List Removal → List Removal → Ready → Ready
-with_removals leftovers retire ready = record { leftovers = leftovers; dir = ready.dir; moves = ready.moves; log = ready.log; target = ready.target; make = ready.make; retire = retire }
+with_removals leftovers retire ready = record {
+  leftovers = leftovers;
+  dir = ready.dir;
+  moves = ready.moves;
+  log = ready.log;
+  target = ready.target;
+  make = ready.make;
+  retire = retire;
+}
 
 -- the rotation with the programs of its definition before each removal
 abbrev pub dressed : Rule → Path → Ready → Ready
-dressed rule mailer ready = with_removals (map (with_programs rule mailer ready.log) ready.leftovers) (map (with_programs rule mailer ready.log) ready.retire) ready
+dressed rule mailer ready = with_removals (map (with_programs rule mailer ready.log) ready.leftovers)
+    (map (with_programs rule mailer ready.log) ready.retire) ready
 
 -- the part file is among these
 abbrev pub has_part : List Path → Path → Bool
 has_part parts part = list_any (bytes_eq part) parts
 
--- The copy of the log to this final path, by the part file beside that: an old one that was seen goes before, and the new one has the log's mode, as that was seen. It takes 2^40 bytes at most.
+-- The copy of the log to this final path, by the part file beside that: an old one that was seen goes before, and the new one has
+-- the log's mode, as that was seen. It takes 2^40 bytes at most.
 abbrev pub copy_job : LogLook → Path → Bool → Job
 copy_job look target cut = record {
   from = look.path;
@@ -128,14 +142,17 @@ copy_job look target cut = record {
   limit = 1099511627776;
 }
 
--- The copy in place of the log's rename, where the rule's way is one; the log is emptied behind it, or stays as it is. A log that the way would set aside is copied where it stands: the steps of that way aren't built, and no configuration asks for it.
+-- The copy in place of the log's rename, where the rule's way is one; the log is emptied behind it, or stays as it is. A log that
+-- the way would set aside is copied where it stands: the steps of that way aren't built, and no configuration asks for it.
 abbrev pub job_by : Way → LogLook → Path → Option Job
 job_by way.Rename look target = None
 job_by way.Copy look target = Some (copy_job look target false)
 job_by way.CopyTruncate look target = Some (copy_job look target true)
 job_by way.RenameCopy look target = Some (copy_job look target false)
 
--- what is done with it: its own scripts where the definition doesn't share them, this rotation, by rename or by copy, and with `mailfirst` the mail of the file that was the log; and what the rotation goes by, the naming, the rule's count and age, and what stands of the family
+-- what is done with it: its own scripts where the definition doesn't share them, this rotation, by rename or by copy, and with
+-- `mailfirst` the mail of the file that was the log; and what the rotation goes by, the naming, the rule's count and age, and what
+-- stands of the family
 abbrev pub plan_with : Path → Rule → LogLook → Ready → LogPlan
 plan_with mailer rule look ready = record {
   pre = where_so (not rule.shared) (script rule.scripts.pre (look.path ∷ []));
@@ -193,11 +210,13 @@ all_decisions decide (rule ∷ rules) (set ∷ sets) = decisions_of (decide rule
 all_decisions decide _ _ = []
 
 abbrev pub all_plans : Clock → Path → (Rule → LogLook → Due) → List Rule → List SetLooks → List SetPlan
-all_plans clock mailer decide (rule ∷ rules) (set ∷ sets) = set_plan rule (log_plans clock mailer rule (decide rule) set.logs) ∷ all_plans clock mailer decide rules sets
+all_plans clock mailer decide (rule ∷ rules) (set ∷ sets) = set_plan rule (log_plans clock mailer rule (decide rule) set.logs) ∷
+    all_plans clock mailer decide rules sets
 all_plans clock mailer decide _ _ = []
 
 abbrev pub all_faults : Clock → (Rule → LogLook → Due) → List Rule → List SetLooks → List Fault
-all_faults clock decide (rule ∷ rules) (set ∷ sets) = log_faults clock rule (decide rule) set.logs ++ all_faults clock decide rules sets
+all_faults clock decide (rule ∷ rules) (set ∷ sets) = log_faults clock rule (decide rule) set.logs
+    ++ all_faults clock decide rules sets
 all_faults clock decide _ _ = []
 
 -- The plan: each log that was looked at whole, and whether it is due; what is done with those that are; what hinders some.

@@ -1,5 +1,6 @@
 -- The steps of a plan, in order.
-use Rattle.std.specs.Prelude.{ℕ, Bool, true, false, List, [], ◌∷◌, ◌++◌, map, Option, Some, None, slice_index_or, codes, if◌then◌else◌}
+use Rattle.std.specs.Prelude.{ℕ, Bool, true, false, List, [], ◌∷◌, ◌++◌, map, Option, Some, None, slice_index_or, codes}
+use Rattle.std.specs.Prelude.{if◌then◌else◌}
 use Rattle.std.specs.List.{flat_map}
 use Rattle.lr_rules.specs.declared.path.Path.{Path}
 use Rattle.lr_rules.specs.declared.rule.Make.{Make}
@@ -18,7 +19,8 @@ use Rattle.lr_plan.specs.declared.plan.SetPlan.{SetPlan}
 use Rattle.lr_plan.specs.declared.plan.Plan.{Plan}
 use Rattle.lr_plan.specs.declared.step.SetSteps.{SetSteps}
 use Rattle.lr_plan.specs.declared.step.Step.{Step}
-use Rattle.lr_plan.specs.declared.step.Step.TheVariants.{Runs, Removes, MakesDir, Renames, Creates, Takes, Copies, Appends, SyncsFile, SyncsDir, Truncates, Rotated}
+use Rattle.lr_plan.specs.declared.step.Step.TheVariants.{Runs, Removes, MakesDir, Renames, Creates, Takes, Copies, Appends}
+use Rattle.lr_plan.specs.declared.step.Step.TheVariants.{SyncsFile, SyncsDir, Truncates, Rotated}
 
 -- ---- programs
 
@@ -57,7 +59,8 @@ step_if b step = if b then step ∷ [] else []
 
 -- a copy: into a part file that is synced, which then gets the final path; the log is emptied last
 abbrev pub copy : Job → List Step
-copy job = step_if job.stale (Removes job.part) ++ (Takes job.part job.mode ∷ Copies job.from job.part job.limit ∷ SyncsFile job.part ∷ Renames job.part job.to ∷ SyncsDir job.dir ∷ step_if job.cut (Truncates job.from))
+copy job = step_if job.stale (Removes job.part) ++ (Takes job.part job.mode ∷ Copies job.from job.part job.limit ∷ SyncsFile
+    job.part ∷ Renames job.part job.to ∷ SyncsDir job.dir ∷ step_if job.cut (Truncates job.from))
 
 -- how the log comes to its final path
 abbrev pub transfer : Path → Path → Option Job → List Step
@@ -75,7 +78,8 @@ made_anew m log (Some job) = []
 
 -- the rotation of a log: the leftovers, the family's directory, the chain, the log itself, and the log anew
 abbrev pub rotation : Ready → Option Job → List Step
-rotation ready job = removals ready.leftovers ++ (directory ready.dir ++ (map move ready.moves ++ (transfer ready.log ready.target job ++ (Rotated ready.log ∷ made_anew ready.make ready.log job))))
+rotation ready job = removals ready.leftovers ++ (directory ready.dir
+    ++ (map move ready.moves ++ (transfer ready.log ready.target job ++ (Rotated ready.log ∷ made_anew ready.make ready.log job))))
 
 -- its retirement, behind the postrotate: the mail of the first file, and these removals
 abbrev pub retirement : Option Command → List Removal → List Step
@@ -96,18 +100,25 @@ steps_of_log log = program phase.Pre log.pre ++ (rotation_of log ++ (program pha
 -- of logs that share their scripts
 abbrev pub shared_steps : SetPlan → List Step
 shared_steps set =
-    program phase.First set.first ++ (program phase.Pre set.pre ++ (flat_map rotation_of set.logs ++ (program phase.Post set.post ++ (flat_map retirement_of set.logs ++ program phase.Last set.last))))
+    program phase.First set.first ++ (program phase.Pre set.pre
+    ++ (flat_map rotation_of set.logs ++ (program phase.Post set.post
+    ++ (flat_map retirement_of set.logs ++ program phase.Last set.last))))
 
 -- of logs each by itself
 abbrev pub single_steps : SetPlan → SetSteps
-single_steps set = record { first = program phase.First set.first; each = map steps_of_log set.logs; last = program phase.Last set.last }
+single_steps set = record {
+  first = program phase.First set.first;
+  each = map steps_of_log set.logs;
+  last = program phase.Last set.last;
+}
 
 abbrev pub by_logs : Bool → List LogPlan → SetPlan → SetSteps
 by_logs shared [] set = record { first = []; each = []; last = [] }
 by_logs true (log ∷ logs) set = record { first = shared_steps set; each = []; last = [] }
 by_logs false (log ∷ logs) set = single_steps set
 
--- By what a failed step ends: with shared scripts all that follows in the definition; else firstaction does, and each other step what follows for its log. A definition without a due log does nothing.
+-- By what a failed step ends: with shared scripts all that follows in the definition; else firstaction does, and each other step
+-- what follows for its log. A definition without a due log does nothing.
 abbrev pub steps_of_set : SetPlan → SetSteps
 steps_of_set set = by_logs set.shared set.logs set
 
@@ -117,8 +128,11 @@ steps_of_plan plan = map steps_of_set plan.sets
 
 -- ---- the state text
 
--- The text is written into that file, of mode 0640, which is synced. Then these directories are synced, so that the state never gets its name before what it tells; then the file gets the state's path, and the directory of that is synced. An old one that was seen is removed before.
+-- The text is written into that file, of mode 0640, which is synced. Then these directories are synced, so that the state never
+-- gets its name before what it tells; then the file gets the state's path, and the directory of that is synced. An old one that was
+-- seen is removed before.
 abbrev pub state_steps : Path → Bool → List Path → List ℕ → List Step
 state_steps state stale dirs text =
-    step_if stale (Removes (state_part state)) ++ (Takes (state_part state) (Some 416) ∷ Appends (state_part state) text ∷ SyncsFile (state_part state)
+    step_if stale (Removes (state_part state)) ++ (Takes (state_part state) (Some 416) ∷ Appends (state_part state) text ∷ SyncsFile
+    (state_part state)
     ∷ (map SyncsDir dirs ++ (Renames (state_part state) state ∷ SyncsDir (parent_of state) ∷ [])))

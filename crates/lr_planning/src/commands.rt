@@ -15,7 +15,8 @@ pub fn own_scripts(
     target: &Path,
 ) -> Result<(Option<Command>, Option<Command>), Memory>
     ensures pre { IfOk result (λ two. two.0 ≡ where_so (not rule.now.shared) (script rule.now.scripts.pre (log.now ∷ []))) }
-    ensures post { IfOk result (λ two. two.1 ≡ where_so (not rule.now.shared) (script rule.now.scripts.post (log.now ∷ target.now ∷ []))) }
+    ensures post { IfOk result (λ two. two.1 ≡ where_so (not rule.now.shared)
+        (script rule.now.scripts.post (log.now ∷ target.now ∷ []))) }
 {
     let own = !rule.shared;
     let pre = script_on(alloc, own, &rule.scripts.pre, log.bytes())?;

@@ -4,7 +4,9 @@ ghost use Rattle.lr_rules.specs.declared.rule.Rule.{Rule};
 ghost use Rattle.lr_plan.specs.declared.looks.LogLook.{LogLook};
 ghost use Rattle.lr_plan.specs.Asked.{asking};
 ghost use Rattle.lr_planning.specs.Hindered.{fault_of};
-ghost use Rattle.lr_plan.specs.Planned.{decision, decisions_of, hindrances, plans_of, log_plans, log_faults, set_plan, where_due, all_decisions, all_plans, all_faults, plan_of, make_of, dir_of, stand_for, with_stand, standing, dressed, job_by, plan_with, CanPlan, CanPlanSet, CanPlanAll};
+ghost use Rattle.lr_plan.specs.Planned.{decision, decisions_of, hindrances, plans_of, log_plans, log_faults, set_plan, where_due};
+ghost use Rattle.lr_plan.specs.Planned.{all_decisions, all_plans, all_faults, plan_of, make_of, dir_of, stand_for, with_stand};
+ghost use Rattle.lr_plan.specs.Planned.{standing, dressed, job_by, plan_with, CanPlan, CanPlanSet, CanPlanAll};
 ghost use Rattle.lr_chain.specs.Ready.{IsCount, with_dir};
 ghost use Rattle.lr_commands.specs.Commands.{spaced, script, where_so, mail};
 ghost use Rattle.lr_chain.specs.Hindrances.{what_hinders, IsHindered};
@@ -114,8 +116,10 @@ fn log_programs(
     target: &Path,
 ) -> Result<(Option<Command>, Option<Command>, Option<Command>), Memory>
     ensures pre { IfOk result (λ three. three.0 ≡ where_so (not rule.now.shared) (script rule.now.scripts.pre (log.now ∷ []))) }
-    ensures post { IfOk result (λ three. three.1 ≡ where_so (not rule.now.shared) (script rule.now.scripts.post (log.now ∷ target.now ∷ []))) }
-    ensures first_mail { IfOk result (λ three. three.2 ≡ where_so rule.now.mailfirst (mail mailer.now rule.now.mail log.now target.now)) }
+    ensures post { IfOk result (λ three. three.1 ≡ where_so (not rule.now.shared)
+        (script rule.now.scripts.post (log.now ∷ target.now ∷ []))) }
+    ensures first_mail { IfOk result (λ three. three.2 ≡ where_so rule.now.mailfirst
+        (mail mailer.now rule.now.mail log.now target.now)) }
 {
     let (pre, post) = own_scripts(alloc, rule, log, target)?;
     let first_mail = mail_of(alloc, rule.mailfirst, mailer, &rule.mail, log, target)?;
@@ -165,7 +169,8 @@ fn add_plan(
 ) -> Result<(), Memory>
     requires stand { stand.now ≡ stand_for rule.now look.now }
     requires short { length ready.target ≤ 4081 }
-    ensures { OnOk result (plans.new.items ≡ plans.old.items ++ plan_with mailer.now rule.now (standing rule.now look.now) (with_dir (dir_of rule.now look.now) ready) ∷ []) }
+    ensures { OnOk result (plans.new.items ≡ plans.old.items
+        ++ plan_with mailer.now rule.now (standing rule.now look.now) (with_dir (dir_of rule.now look.now) ready) ∷ []) }
 {
     let job = job_of(alloc, rule, look, stand, &ready.target)?;
     let ready = with_made_dir(alloc, rule, look, ready)?;
@@ -183,7 +188,8 @@ fn make_ready(
 ) -> Result<Ready, PrepareStop>
     requires count { IsCount rule.now.count }
     requires look { CanPlan (with_stand stand.now look.now) }
-    ensures ready { IfOk result (λ ready. ready ≡ ready_of look.now.family.log look.now.family.naming rule.now.count rule.now.maxage clock.entry.now (make_of rule.now.create look.now.seen) stand.now.members) }
+    ensures ready { IfOk result (λ ready. ready ≡ ready_of look.now.family.log look.now.family.naming rule.now.count rule.now.maxage
+        clock.entry.now (make_of rule.now.create look.now.seen) stand.now.members) }
     ensures short { IfOk result (λ ready. length ready.target ≤ 4081) }
     ensures free { OnOk result (what_hinders look.now.family.naming rule.now.count clock.entry.now stand.now ≡ []) }
     ensures hindered { IfErr result (IsHindered (what_hinders look.now.family.naming rule.now.count clock.entry.now stand.now)) }
@@ -262,8 +268,10 @@ fn add_look(
 ) -> Result<(), Memory>
     requires count { IsCount rule.now.count }
     requires look { CanPlan look.now }
-    ensures plans { OnOk result (plans.new.items ≡ plans.old.items ++ where_due decided (plans_of clock.entry.now mailer.now rule.now look.now)) }
-    ensures faults { OnOk result (faults.new.items ≡ faults.old.items ++ where_due decided (hindrances clock.entry.now rule.now look.now)) }
+    ensures plans { OnOk result (plans.new.items ≡ plans.old.items
+        ++ where_due decided (plans_of clock.entry.now mailer.now rule.now look.now)) }
+    ensures faults { OnOk result (faults.new.items ≡ faults.old.items
+        ++ where_due decided (hindrances clock.entry.now rule.now look.now)) }
 {
     match decided {
         Due::Yes(_) => add_due(alloc, rule, mailer, clock, look, plans, faults),
@@ -281,7 +289,8 @@ fn add_decisions(
     force: bool,
     decisions: &mut Vec<(Path, Due)>,
 ) -> Result<(), Memory>
-    ensures { OnOk result (decisions.new.items ≡ decisions.old.items ++ decisions_of (decision state.now clock.entry.now.now force rule.now) looks.now) }
+    ensures { OnOk result (decisions.new.items ≡ decisions.old.items
+        ++ decisions_of (decision state.now clock.entry.now.now force rule.now) looks.now) }
 {
     for look in looks {
         let path = look.path.copy(alloc)?;
@@ -302,8 +311,10 @@ fn plan_all(
     faults: &mut Vec<Fault>,
 ) -> Result<Vec<LogPlan>, Memory>
     requires { CanPlanSet rule.now looks.now }
-    ensures plans { IfOk result (λ plans. plans.items ≡ log_plans clock.entry.now mailer.now rule.now (decision state.now clock.entry.now.now force rule.now) looks.now) }
-    ensures faults { OnOk result (faults.new.items ≡ faults.old.items ++ log_faults clock.entry.now rule.now (decision state.now clock.entry.now.now force rule.now) looks.now) }
+    ensures plans { IfOk result (λ plans. plans.items ≡ log_plans clock.entry.now mailer.now rule.now
+        (decision state.now clock.entry.now.now force rule.now) looks.now) }
+    ensures faults { OnOk result (faults.new.items ≡ faults.old.items
+        ++ log_faults clock.entry.now rule.now (decision state.now clock.entry.now.now force rule.now) looks.now) }
 {
     let mut plans = Vec::new(alloc);
     for look in looks {
@@ -356,8 +367,10 @@ fn plan_set(
     faults: &mut Vec<Fault>,
 ) -> Result<SetPlan, Memory>
     requires { CanPlanSet rule.now looks.now }
-    ensures set { IfOk result (λ set. set ≡ set_plan rule.now (log_plans clock.entry.now mailer.now rule.now (decision state.now clock.entry.now.now force rule.now) looks.now)) }
-    ensures faults { OnOk result (faults.new.items ≡ faults.old.items ++ log_faults clock.entry.now rule.now (decision state.now clock.entry.now.now force rule.now) looks.now) }
+    ensures set { IfOk result (λ set. set ≡ set_plan rule.now
+        (log_plans clock.entry.now mailer.now rule.now (decision state.now clock.entry.now.now force rule.now) looks.now)) }
+    ensures faults { OnOk result (faults.new.items ≡ faults.old.items
+        ++ log_faults clock.entry.now rule.now (decision state.now clock.entry.now.now force rule.now) looks.now) }
 {
     let logs = plan_all(alloc, rule, mailer, looks, state, clock, force, faults)?;
     set_of(alloc, rule, logs)
@@ -383,9 +396,13 @@ fn add_set(
     draft: &mut Draft,
 ) -> Result<(), Memory>
     requires { CanPlanSet rule.now looks.now }
-    ensures decisions { OnOk result (draft.new.decisions.items ≡ draft.old.decisions.items ++ decisions_of (decision state.now clock.entry.now.now force rule.now) looks.now) }
-    ensures sets { OnOk result (draft.new.sets.items ≡ draft.old.sets.items ++ set_plan rule.now (log_plans clock.entry.now mailer.now rule.now (decision state.now clock.entry.now.now force rule.now) looks.now) ∷ []) }
-    ensures faults { OnOk result (draft.new.faults.items ≡ draft.old.faults.items ++ log_faults clock.entry.now rule.now (decision state.now clock.entry.now.now force rule.now) looks.now) }
+    ensures decisions { OnOk result (draft.new.decisions.items ≡ draft.old.decisions.items
+        ++ decisions_of (decision state.now clock.entry.now.now force rule.now) looks.now) }
+    ensures sets { OnOk result (draft.new.sets.items ≡ draft.old.sets.items
+        ++ set_plan rule.now (log_plans clock.entry.now mailer.now rule.now (decision state.now clock.entry.now.now force rule.now)
+        looks.now) ∷ []) }
+    ensures faults { OnOk result (draft.new.faults.items ≡ draft.old.faults.items
+        ++ log_faults clock.entry.now rule.now (decision state.now clock.entry.now.now force rule.now) looks.now) }
 {
     add_decisions(
         alloc,
@@ -422,9 +439,12 @@ fn plan_sets(
     draft: &mut Draft,
 ) -> Result<(), Memory>
     requires { CanPlanAll rules.now sets.now }
-    ensures decisions { OnOk result (draft.new.decisions.items ≡ draft.old.decisions.items ++ all_decisions (decision state.now clock.entry.now.now force) rules.now sets.now) }
-    ensures sets { OnOk result (draft.new.sets.items ≡ draft.old.sets.items ++ all_plans clock.entry.now mailer.now (decision state.now clock.entry.now.now force) rules.now sets.now) }
-    ensures faults { OnOk result (draft.new.faults.items ≡ draft.old.faults.items ++ all_faults clock.entry.now (decision state.now clock.entry.now.now force) rules.now sets.now) }
+    ensures decisions { OnOk result (draft.new.decisions.items ≡ draft.old.decisions.items
+        ++ all_decisions (decision state.now clock.entry.now.now force) rules.now sets.now) }
+    ensures sets { OnOk result (draft.new.sets.items ≡ draft.old.sets.items
+        ++ all_plans clock.entry.now mailer.now (decision state.now clock.entry.now.now force) rules.now sets.now) }
+    ensures faults { OnOk result (draft.new.faults.items ≡ draft.old.faults.items
+        ++ all_faults clock.entry.now (decision state.now clock.entry.now.now force) rules.now sets.now) }
 {
     for at in 0..rules.len() {
         add_set(
@@ -457,7 +477,8 @@ pub fn plan(
     settings: &Settings,
 ) -> Result<Plan, Memory>
     requires { CanPlanAll rules.now.sets looks.now.sets }
-    ensures { IfOk result (λ plan. plan ≡ plan_of rules.now.sets looks.now.sets state.now clock.entry.now (asking settings.now.force settings.now.mailer)) }
+    ensures { IfOk result (λ plan. plan ≡ plan_of rules.now.sets looks.now.sets state.now clock.entry.now
+        (asking settings.now.force settings.now.mailer)) }
 {
     let mut draft = Draft {
         decisions: Vec::new(alloc),

@@ -57,7 +57,8 @@ IsKnownOf state (Err why) part reading known = known ≡ Err (fault_of why state
 abbrev pub IsKnown : Path → StateSights → Known → Type 0
 IsKnown state s known = IsKnownOf state (found s.state) (found s.part) s.reading known
 
--- The entries show what the looks and the reading came to, and the answer is what is known by that. Where there was no memory, a first part of them was made.
+-- The entries show what the looks and the reading came to, and the answer is what is known by that. Where there was no memory, a
+-- first part of them was made.
 pub record ReadsState (state : Path) (size : ℕ) (answer : Result Known Memory) (ts : List Entry) : Type 0 where
   pub sights : StateSights
   pub shown : ShowsState state size sights ts

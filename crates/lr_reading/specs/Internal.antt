@@ -30,7 +30,8 @@ Follows place None piece = IsLast place piece
 Follows place (Some next) piece = (0 < length piece) × (next ≡ place + length piece) × (next ≤ 67_108_864)
 
 -- One read from a place, which gave a piece that was handed on.
-pub record ReadsOn (path : Path) (place size : ℕ) (next : Option ℕ) (before after : Given) (told later : Option Journal) : Type 0 where
+pub record ReadsOn (path : Path) (place size : ℕ) (next : Option ℕ) (before after : Given)
+    (told later : Option Journal) : Type 0 where
   pub piece : List ℕ
   pub short : length piece ≤ size
   pub follows : Follows place next piece

@@ -38,7 +38,8 @@ fn read_behind<H: Host>(
     requires room { 0 < length buffer.old }
     requires file { there ≡ true → Can (H.told host.old) (entry.Reads state.now 0 []) }
     ensures told { Left (ReadsPart state.now (length buffer.old) there result) (H.told host.old) (H.told host.new) }
-    ensures cause { (kind : CallKind) (path : Path) → result ≡ Ok (Err (fault.Call kind path)) → Rose (H.counts host.old).faults (H.counts host.new).faults }
+    ensures cause { (kind : CallKind) (path : Path) → result ≡ Ok (Err (fault.Call kind path))
+        → Rose (H.counts host.old).faults (H.counts host.new).faults }
     ensures only { (f : Fault) → result ≡ Ok (Err f) → IsStateFault state.now f }
     ensures counts { Onward (H.counts host.old) (H.counts host.new) }
 {
@@ -66,7 +67,8 @@ pub fn read_state<H: Host>(
     ensures told { Left (ReadsState state.now (length buffer.old) result) (H.told host.old) (H.told host.new) }
 
     // Also where the host tells nothing: failed calls, and the faults that there may be.
-    ensures counted { (kind : CallKind) (path : Path) → result ≡ Ok (Err (fault.Call kind path)) → Rose (H.counts host.old).faults (H.counts host.new).faults }
+    ensures counted { (kind : CallKind) (path : Path) → result ≡ Ok (Err (fault.Call kind path))
+        → Rose (H.counts host.old).faults (H.counts host.new).faults }
     ensures only { (f : Fault) → result ≡ Ok (Err f) → IsStateFault state.now f }
     ensures counts { Onward (H.counts host.old) (H.counts host.new) }
 {

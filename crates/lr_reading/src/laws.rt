@@ -14,5 +14,6 @@ pub fn states_are_read_quietly()
 /// Entries show one answer and no other.
 pub fn states_show_one_answer()
     ensures { (state : Path) (size : ℕ) (sights others : StateSights) (ts : List Entry) (known told : Known)
-        → ShowsState state size sights ts → ShowsState state size others ts → IsKnown state sights known → IsKnown state others told → known ≡ told }
+        → ShowsState state size sights ts → ShowsState state size others ts → IsKnown state sights known → IsKnown state others told
+        → known ≡ told }
 {}

@@ -47,7 +47,8 @@ fn read_file<H: Host>(
     requires room { 0 < length buffer.old }
     requires file { Can (H.told host.old) (entry.Reads state.now 0 []) }
     ensures told { Left (ReadsText state.now (length buffer.old) true stale result) (H.told host.old) (H.told host.new) }
-    ensures cause { (kind : CallKind) (path : Path) → result ≡ Ok (Err (fault.Call kind path)) → Rose (H.counts host.old).faults (H.counts host.new).faults }
+    ensures cause { (kind : CallKind) (path : Path) → result ≡ Ok (Err (fault.Call kind path))
+        → Rose (H.counts host.old).faults (H.counts host.new).faults }
     ensures only { (f : Fault) → result ≡ Ok (Err f) → IsStateFault state.now f }
     ensures counts { Onward (H.counts host.old) (H.counts host.new) }
 {
@@ -71,7 +72,8 @@ pub fn read_text<H: Host>(
     requires room { 0 < length buffer.old }
     requires file { there ≡ true → Can (H.told host.old) (entry.Reads state.now 0 []) }
     ensures told { Left (ReadsText state.now (length buffer.old) there stale result) (H.told host.old) (H.told host.new) }
-    ensures cause { (kind : CallKind) (path : Path) → result ≡ Ok (Err (fault.Call kind path)) → Rose (H.counts host.old).faults (H.counts host.new).faults }
+    ensures cause { (kind : CallKind) (path : Path) → result ≡ Ok (Err (fault.Call kind path))
+        → Rose (H.counts host.old).faults (H.counts host.new).faults }
     ensures only { (f : Fault) → result ≡ Ok (Err f) → IsStateFault state.now f }
     ensures counts { Onward (H.counts host.old) (H.counts host.new) }
 {

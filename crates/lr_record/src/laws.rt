@@ -7,5 +7,6 @@ ghost use Rattle.lr_record.specs.After.{after, stamped};
 
 /// Which logs are rotated can be written down last: into the table of a run that rotated none.
 pub fn stamps_make_after()
-    ensures { (table : List Entry) (rotated kept : List Path) (now : Civil) → after table rotated kept now ≡ map (stamped rotated now) (after table [] kept now) }
+    ensures { (table : List Entry) (rotated kept : List Path) (now : Civil)
+        → after table rotated kept now ≡ map (stamped rotated now) (after table [] kept now) }
 {}

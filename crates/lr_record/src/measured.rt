@@ -60,7 +60,8 @@ fn growth(was: &Civil, now: &Civil) -> u64
 
 // By how many bytes the text gets longer where this log is due too.
 fn growth_by(table: &State, counted: &State, log: &Path, now: &Civil) -> u64
-    ensures { (due : List Path) → is_table table.now ≡ true → ((name : List ℕ) → is_some (moment_of counted.now name) ≡ is_among due name)
+    ensures { (due : List Path) → is_table table.now ≡ true → ((name : List ℕ)
+        → is_some (moment_of counted.now name) ≡ is_among due name)
         → length (measured_text (due ++ log.now ∷ []) now.now table.now) ≡ length (measured_text due now.now table.now) + result }
 {
     if counted.get(log.bytes()).is_some() {

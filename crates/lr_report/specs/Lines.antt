@@ -43,7 +43,8 @@ fault_text (fault.LongName word) = concat (word ∷ codes ": name is too long" �
 fault_text (fault.TooMany word) = concat (word ∷ codes ": too many logs" ∷ [])
 fault_text (fault.TooLong path) = concat (path ∷ codes ": file is too long" ∷ [])
 fault_text (fault.Call kind path) = concat (path ∷ codes ": " ∷ call_text kind ∷ codes " failed" ∷ [])
-fault_text (fault.Script phase on (ended.Exit code)) = concat (phase_text phase ∷ codes " of " ∷ on ∷ codes " ended with " ∷ signed_decimal code ∷ [])
+fault_text (fault.Script phase on (ended.Exit code)) = concat
+    (phase_text phase ∷ codes " of " ∷ on ∷ codes " ended with " ∷ signed_decimal code ∷ [])
 fault_text (fault.Script phase on ended.Killed) = concat (phase_text phase ∷ codes " of " ∷ on ∷ codes " was killed" ∷ [])
 fault_text fault.Out = codes "output failed"
 

@@ -52,7 +52,8 @@ fn put_state<K: Sink>(number: u32, kind: StateKind, out: &mut K) -> Result<(), S
 }
 
 fn put_exit<K: Sink>(phase: Phase, on: &Text, code: i32, out: &mut K) -> Result<(), SinkFault>
-    ensures whole { OnOk result (Took (fault_text (fault.Script phase on.now (ended.Exit code))) (K.taken out.old) (K.taken out.new)) }
+    ensures whole { OnOk result (Took (fault_text (fault.Script phase on.now (ended.Exit code))) (K.taken out.old)
+        (K.taken out.new)) }
     ensures part { TookPart (fault_text (fault.Script phase on.now (ended.Exit code))) (K.taken out.old) (K.taken out.new) }
     ensures cause { OnErr result (Rose (K.faults out.old) (K.faults out.new)) }
     ensures counts { K.faults out.old ≤ K.faults out.new }

@@ -1,5 +1,6 @@
 -- The limits that the values of a rule meet.
-use Rattle.std.specs.Prelude.{◌+◌, ℕ, Bool, true, false, not, ◌&&◌, ◌||◌, ◌==◌, List, [], ◌∷◌, length, Option, Some, None, nat_le, if◌then◌else◌}
+use Rattle.std.specs.Prelude.{◌+◌, ℕ, Bool, true, false, not, ◌&&◌, ◌||◌, ◌==◌, List, [], ◌∷◌, length, Option, Some, None, nat_le}
+use Rattle.std.specs.Prelude.{if◌then◌else◌}
 use Rattle.std.specs.List.{list_any, list_all}
 use Rattle.std.specs.Str.{is_utf8}
 use Rattle.lr_rules.specs.declared.rule.Count.{Count}
@@ -27,7 +28,8 @@ is_path_text bytes = not (has_bad_byte bytes) && (is_absolute bytes && (not (has
 -- a path that can be a log's: of 2,048 bytes at most, with a last part of 1 to 255, and no copy that isn't whole
 abbrev pub can_be_log : List ℕ → Bool
 can_be_log path =
-    nat_le (length path) 2048 && (nat_le 1 (length (last_of path)) && (nat_le (length (last_of path)) 255 && not (ends_with part_end path)))
+    nat_le (length path) 2048 && (nat_le 1 (length (last_of path)) &&
+    (nat_le (length (last_of path)) 255 && not (ends_with part_end path)))
 
 -- a word without wildcards: its path, without the backslashes that escape, is one that a log can have
 abbrev pub is_literal_word : List ℕ → Bool
@@ -47,7 +49,8 @@ is_olddir word = is_path_text (path_from (47 ∷ []) word) && nat_le (length wor
 -- an ending of 1 to 128 bytes, without slashes, newlines and zero bytes, that isn't the one of a copy that isn't whole
 abbrev pub is_extension : List ℕ → Bool
 is_extension ending =
-    nat_le 1 (length ending) && (nat_le (length ending) 128 && (not (list_any is_slash ending) && (not (has_bad_byte ending) && not (ends_with part_end ending))))
+    nat_le 1 (length ending) && (nat_le (length ending) 128 &&
+    (not (list_any is_slash ending) && (not (has_bad_byte ending) && not (ends_with part_end ending))))
 
 -- an address of 1 to 256 bytes
 abbrev pub is_address : List ℕ → Bool
@@ -126,15 +129,18 @@ written (piece.Field f ∷ pieces) = 37 ∷ letter f ∷ written pieces
 abbrev pub are_first : List Piece → Bool
 are_first pieces =
     times 0 pieces == 1 && (nat_le (times 1 pieces) (times 0 pieces) && (nat_le (times 2 pieces) (times 1 pieces)
-    && (nat_le (times 3 pieces) (times 2 pieces) && (nat_le (times 4 pieces) (times 3 pieces) && (nat_le (times 5 pieces) (times 4 pieces) && times 6 pieces == 0)))))
+    && (nat_le (times 3 pieces) (times 2 pieces) && (nat_le (times 4 pieces) (times 3 pieces) &&
+    (nat_le (times 5 pieces) (times 4 pieces) && times 6 pieces == 0)))))
 
 -- the seconds since 1970, once, and no other field
 abbrev pub is_epoch_alone : List Piece → Bool
 is_epoch_alone pieces =
-    times 6 pieces == 1 && (times 0 pieces == 0 && (times 1 pieces == 0 && (times 2 pieces == 0 && (times 3 pieces == 0 && (times 4 pieces == 0 && times 5 pieces == 0)))))
+    times 6 pieces == 1 && (times 0 pieces == 0 && (times 1 pieces == 0 &&
+    (times 2 pieces == 0 && (times 3 pieces == 0 && (times 4 pieces == 0 && times 5 pieces == 0)))))
 
 abbrev pub is_format : Format → Bool
-is_format f = list_all is_plain_piece f.pieces && (is_utf8 (written f.pieces) && (nat_le (length (written f.pieces)) 64 && (are_first f.pieces || is_epoch_alone f.pieces)))
+is_format f = list_all is_plain_piece f.pieces && (is_utf8 (written f.pieces) &&
+    (nat_le (length (written f.pieces)) 64 && (are_first f.pieces || is_epoch_alone f.pieces)))
 
 -- ---- rules
 

@@ -1,5 +1,6 @@
 -- Which names a pattern matches, and which paths the words of a rule give.
-use Rattle.std.specs.Prelude.{◌≡◌, ◌≢◌, ℕ, List, [], ◌∷◌, ◌++◌, Bool, true, false, cond, not, ◌||◌, ◌&&◌, ◌==◌, nat_le, Any, chars, codes}
+use Rattle.std.specs.Prelude.{◌≡◌, ◌≢◌, ℕ, List, [], ◌∷◌, ◌++◌, Bool, true, false, cond, not, ◌||◌, ◌&&◌, ◌==◌, nat_le, Any, chars}
+use Rattle.std.specs.Prelude.{codes}
 use Rattle.std.specs.List.{list_any}
 use Rattle.lr_rules.specs.declared.path.Path.{Path}
 use Rattle.lr_rules.specs.declared.rule.Rule.{Rule}
@@ -10,7 +11,8 @@ abbrev pub ranges_have : List ℕ → ℕ → Bool
 ranges_have [] c = false
 ranges_have (a ∷ []) c = a == c
 ranges_have (a ∷ b ∷ []) c = a == c || b == c
-ranges_have (a ∷ dash ∷ b ∷ signs) c = cond (dash == 45) ((nat_le a c && nat_le c b) || ranges_have signs c) (a == c || ranges_have (dash ∷ b ∷ signs) c)
+ranges_have (a ∷ dash ∷ b ∷ signs) c = cond (dash == 45) ((nat_le a c && nat_le c b) || ranges_have signs c)
+    (a == c || ranges_have (dash ∷ b ∷ signs) c)
 
 -- the signs of a class hold the character: a `-` at the head is itself too
 abbrev pub class_has : List ℕ → ℕ → Bool
@@ -21,10 +23,13 @@ class_has (a ∷ signs) c = cond (a == 45) (a == c || ranges_have signs c) (rang
 abbrev pub is_close : ℕ → Bool
 is_close c = c == 93
 
--- What stands behind a `[` begins with a class: its signs up to the first `]` that isn't the first of them, turned round by a `!` before them.
+-- What stands behind a `[` begins with a class: its signs up to the first `]` that isn't the first of them, turned round by a `!`
+-- before them.
 pub data IsClass (behind : List ℕ) : Bool → List ℕ → List ℕ → Type 0 where
-  straight : (sign : ℕ) (signs rest : List ℕ) → sign ≢ 33 → list_any is_close signs ≡ false → behind ≡ sign ∷ signs ++ 93 ∷ rest → IsClass behind false (sign ∷ signs) rest
-  turned : (sign : ℕ) (signs rest : List ℕ) → list_any is_close signs ≡ false → behind ≡ 33 ∷ sign ∷ signs ++ 93 ∷ rest → IsClass behind true (sign ∷ signs) rest
+  straight : (sign : ℕ) (signs rest : List ℕ) → sign ≢ 33 → list_any is_close signs ≡ false → behind ≡ sign ∷ signs ++ 93 ∷ rest
+      → IsClass behind false (sign ∷ signs) rest
+  turned : (sign : ℕ) (signs rest : List ℕ) → list_any is_close signs ≡ false → behind ≡ 33 ∷ sign ∷ signs ++ 93 ∷ rest
+      → IsClass behind true (sign ∷ signs) rest
 
 -- The character stands for itself: it is no `?` and no `*`, no `[` that begins a class, and no backslash but the last character.
 pub record IsPlain (c : ℕ) (behind : List ℕ) : Type 0 where
@@ -40,17 +45,25 @@ IsOpen is_first c = is_first ≡ true → c ≢ 46
 -- A part of a pattern matches a name, both as characters; `is_first` holds where no character of the name was matched yet.
 pub data Matches : Bool → List ℕ → List ℕ → Type 0 where
   ends : {is_first : Bool} → Matches is_first [] []
-  itself : {is_first : Bool} {c : ℕ} {part name : List ℕ} → IsPlain c part → Matches false part name → Matches is_first (c ∷ part) (c ∷ name)
-  escaped : {is_first : Bool} {sign c : ℕ} {part name : List ℕ} → sign ≡ 92 → Matches false part name → Matches is_first (sign ∷ c ∷ part) (c ∷ name)
-  any_one : {is_first : Bool} {sign c : ℕ} {part name : List ℕ} → sign ≡ 63 → IsOpen is_first c → Matches false part name → Matches is_first (sign ∷ part) (c ∷ name)
-  run_ends : {is_first : Bool} {sign : ℕ} {part name : List ℕ} → sign ≡ 42 → Matches is_first part name → Matches is_first (sign ∷ part) name
-  run_goes_on : {is_first : Bool} {sign c : ℕ} {part name : List ℕ} → sign ≡ 42 → IsOpen is_first c → Matches false (sign ∷ part) name → Matches is_first (sign ∷ part) (c ∷ name)
-  of_class : {is_first is_turned : Bool} {sign c : ℕ} {part name signs rest : List ℕ} → sign ≡ 91 → IsClass part is_turned signs rest → IsOpen is_first c → class_has signs c ≡ not is_turned → Matches false rest name → Matches is_first (sign ∷ part) (c ∷ name)
+  itself : {is_first : Bool} {c : ℕ} {part name : List ℕ} → IsPlain c part → Matches false part name
+      → Matches is_first (c ∷ part) (c ∷ name)
+  escaped : {is_first : Bool} {sign c : ℕ} {part name : List ℕ} → sign ≡ 92 → Matches false part name
+      → Matches is_first (sign ∷ c ∷ part) (c ∷ name)
+  any_one : {is_first : Bool} {sign c : ℕ} {part name : List ℕ} → sign ≡ 63 → IsOpen is_first c → Matches false part name
+      → Matches is_first (sign ∷ part) (c ∷ name)
+  run_ends : {is_first : Bool} {sign : ℕ} {part name : List ℕ} → sign ≡ 42 → Matches is_first part name
+      → Matches is_first (sign ∷ part) name
+  run_goes_on : {is_first : Bool} {sign c : ℕ} {part name : List ℕ} → sign ≡ 42 → IsOpen is_first c
+      → Matches false (sign ∷ part) name → Matches is_first (sign ∷ part) (c ∷ name)
+  of_class : {is_first is_turned : Bool} {sign c : ℕ} {part name signs rest : List ℕ} → sign ≡ 91
+      → IsClass part is_turned signs rest → IsOpen is_first c → class_has signs c ≡ not is_turned → Matches false rest name
+      → Matches is_first (sign ∷ part) (c ∷ name)
 
 -- A pattern matches a path: each part between slashes the part at its place.
 pub data PathMatches : List ℕ → List ℕ → Type 0 where
   no_part : PathMatches [] []
-  next_part : {pattern path : List ℕ} (part name parts names : List ℕ) → list_any is_slash part ≡ false → list_any is_slash name ≡ false → pattern ≡ 47 ∷ part ++ parts → path ≡ 47 ∷ name ++ names
+  next_part : {pattern path : List ℕ} (part name parts names : List ℕ) → list_any is_slash part ≡ false
+      → list_any is_slash name ≡ false → pattern ≡ 47 ∷ part ++ parts → path ≡ 47 ∷ name ++ names
       → Matches true (chars part) (chars name) → PathMatches parts names → PathMatches pattern path
 
 -- it stands for other characters where no backslash is before it

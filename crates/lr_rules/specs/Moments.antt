@@ -18,7 +18,8 @@ civil_seconds p = moment_seconds (pos p.year) p.month p.day p.hour p.minute p.se
 abbrev pub seconds_by : List Piece → StampParts → ℤ
 seconds_by pieces p = if is_in field.Epoch pieces then pos p.epoch else civil_seconds p
 
--- The bytes are the pieces with the fields of a moment filled in; a field that lacks is the least of its kind. Their seconds are these.
+-- The bytes are the pieces with the fields of a moment filled in; a field that lacks is the least of its kind. Their seconds are
+-- these.
 pub record IsStamp (pieces : List Piece) (seconds : ℤ) (bytes : List ℕ) : Type 0 where
   pub parts : StampParts
   pub reading : IsReading pieces least parts bytes

@@ -1,5 +1,6 @@
 -- How the members of a log are named, and when the names of two logs meet.
-use Rattle.std.specs.Prelude.{◌≡◌, ◌⊎◌, ◌+◌, ◌-◌, ◌≤◌, ◌<◌, ℕ, List, [], ◌∷◌, ◌++◌, length, take, drop, filter, flat_map, All, Option, Some, None, Bool, true, false, not, cond, ◌&&◌, ◌||◌, nat_le, bytes_eq, decimal, codes}
+use Rattle.std.specs.Prelude.{◌≡◌, ◌⊎◌, ◌+◌, ◌-◌, ◌≤◌, ◌<◌, ℕ, List, [], ◌∷◌, ◌++◌, length, take, drop, filter, flat_map, All}
+use Rattle.std.specs.Prelude.{Option, Some, None, Bool, true, false, not, cond, ◌&&◌, ◌||◌, nat_le, bytes_eq, decimal, codes}
 use Rattle.std.specs.List.{slice_split}
 use Rattle.lr_rules.specs.declared.path.Path.{Path}
 use Rattle.lr_rules.specs.declared.rule.Rule.{Rule}
@@ -102,16 +103,19 @@ IsFieldShape _ ds = (length ds ≡ 2) × AreDigits ds
 abbrev pub IsStampShape : List Piece → List ℕ → Type 0
 IsStampShape [] bytes = bytes ≡ []
 IsStampShape (piece.Byte b ∷ pieces) bytes = (rest : List ℕ) × (bytes ≡ b ∷ rest) × IsStampShape pieces rest
-IsStampShape (piece.Field f ∷ pieces) bytes = (ds rest : List ℕ) × (bytes ≡ ds ++ rest) × IsFieldShape f ds × IsStampShape pieces rest
+IsStampShape (piece.Field f ∷ pieces) bytes = (ds rest : List ℕ) × (bytes ≡ ds ++ rest) × IsFieldShape f ds
+    × IsStampShape pieces rest
 
 -- a dot and a run of digits
 abbrev pub number_pieces : List Piece
 number_pieces = piece.Byte 46 ∷ piece.Field field.Epoch ∷ []
 
--- what stands between base and extension: a dot and a run of digits, or a stamp, and behind it a serial number where the format has those
+-- what stands between base and extension: a dot and a run of digits, or a stamp, and behind it a serial number where the format has
+-- those
 abbrev pub IsMiddleShape : Option Format → List ℕ → Type 0
 IsMiddleShape None middle = (ds : List ℕ) × (middle ≡ 46 ∷ ds) × IsRun ds
-IsMiddleShape (Some format) middle = IsStampShape format.pieces middle ⊎ ((format.serial ≡ true) × IsStampShape (format.pieces ++ number_pieces) middle)
+IsMiddleShape (Some format) middle = IsStampShape format.pieces middle
+    ⊎ ((format.serial ≡ true) × IsStampShape (format.pieces ++ number_pieces) middle)
 
 -- the last part of a path has the shape of a member, whatever its digits say
 abbrev pub IsMemberShape : Naming → List ℕ → Type 0
@@ -123,7 +127,8 @@ HasMemberShape n x = (last : List ℕ) × IsMemberShape n last × (x ≡ joined 
 
 -- ---- the names of a set
 
--- The path is the log, where it waits while it is set aside, has a member's shape, or that shape with the ending of a copy that isn't whole.
+-- The path is the log, where it waits while it is set aside, has a member's shape, or that shape with the ending of a copy that
+-- isn't whole.
 pub data IsOwnName (log : Path) (n : Naming) (x : Path) : Type 0 where
   the_log : x ≡ log → IsOwnName log n x
   set_aside : n.aside ≡ true → x ≡ aside_path log → IsOwnName log n x

@@ -129,7 +129,8 @@ fn copy_place(alloc: Global, rule: &Rule) -> Result<Place, Memory>
 }
 
 fn copy_ends(alloc: Global, rule: &Rule) -> Result<Ends, Memory>
-    ensures { IfOk result (λ ends. (ends.extension ≡ rule.now.extension) × (ends.addextension ≡ rule.now.addextension) × (ends.olddir ≡ rule.now.olddir)) }
+    ensures { IfOk result (λ ends. (ends.extension ≡ rule.now.extension) × (ends.addextension ≡ rule.now.addextension)
+        × (ends.olddir ≡ rule.now.olddir)) }
 {
     let extension = copy_text(alloc, &rule.extension)?;
     let addextension = copy_text(alloc, &rule.addextension)?;
@@ -142,7 +143,8 @@ fn copy_ends(alloc: Global, rule: &Rule) -> Result<Ends, Memory>
 }
 
 fn copy_acts(alloc: Global, rule: &Rule) -> Result<Acts, Memory>
-    ensures { IfOk result (λ acts. (acts.mail ≡ rule.now.mail) × (acts.scripts ≡ rule.now.scripts) × (acts.dated ≡ rule.now.dated)) }
+    ensures { IfOk result (λ acts. (acts.mail ≡ rule.now.mail) × (acts.scripts ≡ rule.now.scripts)
+        × (acts.dated ≡ rule.now.dated)) }
 {
     let mail = copy_text(alloc, &rule.mail)?;
     let dated = copy_format(alloc, &rule.dated)?;

@@ -1,7 +1,8 @@
 // Whether bytes are a path.
 ghost use Rattle.std.specs.Prelude.{◌≡◌, None, length, IsUtf8};
 ghost use Rattle.std.specs.List.{list_any, slice_split};
-ghost use Rattle.lr_rules.specs.Path.{path_fault, is_slash, is_empty, is_dots, is_absolute, has_bad_byte, has_empty_part, has_dot_part, joined};
+ghost use Rattle.lr_rules.specs.Path.{path_fault, is_slash, is_empty, is_dots, is_absolute, has_bad_byte, has_empty_part};
+ghost use Rattle.lr_rules.specs.Path.{has_dot_part, joined};
 
 use crate::PathFault;
 use crate::text::is_utf8;

@@ -1,7 +1,8 @@
 // An absolute path: `/`, or parts that each stand behind one `/`.
 ghost use Rattle.std.specs.Prelude.{◌≡◌, ◌≤◌, ◌↔◌, [], ◌++◌, length, MatchResult, OnOk, IfOk, IsTrue, None, string_bytes};
 ghost use Rattle.std.specs.Str.{bytes_eq};
-ghost use Rattle.lr_rules.specs.Path.{path_fault, word_fault, cleaned, behind_slash, kept_parts, is_kept, joined, last_of, parent_of, last_start_of, IsRefusal};
+ghost use Rattle.lr_rules.specs.Path.{path_fault, word_fault, cleaned, behind_slash, kept_parts, is_kept, joined, last_of};
+ghost use Rattle.lr_rules.specs.Path.{parent_of, last_start_of, IsRefusal};
 
 use crate::form::{fault_of, is_absolute, joined_fault};
 use crate::{Memory, Text};
@@ -67,7 +68,8 @@ fn last_start(bytes: &[u8]) -> usize
 impl Path {
     /// The path of these bytes; a refusal is the first that applies.
     pub fn new(alloc: Global, bytes: &[u8]) -> Result<Path, PathFault>
-        ensures { MatchResult result (λ path. (path ≡ bytes.now) × (path_fault bytes.now ≡ None)) (IsRefusal (path_fault bytes.now)) }
+        ensures { MatchResult result (λ path. (path ≡ bytes.now) × (path_fault bytes.now ≡ None))
+            (IsRefusal (path_fault bytes.now)) }
     {
         if let Some(fault) = fault_of(bytes) {
             return Err(fault);
@@ -82,7 +84,8 @@ impl Path {
     /// empty parts and `.` parts are dropped. A refusal is the first that applies: `Relative` for an empty word, else
     /// that of `new` for the whole path behind this cleaning.
     pub fn from_word(alloc: Global, here: &Path, word: &[u8]) -> Result<Path, PathFault>
-        ensures path { MatchResult result (λ path. (path ≡ cleaned here.now word.now) × (word_fault here.now word.now ≡ None)) (IsRefusal (word_fault here.now word.now)) }
+        ensures path { MatchResult result (λ path. (path ≡ cleaned here.now word.now) × (word_fault here.now word.now ≡ None))
+            (IsRefusal (word_fault here.now word.now)) }
         ensures relative { result ≡ Err PathFault.Relative → word.now ≡ [] }
         ensures no_empty_part { ¬ (result ≡ Err PathFault.EmptyPart) }
     {
@@ -155,7 +158,8 @@ impl Path {
 
     /// The path of what stands under this name in the directory; a refusal is that of `new` for the joined bytes.
     pub fn join(&self, alloc: Global, last: &[u8]) -> Result<Path, PathFault>
-        ensures { MatchResult result (λ path. (path ≡ joined self.now last.now) × (path_fault path ≡ None)) (IsRefusal (path_fault (joined self.now last.now))) }
+        ensures { MatchResult result (λ path. (path ≡ joined self.now last.now) × (path_fault path ≡ None))
+            (IsRefusal (path_fault (joined self.now last.now))) }
     {
         let dir = self.bytes();
         let Ok(name) = str::from_utf8(last) else {
@@ -172,7 +176,8 @@ impl Path {
     }
 
     fn from_vec(bytes: Vec<u8>) -> Result<Path, PathFault>
-        ensures { MatchResult result (λ path. (path ≡ bytes.items) × (path_fault path ≡ None)) (IsRefusal (path_fault bytes.items)) }
+        ensures { MatchResult result (λ path. (path ≡ bytes.items) × (path_fault path ≡ None))
+            (IsRefusal (path_fault bytes.items)) }
     {
         match String::from_utf8(bytes) {
             Err(_) => Err(PathFault::NotUtf8),

@@ -20,7 +20,8 @@ abbrev pub runs_of : Option Command → List Entry
 runs_of None = []
 runs_of (Some command) = runs command (ended.Exit (pos 0)) ∷ []
 
--- What a refused program leaves: its entry with the bad end that is told; of a failed call its entry with some end, or none; for want of memory none.
+-- What a refused program leaves: its entry with the bad end that is told; of a failed call its entry with some end, or none; for
+-- want of memory none.
 abbrev pub RunRefused : Command → Bad → List Entry → Type 0
 RunRefused command (bad.Script phase end) ts = (end ≢ ended.Exit (pos 0)) × (ts ≡ runs command end ∷ [])
 RunRefused command (bad.Call kind) ts = (ts ≡ []) ⊎ ((end : Ended) × (ts ≡ runs command end ∷ []))

@@ -24,7 +24,8 @@ AtMail removal why ts = Then (Are (runs_of removal.preremove)) (MaybeRefused rem
 
 -- both ended with 0 where there are any, and the unlink failed: its entry stands or not
 abbrev pub AtUnlink : Removal → List Entry → Type 0
-AtUnlink removal ts = Then (Are (runs_of removal.preremove ++ runs_of removal.mail)) (λ us. (us ≡ []) ⊎ (us ≡ entry.Unlinks removal.path ∷ [])) ts
+AtUnlink removal ts = Then (Are (runs_of removal.preremove ++ runs_of removal.mail))
+    (λ us. (us ≡ []) ⊎ (us ≡ entry.Unlinks removal.path ∷ [])) ts
 
 -- What a refused removal leaves: the entries of the calls before the refused one, and what that one leaves.
 abbrev pub RemovalRefused : Removal → Bad → List Entry → Type 0
@@ -39,4 +40,5 @@ RemovalRefused removal bad.Memory ts = AtPreremove removal bad.Memory ts ⊎ AtM
 -- Why a removal is refused: for the cause of one of its programs, or since the unlink failed, and faults rose.
 abbrev pub RemovalCause : Removal → Bad → Counts → Counts → Type 0
 RemovalCause removal (bad.Call call.Unlink) before now = Rose before.faults now.faults
-RemovalCause removal why before now = MaybeCause phase.Preremove removal.preremove why before now ⊎ MaybeCause phase.Mail removal.mail why before now
+RemovalCause removal why before now = MaybeCause phase.Preremove removal.preremove why before now
+    ⊎ MaybeCause phase.Mail removal.mail why before now

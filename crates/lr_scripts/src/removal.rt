@@ -28,8 +28,10 @@ fn run_where_given<H: Host>(
 ) -> Result<(), Bad>
     requires { CanAll (H.told host.old) (runs_of (option_copied command)) }
     ensures told { OnOk result (Left (Are (runs_of (option_copied command.entry))) (H.told host.old) (H.told host.new)) }
-    ensures refused { IfErr result (λ why. Left (MaybeRefused (option_copied command.entry) why) (H.told host.old) (H.told host.new)) }
-    ensures cause { IfErr result (λ why. MaybeCause phase (option_copied command.entry) why (H.counts host.old) (H.counts host.new)) }
+    ensures refused { IfErr result (λ why. Left (MaybeRefused (option_copied command.entry) why) (H.told host.old)
+        (H.told host.new)) }
+    ensures cause { IfErr result (λ why. MaybeCause phase (option_copied command.entry) why (H.counts host.old)
+        (H.counts host.new)) }
     ensures counts { Onward (H.counts host.old) (H.counts host.new) }
 {
     match command {

@@ -55,7 +55,8 @@ script_line p command = concat (codes "run " ∷ phase_text p ∷ behind_spaces 
 
 -- a mail, which is handed to a mailer as `-s SUBJECT ADDRESS`, by the file and the address
 abbrev pub mail_line : Command → List ℕ
-mail_line command = concat (codes "mail " ∷ input_of command.input ∷ codes " to " ∷ slice_index_or command.args 2 [] ∷ codes "\n" ∷ [])
+mail_line command = concat (codes "mail " ∷ input_of command.input ∷ codes " to " ∷ slice_index_or command.args 2 [] ∷ codes "\n" ∷
+    [])
 
 abbrev pub program_line : Phase → Command → List ℕ
 program_line phase.Mail command = mail_line command
@@ -92,6 +93,7 @@ set_lines set = lines_of (set.first ++ (flat_map (λ steps. steps) set.each ++ s
 abbrev pub steps_text : Path → Plan → List ℕ
 steps_text state plan = flat_map set_lines (steps_of_plan plan) ++ path_line (codes "state ") state
 
--- The text of a plan: a line for each decision, and, where they are asked for, those of its steps, the last of which writes the state text.
+-- The text of a plan: a line for each decision, and, where they are asked for, those of its steps, the last of which writes the
+-- state text.
 abbrev pub plan_text : Path → Bool → Plan → List ℕ
 plan_text state steps plan = flat_map decision_line plan.decisions ++ (if steps then steps_text state plan else [])

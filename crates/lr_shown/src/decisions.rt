@@ -11,13 +11,15 @@ use lr_report::put_four;
 use lr_rules::Path;
 
 fn put_due<K: Sink>(log: &Path, why: Why, out: &mut K) -> Result<(), SinkFault>
-    ensures { Puts (log_line log.now (due.Yes why)) result (K.taken out.old) (K.taken out.new) (K.faults out.old) (K.faults out.new) }
+    ensures { Puts (log_line log.now (due.Yes why)) result (K.taken out.old) (K.taken out.new) (K.faults out.old)
+        (K.faults out.new) }
 {
     put_four(out, log.bytes(), b": due, ", why_name(why), b"\n")
 }
 
 fn put_not_due<K: Sink>(log: &Path, why: WhyNot, out: &mut K) -> Result<(), SinkFault>
-    ensures { Puts (log_line log.now (due.No why)) result (K.taken out.old) (K.taken out.new) (K.faults out.old) (K.faults out.new) }
+    ensures { Puts (log_line log.now (due.No why)) result (K.taken out.old) (K.taken out.new) (K.faults out.old)
+        (K.faults out.new) }
 {
     put_four(out, log.bytes(), b": not due, ", why_not_name(why), b"\n")
 }
@@ -33,7 +35,8 @@ fn put_decision<K: Sink>(log: &Path, due: Due, out: &mut K) -> Result<(), SinkFa
 
 /// Puts the lines of the decisions, in order.
 pub fn put_decisions<K: Sink>(decisions: &[(Path, Due)], out: &mut K) -> Result<(), SinkFault>
-    ensures { Puts (flat_map decision_line decisions.now) result (K.taken out.old) (K.taken out.new) (K.faults out.old) (K.faults out.new) }
+    ensures { Puts (flat_map decision_line decisions.now) result (K.taken out.old) (K.taken out.new) (K.faults out.old)
+        (K.faults out.new) }
 {
     for decision in decisions {
         put_decision(&decision.0, decision.1, out)?;

@@ -14,14 +14,16 @@ use lr_rules::Phase;
 
 // What comes behind the rotation of a log by itself.
 fn put_rest<K: Sink>(log: &LogPlan, out: &mut K) -> Result<(), SinkFault>
-    ensures { Puts (lines_of (program phase.Post log.now.post ++ retirement_of log.now)) result (K.taken out.old) (K.taken out.new) (K.faults out.old) (K.faults out.new) }
+    ensures { Puts (lines_of (program phase.Post log.now.post ++ retirement_of log.now)) result (K.taken out.old) (K.taken out.new)
+        (K.faults out.old) (K.faults out.new) }
 {
     put_program(Phase::Post, log.post.as_ref(), out)?;
     put_retirement(log, out)
 }
 
 fn put_log<K: Sink>(log: &LogPlan, out: &mut K) -> Result<(), SinkFault>
-    ensures { Puts (lines_of (steps_of_log log.now)) result (K.taken out.old) (K.taken out.new) (K.faults out.old) (K.faults out.new) }
+    ensures { Puts (lines_of (steps_of_log log.now)) result (K.taken out.old) (K.taken out.new) (K.faults out.old)
+        (K.faults out.new) }
 {
     put_program(Phase::Pre, log.pre.as_ref(), out)?;
     put_rotation(log, out)?;
@@ -30,7 +32,8 @@ fn put_log<K: Sink>(log: &LogPlan, out: &mut K) -> Result<(), SinkFault>
 
 /// Puts the lines of the logs, each by itself.
 pub fn put_logs<K: Sink>(logs: &[LogPlan], out: &mut K) -> Result<(), SinkFault>
-    ensures { Puts (lines_of (flat_map steps_of_log logs.now)) result (K.taken out.old) (K.taken out.new) (K.faults out.old) (K.faults out.new) }
+    ensures { Puts (lines_of (flat_map steps_of_log logs.now)) result (K.taken out.old) (K.taken out.new) (K.faults out.old)
+        (K.faults out.new) }
 {
     for log in logs {
         put_log(log, out)?;
@@ -40,7 +43,8 @@ pub fn put_logs<K: Sink>(logs: &[LogPlan], out: &mut K) -> Result<(), SinkFault>
 
 /// Puts the lines of the rotations of all logs.
 pub fn put_rotations<K: Sink>(logs: &[LogPlan], out: &mut K) -> Result<(), SinkFault>
-    ensures { Puts (lines_of (flat_map rotation_of logs.now)) result (K.taken out.old) (K.taken out.new) (K.faults out.old) (K.faults out.new) }
+    ensures { Puts (lines_of (flat_map rotation_of logs.now)) result (K.taken out.old) (K.taken out.new) (K.faults out.old)
+        (K.faults out.new) }
 {
     for log in logs {
         put_rotation(log, out)?;
@@ -50,7 +54,8 @@ pub fn put_rotations<K: Sink>(logs: &[LogPlan], out: &mut K) -> Result<(), SinkF
 
 /// Puts the lines of the retirements of all logs.
 pub fn put_retirements<K: Sink>(logs: &[LogPlan], out: &mut K) -> Result<(), SinkFault>
-    ensures { Puts (lines_of (flat_map retirement_of logs.now)) result (K.taken out.old) (K.taken out.new) (K.faults out.old) (K.faults out.new) }
+    ensures { Puts (lines_of (flat_map retirement_of logs.now)) result (K.taken out.old) (K.taken out.new) (K.faults out.old)
+        (K.faults out.new) }
 {
     for log in logs {
         put_retirement(log, out)?;

@@ -22,7 +22,8 @@ pub fn put_path<K: Sink>(does: &[u8], path: &Path, out: &mut K) -> Result<(), Si
 
 /// Puts what is done, and both paths.
 pub fn put_pair<K: Sink>(does: &[u8], from: &Path, to: &Path, out: &mut K) -> Result<(), SinkFault>
-    ensures { Puts (pair_line does.now from.now to.now) result (K.taken out.old) (K.taken out.new) (K.faults out.old) (K.faults out.new) }
+    ensures { Puts (pair_line does.now from.now to.now) result (K.taken out.old) (K.taken out.new) (K.faults out.old)
+        (K.faults out.new) }
 {
     put_five(out, does, from.bytes(), b" ", to.bytes(), b"\n")
 }

@@ -18,7 +18,9 @@ use lr_rules::{Path, Phase};
 
 // Of logs that share their scripts, up to their rotations.
 fn put_shared_front<K: Sink>(set: &SetPlan, out: &mut K) -> Result<(), SinkFault>
-    ensures { Puts (lines_of (program phase.First set.now.first ++ (program phase.Pre set.now.pre ++ flat_map rotation_of set.now.logs))) result (K.taken out.old) (K.taken out.new) (K.faults out.old) (K.faults out.new) }
+    ensures { Puts (lines_of (program phase.First set.now.first
+        ++ (program phase.Pre set.now.pre ++ flat_map rotation_of set.now.logs))) result (K.taken out.old) (K.taken out.new)
+        (K.faults out.old) (K.faults out.new) }
 {
     put_program(Phase::First, set.first.as_ref(), out)?;
     put_program(Phase::Pre, set.pre.as_ref(), out)?;
@@ -27,7 +29,9 @@ fn put_shared_front<K: Sink>(set: &SetPlan, out: &mut K) -> Result<(), SinkFault
 
 // And behind them.
 fn put_shared_rest<K: Sink>(set: &SetPlan, out: &mut K) -> Result<(), SinkFault>
-    ensures { Puts (lines_of (program phase.Post set.now.post ++ (flat_map retirement_of set.now.logs ++ program phase.Last set.now.last))) result (K.taken out.old) (K.taken out.new) (K.faults out.old) (K.faults out.new) }
+    ensures { Puts (lines_of (program phase.Post set.now.post
+        ++ (flat_map retirement_of set.now.logs ++ program phase.Last set.now.last))) result (K.taken out.old) (K.taken out.new)
+        (K.faults out.old) (K.faults out.new) }
 {
     put_program(Phase::Post, set.post.as_ref(), out)?;
     put_retirements(set.logs.as_slice(), out)?;
@@ -35,7 +39,8 @@ fn put_shared_rest<K: Sink>(set: &SetPlan, out: &mut K) -> Result<(), SinkFault>
 }
 
 fn put_shared<K: Sink>(set: &SetPlan, out: &mut K) -> Result<(), SinkFault>
-    ensures { Puts (lines_of (shared_steps set.now)) result (K.taken out.old) (K.taken out.new) (K.faults out.old) (K.faults out.new) }
+    ensures { Puts (lines_of (shared_steps set.now)) result (K.taken out.old) (K.taken out.new) (K.faults out.old)
+        (K.faults out.new) }
 {
     put_shared_front(set, out)?;
     put_shared_rest(set, out)
@@ -43,7 +48,8 @@ fn put_shared<K: Sink>(set: &SetPlan, out: &mut K) -> Result<(), SinkFault>
 
 // Of logs each by itself.
 fn put_single<K: Sink>(set: &SetPlan, out: &mut K) -> Result<(), SinkFault>
-    ensures { Puts (set_lines (single_steps set.now)) result (K.taken out.old) (K.taken out.new) (K.faults out.old) (K.faults out.new) }
+    ensures { Puts (set_lines (single_steps set.now)) result (K.taken out.old) (K.taken out.new) (K.faults out.old)
+        (K.faults out.new) }
 {
     put_program(Phase::First, set.first.as_ref(), out)?;
     put_logs(set.logs.as_slice(), out)?;
@@ -51,7 +57,8 @@ fn put_single<K: Sink>(set: &SetPlan, out: &mut K) -> Result<(), SinkFault>
 }
 
 fn put_set<K: Sink>(set: &SetPlan, out: &mut K) -> Result<(), SinkFault>
-    ensures { Puts (set_lines (steps_of_set set.now)) result (K.taken out.old) (K.taken out.new) (K.faults out.old) (K.faults out.new) }
+    ensures { Puts (set_lines (steps_of_set set.now)) result (K.taken out.old) (K.taken out.new) (K.faults out.old)
+        (K.faults out.new) }
 {
     if set.logs.len() == 0 {
         Ok(())
@@ -63,7 +70,8 @@ fn put_set<K: Sink>(set: &SetPlan, out: &mut K) -> Result<(), SinkFault>
 }
 
 fn put_sets<K: Sink>(sets: &[SetPlan], out: &mut K) -> Result<(), SinkFault>
-    ensures { Puts (flat_map set_lines (map steps_of_set sets.now)) result (K.taken out.old) (K.taken out.new) (K.faults out.old) (K.faults out.new) }
+    ensures { Puts (flat_map set_lines (map steps_of_set sets.now)) result (K.taken out.old) (K.taken out.new) (K.faults out.old)
+        (K.faults out.new) }
 {
     for set in sets {
         put_set(set, out)?;
@@ -72,7 +80,8 @@ fn put_sets<K: Sink>(sets: &[SetPlan], out: &mut K) -> Result<(), SinkFault>
 }
 
 fn put_steps<K: Sink>(plan: &Plan, state: &Path, out: &mut K) -> Result<(), SinkFault>
-    ensures { Puts (steps_text state.now plan.now) result (K.taken out.old) (K.taken out.new) (K.faults out.old) (K.faults out.new) }
+    ensures { Puts (steps_text state.now plan.now) result (K.taken out.old) (K.taken out.new) (K.faults out.old)
+        (K.faults out.new) }
 {
     put_sets(plan.sets.as_slice(), out)?;
     put_path(b"state ", state, out)
@@ -84,7 +93,8 @@ fn put_steps_if<K: Sink>(
     steps: bool,
     out: &mut K,
 ) -> Result<(), SinkFault>
-    ensures { Puts (if steps then steps_text state.now plan.now else []) result (K.taken out.old) (K.taken out.new) (K.faults out.old) (K.faults out.new) }
+    ensures { Puts (if steps then steps_text state.now plan.now else []) result (K.taken out.old) (K.taken out.new)
+        (K.faults out.old) (K.faults out.new) }
 {
     if steps {
         put_steps(plan, state, out)
@@ -94,7 +104,8 @@ fn put_steps_if<K: Sink>(
 }
 
 fn put_plan<K: Sink>(plan: &Plan, state: &Path, steps: bool, out: &mut K) -> Result<(), SinkFault>
-    ensures { Puts (plan_text state.now steps plan.now) result (K.taken out.old) (K.taken out.new) (K.faults out.old) (K.faults out.new) }
+    ensures { Puts (plan_text state.now steps plan.now) result (K.taken out.old) (K.taken out.new) (K.faults out.old)
+        (K.faults out.new) }
 {
     put_decisions(plan.decisions.as_slice(), out)?;
     put_steps_if(plan, state, steps, out)

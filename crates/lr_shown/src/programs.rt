@@ -55,7 +55,8 @@ fn put_words<K: Sink>(words: &[Text], out: &mut K) -> Result<(), SinkFault>
 }
 
 fn put_arguments<K: Sink>(command: &Command, out: &mut K) -> Result<(), SinkFault>
-    ensures { Puts (behind_spaces (drop 3 command.now.args)) result (K.taken out.old) (K.taken out.new) (K.faults out.old) (K.faults out.new) }
+    ensures { Puts (behind_spaces (drop 3 command.now.args)) result (K.taken out.old) (K.taken out.new) (K.faults out.old)
+        (K.faults out.new) }
 {
     put_words(arguments(command), out)
 }
@@ -67,7 +68,8 @@ fn put_phase<K: Sink>(phase: Phase, out: &mut K) -> Result<(), SinkFault>
 }
 
 fn put_script<K: Sink>(phase: Phase, command: &Command, out: &mut K) -> Result<(), SinkFault>
-    ensures { Puts (script_line phase command.now) result (K.taken out.old) (K.taken out.new) (K.faults out.old) (K.faults out.new) }
+    ensures { Puts (script_line phase command.now) result (K.taken out.old) (K.taken out.new) (K.faults out.old)
+        (K.faults out.new) }
 {
     put_text(b"run ", out)?;
     put_phase(phase, out)?;
@@ -89,7 +91,8 @@ fn put_mail<K: Sink>(command: &Command, out: &mut K) -> Result<(), SinkFault>
 }
 
 fn put_command<K: Sink>(phase: Phase, command: &Command, out: &mut K) -> Result<(), SinkFault>
-    ensures { Puts (program_line phase command.now) result (K.taken out.old) (K.taken out.new) (K.faults out.old) (K.faults out.new) }
+    ensures { Puts (program_line phase command.now) result (K.taken out.old) (K.taken out.new) (K.faults out.old)
+        (K.faults out.new) }
 {
     match phase {
         Phase::Mail => put_mail(command, out),
@@ -103,7 +106,8 @@ pub fn put_program<K: Sink>(
     command: Option<&Command>,
     out: &mut K,
 ) -> Result<(), SinkFault>
-    ensures { Puts (lines_of (program phase (option_copied command.entry))) result (K.taken out.old) (K.taken out.new) (K.faults out.old) (K.faults out.new) }
+    ensures { Puts (lines_of (program phase (option_copied command.entry))) result (K.taken out.old) (K.taken out.new)
+        (K.faults out.old) (K.faults out.new) }
 {
     match command {
         Some(command) => put_command(phase, command, out),
@@ -121,7 +125,8 @@ fn put_removal<K: Sink>(file: &Removal, out: &mut K) -> Result<(), SinkFault>
 
 /// Puts the lines of the removals, in order.
 pub fn put_removals<K: Sink>(files: &[Removal], out: &mut K) -> Result<(), SinkFault>
-    ensures { Puts (lines_of (removals files.now)) result (K.taken out.old) (K.taken out.new) (K.faults out.old) (K.faults out.new) }
+    ensures { Puts (lines_of (removals files.now)) result (K.taken out.old) (K.taken out.new) (K.faults out.old)
+        (K.faults out.new) }
 {
     for file in files {
         put_removal(file, out)?;

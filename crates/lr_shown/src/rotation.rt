@@ -13,7 +13,8 @@ use lr_plan::{Job, LogPlan};
 use lr_rules::{Make, Path, Phase};
 
 fn put_moves<K: Sink>(moves: &[Move], out: &mut K) -> Result<(), SinkFault>
-    ensures { Puts (lines_of (map move moves.now)) result (K.taken out.old) (K.taken out.new) (K.faults out.old) (K.faults out.new) }
+    ensures { Puts (lines_of (map move moves.now)) result (K.taken out.old) (K.taken out.new) (K.faults out.old)
+        (K.faults out.new) }
 {
     for one in moves {
         put_pair(b"rename ", &one.from, &one.to, out)?;
@@ -22,7 +23,8 @@ fn put_moves<K: Sink>(moves: &[Move], out: &mut K) -> Result<(), SinkFault>
 }
 
 fn put_directory<K: Sink>(ready: &Ready, out: &mut K) -> Result<(), SinkFault>
-    ensures { Puts (lines_of (directory ready.now.dir)) result (K.taken out.old) (K.taken out.new) (K.faults out.old) (K.faults out.new) }
+    ensures { Puts (lines_of (directory ready.now.dir)) result (K.taken out.old) (K.taken out.new) (K.faults out.old)
+        (K.faults out.new) }
 {
     match &ready.dir {
         Some(dir) => put_path(b"mkdir ", &dir.0, out),
@@ -36,7 +38,8 @@ fn put_path_if<K: Sink>(
     path: &Path,
     out: &mut K,
 ) -> Result<(), SinkFault>
-    ensures { Puts (if wanted then path_line does.now path.now else []) result (K.taken out.old) (K.taken out.new) (K.faults out.old) (K.faults out.new) }
+    ensures { Puts (if wanted then path_line does.now path.now else []) result (K.taken out.old) (K.taken out.new)
+        (K.faults out.old) (K.faults out.new) }
 {
     if wanted {
         put_path(does, path, out)
@@ -47,7 +50,8 @@ fn put_path_if<K: Sink>(
 
 // The bytes go into the part file, and that to its final path.
 fn put_bytes<K: Sink>(job: &Job, out: &mut K) -> Result<(), SinkFault>
-    ensures { Puts (lines_of (step.Copies job.now.from job.now.part job.now.limit ∷ step.Renames job.now.part job.now.to ∷ [])) result (K.taken out.old) (K.taken out.new) (K.faults out.old) (K.faults out.new) }
+    ensures { Puts (lines_of (step.Copies job.now.from job.now.part job.now.limit ∷ step.Renames job.now.part job.now.to ∷ []))
+        result (K.taken out.old) (K.taken out.new) (K.faults out.old) (K.faults out.new) }
 {
     put_pair(b"copy ", &job.from, &job.part, out)?;
     put_pair(b"rename ", &job.part, &job.to, out)
@@ -72,14 +76,17 @@ fn put_anew<K: Sink>(make: Make, log: &Path, out: &mut K) -> Result<(), SinkFaul
 
 // The log gets its final path, and is made anew.
 fn put_move<K: Sink>(ready: &Ready, out: &mut K) -> Result<(), SinkFault>
-    ensures { Puts (lines_of (transfer ready.now.log ready.now.target None ++ made_anew ready.now.make ready.now.log None)) result (K.taken out.old) (K.taken out.new) (K.faults out.old) (K.faults out.new) }
+    ensures { Puts (lines_of (transfer ready.now.log ready.now.target None ++ made_anew ready.now.make ready.now.log None)) result
+        (K.taken out.old) (K.taken out.new) (K.faults out.old) (K.faults out.new) }
 {
     put_pair(b"rename ", &ready.log, &ready.target, out)?;
     put_anew(ready.make, &ready.log, out)
 }
 
 fn put_transfer<K: Sink>(ready: &Ready, job: Option<&Job>, out: &mut K) -> Result<(), SinkFault>
-    ensures { Puts (lines_of (transfer ready.now.log ready.now.target (option_copied job.entry) ++ made_anew ready.now.make ready.now.log (option_copied job.entry))) result (K.taken out.old) (K.taken out.new) (K.faults out.old) (K.faults out.new) }
+    ensures { Puts (lines_of (transfer ready.now.log ready.now.target (option_copied job.entry)
+        ++ made_anew ready.now.make ready.now.log (option_copied job.entry))) result (K.taken out.old) (K.taken out.new)
+        (K.faults out.old) (K.faults out.new) }
 {
     match job {
         Some(job) => put_copy(job, out),
@@ -89,7 +96,8 @@ fn put_transfer<K: Sink>(ready: &Ready, job: Option<&Job>, out: &mut K) -> Resul
 
 // What comes before the log's own way: the leftovers, the directory and the chain.
 fn put_chain<K: Sink>(ready: &Ready, out: &mut K) -> Result<(), SinkFault>
-    ensures { Puts (lines_of (removals ready.now.leftovers ++ (directory ready.now.dir ++ map move ready.now.moves))) result (K.taken out.old) (K.taken out.new) (K.faults out.old) (K.faults out.new) }
+    ensures { Puts (lines_of (removals ready.now.leftovers ++ (directory ready.now.dir ++ map move ready.now.moves))) result
+        (K.taken out.old) (K.taken out.new) (K.faults out.old) (K.faults out.new) }
 {
     put_removals(ready.leftovers.as_slice(), out)?;
     put_directory(ready, out)?;
@@ -98,7 +106,8 @@ fn put_chain<K: Sink>(ready: &Ready, out: &mut K) -> Result<(), SinkFault>
 
 /// Puts the lines of a log's rotation.
 pub fn put_rotation<K: Sink>(log: &LogPlan, out: &mut K) -> Result<(), SinkFault>
-    ensures { Puts (lines_of (rotation_of log.now)) result (K.taken out.old) (K.taken out.new) (K.faults out.old) (K.faults out.new) }
+    ensures { Puts (lines_of (rotation_of log.now)) result (K.taken out.old) (K.taken out.new) (K.faults out.old)
+        (K.faults out.new) }
 {
     put_chain(&log.ready, out)?;
     put_transfer(&log.ready, log.job.as_ref(), out)
@@ -106,7 +115,8 @@ pub fn put_rotation<K: Sink>(log: &LogPlan, out: &mut K) -> Result<(), SinkFault
 
 /// Puts the lines of its retirement.
 pub fn put_retirement<K: Sink>(log: &LogPlan, out: &mut K) -> Result<(), SinkFault>
-    ensures { Puts (lines_of (retirement_of log.now)) result (K.taken out.old) (K.taken out.new) (K.faults out.old) (K.faults out.new) }
+    ensures { Puts (lines_of (retirement_of log.now)) result (K.taken out.old) (K.taken out.new) (K.faults out.old)
+        (K.faults out.new) }
 {
     put_program(Phase::Mail, log.first_mail.as_ref(), out)?;
     put_removals(log.ready.retire.as_slice(), out)

@@ -24,4 +24,5 @@ pub record IsAttachedBetween (x : Path) (from until : Past) : Type 0 where
 
 -- the path named a regular file at the first moment; or nothing, and a writer was attached to it up to the second
 abbrev pub StoodOrCame : Path → Past → Past → Type 0
-StoodOrCame x from until = IsFileAt (names (world from)) x ⊎ ((names (world from) x ≡ thing.Nothing) × IsAttachedBetween x from until)
+StoodOrCame x from until = IsFileAt (names (world from)) x ⊎ ((names (world from) x ≡ thing.Nothing)
+    × IsAttachedBetween x from until)

@@ -23,26 +23,33 @@ ghost use Rattle.lr_sought.specs.Finds.{FindsFile, StoodOrCame};
 /// writers do meanwhile; of a literal word what stood at its one path, of any kind. Where a call fails, where a match is too
 /// long or there are too many, it gives no paths.
 pub fn all_that_stood_are_found()
-    ensures file { (p q : Past) (es : List Entry) (word : List ℕ) (room : ℕ) (found : List Found) → IsUtf8 word → IsJournal p → Made p es q → Comes word room (Ok found) (reverse es)
+    ensures file { (p q : Past) (es : List Entry) (word : List ℕ) (room : ℕ) (found : List Found) → IsUtf8 word → IsJournal p
+        → Made p es q → Comes word room (Ok found) (reverse es)
         → (x : Path) → path_fault x ≡ None → IsFileAt (names (world p)) x → WordGives word x → FindsFile x found }
-    ensures literal { (p q : Past) (es : List Entry) (word : List ℕ) (room : ℕ) (found : List Found) → is_wildcard word ≡ false → Made p es q → Comes word room (Ok found) (reverse es)
-        → path_fault (literal_path word) ≡ None → names (world p) (literal_path word) ≢ thing.Nothing → (f : Found) × (found ≡ f ∷ []) × (f.path ≡ literal_path word) }
+    ensures literal { (p q : Past) (es : List Entry) (word : List ℕ) (room : ℕ) (found : List Found) → is_wildcard word ≡ false
+        → Made p es q → Comes word room (Ok found) (reverse es)
+        → path_fault (literal_path word) ≡ None → names (world p) (literal_path word) ≢ thing.Nothing
+        → (f : Found) × (found ≡ f ∷ []) × (f.path ≡ literal_path word) }
 {}
 
 /// It finds no path but what stood as it began, or what a writer attached meanwhile: what was seen as a regular file was one
 /// then, or was nothing and got a writer; what was seen as something else was that then.
 pub fn found_stood_or_came()
-    ensures file { (p q : Past) (es : List Entry) (word : List ℕ) (room : ℕ) (found : List Found) → Made p es q → Comes word room (Ok found) (reverse es)
+    ensures file { (p q : Past) (es : List Entry) (word : List ℕ) (room : ℕ) (found : List Found) → Made p es q
+        → Comes word room (Ok found) (reverse es)
         → (f : Found) → IsIn f found → f.seen.kind ≡ kind.File → StoodOrCame f.path p q }
-    ensures directory { (p q : Past) (es : List Entry) (word : List ℕ) (room : ℕ) (found : List Found) → Made p es q → Comes word room (Ok found) (reverse es)
+    ensures directory { (p q : Past) (es : List Entry) (word : List ℕ) (room : ℕ) (found : List Found) → Made p es q
+        → Comes word room (Ok found) (reverse es)
         → (f : Found) → IsIn f found → f.seen.kind ≡ kind.Dir → IsDirectoryAt (names (world p)) f.path }
-    ensures other { (p q : Past) (es : List Entry) (word : List ℕ) (room : ℕ) (found : List Found) → Made p es q → Comes word room (Ok found) (reverse es)
+    ensures other { (p q : Past) (es : List Entry) (word : List ℕ) (room : ℕ) (found : List Found) → Made p es q
+        → Comes word room (Ok found) (reverse es)
         → (f : Found) → IsIn f found → f.seen.kind ≡ kind.Other → names (world p) f.path ≡ thing.Other }
 {}
 
 /// The paths that it finds are in order of bytes, and none of them stands twice.
 pub fn found_are_in_order()
-    ensures { (p q : Past) (es : List Entry) (word : List ℕ) (room : ℕ) (found : List Found) → Made p es q → Comes word room (Ok found) (reverse es)
+    ensures { (p q : Past) (es : List Entry) (word : List ℕ) (room : ℕ) (found : List Found) → Made p es q
+        → Comes word room (Ok found) (reverse es)
         → IsStrictlySortedBy (slice_cmp nat_cmp) (map (λ f. f.path) found) }
 {}
 

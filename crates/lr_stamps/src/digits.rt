@@ -72,7 +72,8 @@ pub fn plain_number(digits: &[u8]) -> Option<u64>
 // The seconds since 1970, before so many other bytes.
 fn epoch_digits(bytes: &[u8], after: usize) -> Option<(u64, &[u8])>
     ensures some { IfSome result (λ r. (r.0 < 1000000000000) × (bytes.now ≡ decimal r.0 ++ r.1.now) × (length r.1.now ≡ after)) }
-    ensures none { IfNone result ((n : ℕ) (rest : List ℕ) → n < 1000000000000 → length rest ≡ after → bytes.now ≢ decimal n ++ rest) }
+    ensures none { IfNone result ((n : ℕ) (rest : List ℕ) → n < 1000000000000 → length rest ≡ after
+        → bytes.now ≢ decimal n ++ rest) }
 {
     let len = bytes.len();
     if len < after {
@@ -89,8 +90,10 @@ fn epoch_digits(bytes: &[u8], after: usize) -> Option<(u64, &[u8])>
 /// The value of the field at the front of the bytes, and what is left; behind the seconds since 1970 that are so many
 /// bytes.
 pub fn read_field(field: Field, after: usize, bytes: &[u8]) -> Option<(u64, &[u8])>
-    ensures some { IfSome result (λ r. (r.0 < bound field) × (bytes.now ≡ field_text field r.0 ++ r.1.now) × IsLeft field after r.1.now) }
-    ensures none { IfNone result ((n : ℕ) (rest : List ℕ) → n < bound field → IsLeft field after rest → bytes.now ≢ field_text field n ++ rest) }
+    ensures some { IfSome result (λ r. (r.0 < bound field) × (bytes.now ≡ field_text field r.0 ++ r.1.now)
+        × IsLeft field after r.1.now) }
+    ensures none { IfNone result ((n : ℕ) (rest : List ℕ) → n < bound field → IsLeft field after rest
+        → bytes.now ≢ field_text field n ++ rest) }
 {
     match field {
         Field::Year => four_digits(bytes),

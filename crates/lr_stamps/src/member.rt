@@ -15,7 +15,8 @@ use std::alloc::Global;
 
 /// What stands in the name between the base and the extension.
 pub fn between<'a>(base: &[u8], ext: &[u8], name: &'a [u8]) -> Option<&'a [u8]>
-    ensures { MatchOption result ((middle : List ℕ) → name.now ≢ base.now ++ middle ++ ext.now) (λ middle. name.now ≡ base.now ++ middle.now ++ ext.now) }
+    ensures { MatchOption result ((middle : List ℕ) → name.now ≢ base.now ++ middle ++ ext.now)
+        (λ middle. name.now ≡ base.now ++ middle.now ++ ext.now) }
 {
     let Some(rest) = name.strip_prefix(base) else {
         return None;
@@ -129,7 +130,8 @@ fn name_of(
     clock: &Clock,
     serial: u32,
 ) -> Result<Vec<u8>, Memory>
-    ensures { IfOk result (λ name. name.items ≡ naming.now.base ++ (stamp_of format.now clock.entry.now ++ serial_text serial) ++ naming.now.ext) }
+    ensures { IfOk result (λ name. name.items ≡ naming.now.base ++ (stamp_of format.now clock.entry.now ++ serial_text serial)
+        ++ naming.now.ext) }
 {
     let mut name = Vec::new(alloc);
     name.extend_from_slice(naming.base.bytes())?;

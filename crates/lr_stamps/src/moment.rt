@@ -60,7 +60,8 @@ fn has_epoch(pieces: &[Piece]) -> bool
 
 // The seconds that these parts tell.
 fn seconds_by(pieces: &[Piece], parts: &StampParts, civil: &Civil) -> i64
-    requires civil { civil_seconds parts.now ≡ moment_seconds civil.now.year civil.now.month civil.now.day civil.now.hour civil.now.minute civil.now.second }
+    requires civil { civil_seconds parts.now ≡ moment_seconds civil.now.year civil.now.month civil.now.day civil.now.hour
+        civil.now.minute civil.now.second }
     requires small { is_in field.Epoch pieces.now ≡ true → parts.now.epoch < 1000000000000 }
     ensures { result ≡ seconds_by pieces.now parts.now }
 {

@@ -1,5 +1,6 @@
 // A stamp with its serial number, read.
-ghost use Rattle.std.specs.Prelude.{◌≡◌, ◌≢◌, ◌↔◌, ◌<◌, ◌≤◌, ◌++◌, ◌∷◌, ℤ, ℕ, List, true, false, Some, decimal, IfSome, IfNone, MatchOption};
+ghost use Rattle.std.specs.Prelude.{◌≡◌, ◌≢◌, ◌↔◌, ◌<◌, ◌≤◌, ◌++◌, ◌∷◌, ℤ, ℕ, List, true, false, Some, decimal, IfSome, IfNone};
+ghost use Rattle.std.specs.Prelude.{MatchOption};
 ghost use Rattle.std.specs.List.{list_any};
 ghost use Rattle.lr_rules.specs.Limits.{is_format};
 ghost use Rattle.lr_stamps.specs.Asked.{AreApart};
@@ -12,7 +13,8 @@ use lr_rules::{Format, Piece};
 
 // What stands before the last dot and behind it.
 fn split_last(bytes: &[u8]) -> Option<(&[u8], &[u8])>
-    ensures { MatchOption result ((front end : List ℕ) → bytes.now ≢ front ++ 46 ∷ end) (λ r. (bytes.now ≡ r.0.now ++ 46 ∷ r.1.now) × (list_any is_dot r.1.now ≡ false)) }
+    ensures { MatchOption result ((front end : List ℕ) → bytes.now ≢ front ++ 46 ∷ end)
+        (λ r. (bytes.now ≡ r.0.now ++ 46 ∷ r.1.now) × (list_any is_dot r.1.now ≡ false)) }
 {
     let mut at = bytes.len();
     while at > 0 {

@@ -1,5 +1,6 @@
 // The table of a state file.
-ghost use Rattle.std.specs.Prelude.{◌≡◌, ◌<◌, ◌≤◌, ◌^◌, ◌-◌, ℕ, List, [], filter, not, Bool, true, ◌||◌, ◌++◌, ◌∷◌, OnOk, OnErr, IsSome, IsOk, IsTrue, Some, Ok, length, take, min, slice_get};
+ghost use Rattle.std.specs.Prelude.{◌≡◌, ◌<◌, ◌≤◌, ◌^◌, ◌-◌, ℕ, List, [], filter, not, Bool, true, ◌||◌, ◌++◌, ◌∷◌, OnOk, OnErr};
+ghost use Rattle.std.specs.Prelude.{IsSome, IsOk, IsTrue, Some, Ok, length, take, min, slice_get};
 ghost use Rattle.lr_state.specs.Grammar.{TextSays};
 ghost use Rattle.lr_state.specs.Table.{Entry, moment_of, put, is_name, is_old, is_table, IsNameTest};
 ghost use Rattle.lr_state.specs.Written.{line_of, text_of};

@@ -77,7 +77,8 @@ fn add_logs(
 
 // Adds the rotations of all logs, a postrotate, and their retirements.
 fn add_shared_logs(alloc: Global, steps: &mut Vec<Step>, set: &SetPlan) -> Result<(), Memory>
-    ensures { OnOk result (steps.new.items ≡ steps.old.items ++ (flat_map rotation_of set.now.logs ++ (program phase.Post set.now.post ++ flat_map retirement_of set.now.logs))) }
+    ensures { OnOk result (steps.new.items ≡ steps.old.items
+        ++ (flat_map rotation_of set.now.logs ++ (program phase.Post set.now.post ++ flat_map retirement_of set.now.logs))) }
 {
     let mut rest = Vec::new(alloc);
     add_logs(alloc, steps, &mut rest, set.logs.as_slice())?;
@@ -87,7 +88,9 @@ fn add_shared_logs(alloc: Global, steps: &mut Vec<Step>, set: &SetPlan) -> Resul
 
 // Adds the same, and a lastaction.
 fn add_shared_rest(alloc: Global, steps: &mut Vec<Step>, set: &SetPlan) -> Result<(), Memory>
-    ensures { OnOk result (steps.new.items ≡ steps.old.items ++ (flat_map rotation_of set.now.logs ++ (program phase.Post set.now.post ++ (flat_map retirement_of set.now.logs ++ program phase.Last set.now.last)))) }
+    ensures { OnOk result (steps.new.items ≡ steps.old.items
+        ++ (flat_map rotation_of set.now.logs ++ (program phase.Post set.now.post
+        ++ (flat_map retirement_of set.now.logs ++ program phase.Last set.now.last)))) }
 {
     add_shared_logs(alloc, steps, set)?;
     add_program(alloc, steps, Phase::Last, &set.last)
@@ -95,7 +98,8 @@ fn add_shared_rest(alloc: Global, steps: &mut Vec<Step>, set: &SetPlan) -> Resul
 
 // Adds the programs before all rotations.
 fn add_programs(alloc: Global, steps: &mut Vec<Step>, set: &SetPlan) -> Result<(), Memory>
-    ensures { OnOk result (steps.new.items ≡ steps.old.items ++ (program phase.First set.now.first ++ program phase.Pre set.now.pre)) }
+    ensures { OnOk result (steps.new.items ≡ steps.old.items
+        ++ (program phase.First set.now.first ++ program phase.Pre set.now.pre)) }
 {
     add_program(alloc, steps, Phase::First, &set.first)?;
     add_program(alloc, steps, Phase::Pre, &set.pre)

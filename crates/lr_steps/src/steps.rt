@@ -2,7 +2,8 @@
 ghost use Rattle.std.specs.Prelude.{◌≡◌, ◌∷◌, ◌++◌, [], None, map, slice_index_or, option_copied, OnOk, IfOk};
 ghost use Rattle.lr_rules.specs.declared.fault.Phase.TheVariants as phase;
 ghost use Rattle.lr_plan.specs.declared.step.Step.TheVariants as step;
-ghost use Rattle.lr_plan.specs.Steps.{input_of, on_of, program, removal, removals, directory, move, copy, transfer, made_anew, rotation, retirement, step_if};
+ghost use Rattle.lr_plan.specs.Steps.{input_of, on_of, program, removal, removals, directory, move, copy, transfer, made_anew};
+ghost use Rattle.lr_plan.specs.Steps.{rotation, retirement, step_if};
 
 use lr_chain::{Move, Ready};
 use lr_commands::text_of;
@@ -119,7 +120,8 @@ fn add_directory(
 
 // Adds the steps before a copy's bytes are read.
 fn add_part_file(alloc: Global, steps: &mut Vec<Step>, job: &Job) -> Result<(), Memory>
-    ensures { OnOk result (steps.new.items ≡ steps.old.items ++ (step_if job.now.stale (step.Removes job.now.part) ++ step.Takes job.now.part job.now.mode ∷ [])) }
+    ensures { OnOk result (steps.new.items ≡ steps.old.items
+        ++ (step_if job.now.stale (step.Removes job.now.part) ++ step.Takes job.now.part job.now.mode ∷ [])) }
 {
     if job.stale {
         steps.push(Step::Removes {
@@ -147,7 +149,9 @@ fn add_cut(alloc: Global, steps: &mut Vec<Step>, job: &Job) -> Result<(), Memory
 
 // Adds the steps behind them.
 fn add_final_name(alloc: Global, steps: &mut Vec<Step>, job: &Job) -> Result<(), Memory>
-    ensures { OnOk result (steps.new.items ≡ steps.old.items ++ (step.SyncsFile job.now.part ∷ step.Renames job.now.part job.now.to ∷ step.SyncsDir job.now.dir ∷ step_if job.now.cut (step.Truncates job.now.from))) }
+    ensures { OnOk result (steps.new.items ≡ steps.old.items
+        ++ (step.SyncsFile job.now.part ∷ step.Renames job.now.part job.now.to ∷ step.SyncsDir job.now.dir ∷ step_if job.now.cut
+        (step.Truncates job.now.from))) }
 {
     steps.push(Step::SyncsFile {
         path: job.part.copy(alloc)?,
@@ -188,7 +192,9 @@ fn add_transfer(
     ready: &Ready,
     job: &Option<Job>,
 ) -> Result<(), Memory>
-    ensures { OnOk result (steps.new.items ≡ steps.old.items ++ (transfer ready.now.log ready.now.target job.now ++ (step.Rotated ready.now.log ∷ made_anew ready.now.make ready.now.log job.now))) }
+    ensures { OnOk result (steps.new.items ≡ steps.old.items
+        ++ (transfer ready.now.log ready.now.target job.now ++ (step.Rotated ready.now.log ∷ made_anew ready.now.make ready.now.log
+        job.now))) }
 {
     match job {
         Some(job) => {
@@ -226,7 +232,8 @@ fn add_anew(alloc: Global, steps: &mut Vec<Step>, log: &Path, make: Make) -> Res
 
 // Adds what comes before the log's own way: the leftovers, the directory and the chain.
 fn add_chain(alloc: Global, steps: &mut Vec<Step>, ready: &Ready) -> Result<(), Memory>
-    ensures { OnOk result (steps.new.items ≡ steps.old.items ++ (removals ready.now.leftovers ++ (directory ready.now.dir ++ map move ready.now.moves))) }
+    ensures { OnOk result (steps.new.items ≡ steps.old.items
+        ++ (removals ready.now.leftovers ++ (directory ready.now.dir ++ map move ready.now.moves))) }
 {
     add_removals(alloc, steps, ready.leftovers.as_slice())?;
     add_directory(alloc, steps, &ready.dir)?;

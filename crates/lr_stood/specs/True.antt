@@ -1,4 +1,5 @@
--- Looks that are true of the disk: what stood at the first moment is among what they saw, and nothing else is but what came up to the second.
+-- Looks that are true of the disk: what stood at the first moment is among what they saw, and nothing else is but what came up to
+-- the second.
 use Rattle.std.specs.Prelude.{◌≡◌, ◌≢◌, ℕ, false, List, [], ◌∷◌, Some, None, Ok, slice_get}
 use Rattle.lr_rules.specs.declared.path.Path.{Path}
 use Rattle.lr_rules.specs.declared.rule.Naming.{Naming}
@@ -25,7 +26,9 @@ pub record IsTrueWord (w : Word) (matches : List Match) (before behind : Past) :
   -- each regular file that the word gives and that stood
   pub files : (x : Path) → path_fault x ≡ None → IsFileAt (names (world before)) x → WordGives w.text x → FindsFile x matches
   -- of a literal word whatever stood at its one path
-  pub literal : is_wildcard w.text ≡ false → path_fault (literal_path w.text) ≡ None → names (world before) (literal_path w.text) ≢ thing.Nothing → (m : Match) × (matches ≡ m ∷ []) × (m.path ≡ literal_path w.text)
+  pub literal : is_wildcard w.text ≡ false → path_fault (literal_path w.text) ≡ None
+      → names (world before) (literal_path w.text) ≢ thing.Nothing
+      → (m : Match) × (matches ≡ m ∷ []) × (m.path ≡ literal_path w.text)
   -- each file among them stood, or a writer was attached to its path since
   pub came : (m : Match) → IsIn m matches → m.seen.kind ≡ kind.File → StoodOrCame m.path before behind
 
@@ -42,8 +45,10 @@ pub record IsTrueFamily (n : Naming) (stand : Stand) (before behind : Past) : Ty
   pub member_came : (m : Member) → IsIn m stand.members → StoodOrCame m.path before behind
   pub part_came : (x : Path) → IsIn x stand.parts → StoodOrCame x before behind
 
--- So is what looks came to, by what they saw at the words of these rules, and by the logs that they looked at whole: at each word, and at each family, that no fault passed over.
+-- So is what looks came to, by what they saw at the words of these rules, and by the logs that they looked at whole: at each word,
+-- and at each family, that no fault passed over.
 pub record AreTrue (rules : List Rule) (sights : List WordSight) (sets : List SetLooks) (before behind : Past) : Type 0 where
   pub words : (place : ℕ) (w : Word) (matches : List Match) → slice_get (asked_by rules) place ≡ Some w
       → slice_get sights place ≡ Some (Ok matches) → IsTrueWord w matches before behind
-  pub families : (set : SetLooks) (look : LogLook) → IsIn set sets → IsIn look set.logs → IsTrueFamily look.family.naming look.stand before behind
+  pub families : (set : SetLooks) (look : LogLook) → IsIn set sets → IsIn look set.logs
+      → IsTrueFamily look.family.naming look.stand before behind

@@ -17,7 +17,9 @@ ghost use Rattle.lr_stood.specs.True.{AreTrue};
 /// the word over; so was each member, numbered or dated, of a log that is kept, and each part file of a member; and nothing
 /// else but what a writer was attached to meanwhile.
 pub fn looks_are_true()
-    ensures { (reserved : List Path) (rules : Rules) (sets : List SetLooks) (faults : List Fault) (front ts es : List Entry) (p q : Past)
-        → (s : ShowsLooks reserved rules.sets sets faults ts) → IsJournal p → Made p es q → reverse es ≡ front ++ ts → AreQuiet front
+    ensures { (reserved : List Path) (rules : Rules) (sets : List SetLooks) (faults : List Fault) (front ts es : List Entry)
+        (p q : Past)
+        → (s : ShowsLooks reserved rules.sets sets faults ts) → IsJournal p → Made p es q → reverse es ≡ front ++ ts
+        → AreQuiet front
         → AreTrue rules.sets s.entries.first.sights sets p q }
 {}

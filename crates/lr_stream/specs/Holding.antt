@@ -1,5 +1,6 @@
 -- What a stream holds: the bytes that were given and aren't taken yet, and where they stand among all that were given.
-use Rattle.std.specs.Prelude.{◌≡◌, ◌⊎◌, ◌+◌, ◌-◌, ◌≤◌, ◌<◌, ◌^◌, ℕ, Bool, true, false, List, [], ◌∷◌, ◌++◌, length, drop, Option, Some, None, Result, Ok, Err}
+use Rattle.std.specs.Prelude.{◌≡◌, ◌⊎◌, ◌+◌, ◌-◌, ◌≤◌, ◌<◌, ◌^◌, ℕ, Bool, true, false, List, [], ◌∷◌, ◌++◌, length, drop, Option}
+use Rattle.std.specs.Prelude.{Some, None, Result, Ok, Err}
 use Rattle.lr_lex.specs.declared.item.Item.{Item}
 use Rattle.lr_lex.specs.declared.item.LexFault.{LexFault}
 use Rattle.lr_lex.specs.declared.item.LexKind.TheVariants as kind
@@ -82,7 +83,8 @@ pub record HasPushed (old new : Held) : Type 0 where
 
 abbrev pub PushesLine : {E : Type 0} → Held → Held → Result (Unit {0}) E → Type 0
 PushesLine old new (Ok x) = HasPushed old new
-PushesLine old new (Err e) = (new.bytes.items ≡ old.bytes.items) × (new.begun ≡ old.begun) × (new.lines ≡ old.lines) × (new.rest.items ≡ old.rest.items) × (new.from ≡ old.from) × (new.down ≡ old.down) × (new.at ≡ old.at)
+PushesLine old new (Err e) = (new.bytes.items ≡ old.bytes.items) × (new.begun ≡ old.begun) × (new.lines ≡ old.lines)
+    × (new.rest.items ≡ old.rest.items) × (new.from ≡ old.from) × (new.down ≡ old.down) × (new.at ≡ old.at)
 
 -- the bytes and the newline behind them are taken
 pub record Passes (old new : Held) (lines : ℕ) : Type 0 where

@@ -11,7 +11,8 @@ use Rattle.lr_stream.specs.Holding.{IsHeld, coming, rest_of, size_of}
 abbrev pub Stands : Stream → Type 0
 Stands s = IsHeld s.held
 
--- the items and faults that are still to come, where these bytes follow: those of all bytes given and these, less what was given back
+-- the items and faults that are still to come, where these bytes follow: those of all bytes given and these, less what was given
+-- back
 abbrev pub still : Stream → List ℕ → List Told
 still s more = coming s.held more
 
@@ -24,13 +25,18 @@ abbrev pub MayFollow : Bool → List ℕ → Type 0
 MayFollow true more = more ≡ []
 MayFollow false more = Unit {0}
 
--- nothing is whole: behind the close nothing is left; before it all bytes were looked at, and are the whole lines of a script that hasn't ended, if one has begun, and a line without its newline
+-- nothing is whole: behind the close nothing is left; before it all bytes were looked at, and are the whole lines of a script that
+-- hasn't ended, if one has begun, and a line without its newline
 abbrev pub HasNone : Stream → Bool → Type 0
 HasNone s true = still s [] ≡ []
 HasNone s false = rest_of s.held ≡ []
 
--- The answer is the first that was to come, whatever follows, and the others are still to come; none where nothing is whole; after want of memory all is still to come.
+-- The answer is the first that was to come, whatever follows, and the others are still to come; none where nothing is whole; after
+-- want of memory all is still to come.
 abbrev pub Gives : Stream → Stream → Result (Option Item) LexFault → Type 0
-Gives old new (Ok None) = ((more : List ℕ) → MayFollow old.closed more → still old more ≡ still new more) × HasNone new old.closed × (new.closed ≡ old.closed)
-Gives old new (Ok (Some i)) = ((more : List ℕ) → MayFollow old.closed more → still old more ≡ Ok i ∷ still new more) × (new.closed ≡ old.closed)
-Gives old new (Err f) = ByKind f.kind ((more : List ℕ) → MayFollow old.closed more → still old more ≡ still new more) ((more : List ℕ) → MayFollow old.closed more → still old more ≡ Err f ∷ still new more) × (new.closed ≡ old.closed)
+Gives old new (Ok None) = ((more : List ℕ) → MayFollow old.closed more → still old more ≡ still new more) × HasNone new old.closed
+    × (new.closed ≡ old.closed)
+Gives old new (Ok (Some i)) = ((more : List ℕ) → MayFollow old.closed more → still old more ≡ Ok i ∷ still new more)
+    × (new.closed ≡ old.closed)
+Gives old new (Err f) = ByKind f.kind ((more : List ℕ) → MayFollow old.closed more → still old more ≡ still new more)
+    ((more : List ℕ) → MayFollow old.closed more → still old more ≡ Err f ∷ still new more) × (new.closed ≡ old.closed)

@@ -9,11 +9,13 @@ use Rattle.lr_lex.specs.Items.{Told, said, is_end, items_from}
 
 -- The bytes are these lines, each with its newline: whatever comes behind them begins a line.
 abbrev pub AreLines : ℕ → ℕ → List ℕ → List Line → Type 0
-AreLines number at bytes ls = (more : List ℕ) → lines number at (bytes ++ more) ≡ ls ++ lines (number + length ls) (at + length bytes) more
+AreLines number at bytes ls = (more : List ℕ) → lines number at (bytes ++ more) ≡ ls
+    ++ lines (number + length ls) (at + length bytes) more
 
 -- The bytes tell this alone, whatever comes behind them.
 abbrev pub Tell : ℕ → ℕ → List ℕ → ℕ → List Told → Type 0
-Tell number at bytes count ts = (more : List ℕ) → items_from number at (bytes ++ more) ≡ ts ++ items_from (number + count) (at + length bytes) more
+Tell number at bytes count ts = (more : List ℕ) → items_from number at (bytes ++ more) ≡ ts
+    ++ items_from (number + count) (at + length bytes) more
 
 -- no script begins behind a line that says this
 abbrev pub IsPlainSaid : Said → Type 0

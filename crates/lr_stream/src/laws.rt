@@ -9,15 +9,20 @@ ghost use Rattle.lr_stream.specs.Whole.{IsPlainSaid, IsScriptBegun, Tell};
 
 /// A text that stands further on has the same items, so many lines and bytes further on.
 pub fn items_move()
-    ensures { (number at down by : ℕ) (text : List ℕ) → items_from (number + down) (at + by) text ≡ map (moved down by) (items_from number at text) }
+    ensures { (number at down by : ℕ) (text : List ℕ) → items_from (number + down) (at + by) text
+        ≡ map (moved down by) (items_from number at text) }
 {}
 
 /// What a line with its newline tells, or a script with the line that ends it, it tells whatever comes behind; and what
 /// comes behind tells as much as where it stands alone.
 pub fn whole_lines_tell()
-    ensures line { (number at : ℕ) (line : List ℕ) (s : Said) → has_line line ≡ false → said (line_at number at line) ≡ s → IsPlainSaid s → Tell number at (line ++ 10 ∷ []) 1 (told number s []) }
-    ensures script { (number at : ℕ) (bytes : List ℕ) (count : ℕ) (line : List ℕ) (b : IsScriptBegun number at bytes count) → has_line line ≡ false → ((m a : ℕ) → is_end (line_at m a line) ≡ true)
-        → Tell number at (bytes ++ (line ++ 10 ∷ [])) (count + 1) (script b.first.number b.word b.brace b.stray (script_text b.others) true ∷ []) }
-    ensures goes_on { (number at : ℕ) (bytes : List ℕ) (count : ℕ) (line : List ℕ) → IsScriptBegun number at bytes count → has_line line ≡ false → ((m a : ℕ) → is_end (line_at m a line) ≡ false)
+    ensures line { (number at : ℕ) (line : List ℕ) (s : Said) → has_line line ≡ false → said (line_at number at line) ≡ s
+        → IsPlainSaid s → Tell number at (line ++ 10 ∷ []) 1 (told number s []) }
+    ensures script { (number at : ℕ) (bytes : List ℕ) (count : ℕ) (line : List ℕ) (b : IsScriptBegun number at bytes count)
+        → has_line line ≡ false → ((m a : ℕ) → is_end (line_at m a line) ≡ true)
+        → Tell number at (bytes ++ (line ++ 10 ∷ [])) (count + 1)
+        (script b.first.number b.word b.brace b.stray (script_text b.others) true ∷ []) }
+    ensures goes_on { (number at : ℕ) (bytes : List ℕ) (count : ℕ) (line : List ℕ) → IsScriptBegun number at bytes count
+        → has_line line ≡ false → ((m a : ℕ) → is_end (line_at m a line) ≡ false)
         → IsScriptBegun number at (bytes ++ (line ++ 10 ∷ [])) (count + 1) }
 {}

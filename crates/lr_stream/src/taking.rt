@@ -1,7 +1,8 @@
 // The bytes of a stream, line by line.
 ghost use Rattle.std.specs.Prelude.{◌≡◌, ◌≤◌, ◌<◌, ◌+◌, ◌-◌, ◌^◌, ◌++◌, ◌∷◌, [], ℕ, List, true, false, length, IfOk, OnOk, OnErr};
 ghost use Rattle.lr_lex.specs.Items.{items};
-ghost use Rattle.lr_stream.specs.Holding.{IsHeld, IsSame, Came, Brings, FirstOf, Filled, BeginsLine, EndsScript, PushesLine, Passes, TellsNext, rest_of, size_of};
+ghost use Rattle.lr_stream.specs.Holding.{IsHeld, IsSame, Came, Brings, FirstOf, Filled, BeginsLine, EndsScript, PushesLine};
+ghost use Rattle.lr_stream.specs.Holding.{Passes, TellsNext, rest_of, size_of};
 ghost use Rattle.lr_stream.specs.Whole.{IsScriptBegun};
 ghost use Rattle.lr_stream.specs.Moved.{moved_item, moved_fault, IsNearItem};
 

@@ -48,7 +48,8 @@ is_unmade to_make made dir = list_any (bytes_eq dir) to_make && not (list_any (b
 
 -- ---- what is synced
 
--- These directories are synced behind acts that left these marks: those of all paths that the plan changes or makes, each once, in order of bytes, without those that were to be made and weren't.
+-- These directories are synced behind acts that left these marks: those of all paths that the plan changes or makes, each once, in
+-- order of bytes, without those that were to be made and weren't.
 pub record AreSynced (sets : List SetPlan) (marks : List Mark) (dirs : List Path) : Type 0 where
   pub all : List Path
   pub are : AreDirectoriesOf (all_changed_of sets ++ all_to_make_of sets) all

@@ -11,7 +11,8 @@ use std::alloc::Global;
 use std::collections::BTreeSet;
 
 fn add_dir(alloc: Global, unmade: &mut BTreeSet<String>, dir: &Path) -> Result<(), Memory>
-    ensures { OnOk result ((path : List ℕ) → contains_text unmade.new path ≡ (contains_text unmade.old path || bytes_eq path dir.now)) }
+    ensures { OnOk result ((path : List ℕ) → contains_text unmade.new path
+        ≡ (contains_text unmade.old path || bytes_eq path dir.now)) }
 {
     let text = String::from_str(alloc, dir.as_str())?;
     unmade.insert(text)?;
@@ -31,7 +32,8 @@ pub fn set_of(alloc: Global, dirs: &[Path]) -> Result<BTreeSet<String>, Memory>
 
 // Strikes the directory of which the mark tells, if any.
 fn strike(unmade: &mut BTreeSet<String>, mark: &Mark)
-    ensures { (path : List ℕ) → contains_text unmade.new path ≡ (contains_text unmade.old path && not (list_any (bytes_eq path) (made_by mark.now))) }
+    ensures { (path : List ℕ) → contains_text unmade.new path
+        ≡ (contains_text unmade.old path && not (list_any (bytes_eq path) (made_by mark.now))) }
 {
     if let Mark::Directory(dir) = mark {
         unmade.remove(dir.as_str());
@@ -40,7 +42,8 @@ fn strike(unmade: &mut BTreeSet<String>, mark: &Mark)
 
 /// Strikes the directories of which marks tell.
 pub fn strike_all(unmade: &mut BTreeSet<String>, marks: &[Mark])
-    ensures { (path : List ℕ) → contains_text unmade.new path ≡ (contains_text unmade.old path && not (list_any (bytes_eq path) (made_in marks.now))) }
+    ensures { (path : List ℕ) → contains_text unmade.new path
+        ≡ (contains_text unmade.old path && not (list_any (bytes_eq path) (made_in marks.now))) }
 {
     for mark in marks {
         strike(unmade, mark);

@@ -21,8 +21,10 @@ fn with_name(
     logs: &[Family],
 ) -> Option<Standing>
     requires { All (λ f. f.naming.dated ≡ None) logs.now }
-    ensures files { IfSome result (λ after. (sets : List LogSet) → AreSetsOf (logs_of logs.now) sets → after.files ≡ before.files + count_one sets name.now) }
-    ensures bytes { IfSome result (λ after. (sets : List LogSet) (w : World) → AreSetsOf (logs_of logs.now) sets → Shows replay.now w → names w name.now.0 ≡ name.now.1 → after.bytes ≡ before.bytes + bytes_one w sets name.now) }
+    ensures files { IfSome result (λ after. (sets : List LogSet) → AreSetsOf (logs_of logs.now) sets
+        → after.files ≡ before.files + count_one sets name.now) }
+    ensures bytes { IfSome result (λ after. (sets : List LogSet) (w : World) → AreSetsOf (logs_of logs.now) sets
+        → Shows replay.now w → names w name.now.0 ≡ name.now.1 → after.bytes ≡ before.bytes + bytes_one w sets name.now) }
 {
     if !is_of_one(logs, &name.0) {
         return Some(before);
@@ -38,7 +40,8 @@ fn with_name(
 /// The files that stand.
 pub fn count_files(replay: &Replay, logs: &[Family]) -> Result<Standing, Memory>
     requires { All (λ f. f.naming.dated ≡ None) logs.now }
-    ensures { IfOk result (λ standing. (sets : List LogSet) (p : Past) → AreSetsOf (logs_of logs.now) sets → Shows replay.now (world p) → IsStanding sets p standing) }
+    ensures { IfOk result (λ standing. (sets : List LogSet) (p : Past) → AreSetsOf (logs_of logs.now) sets
+        → Shows replay.now (world p) → IsStanding sets p standing) }
 {
     let named = replay.named();
     let mut standing = Standing { files: 0, bytes: 0 };

@@ -15,7 +15,8 @@ use lr_rules::{Memory, Path};
 
 /// Marks each file that a log names.
 pub fn mark_logs(marks: &mut Vec<bool>, replay: &Replay, logs: &[Family]) -> Result<(), Memory>
-    ensures { OnOk result ((w : World) → Shows replay.now w → (g : ℕ) → is_marked marks.new.items g ≡ (is_marked marks.old.items g || is_a_log w logs.now g)) }
+    ensures { OnOk result ((w : World) → Shows replay.now w → (g : ℕ)
+        → is_marked marks.new.items g ≡ (is_marked marks.old.items g || is_a_log w logs.now g)) }
 {
     for log in logs {
         mark(marks, replay.thing(log.log()))?;
@@ -26,7 +27,8 @@ pub fn mark_logs(marks: &mut Vec<bool>, replay: &Replay, logs: &[Family]) -> Res
 // Marks the file that the path names, if it is a log or a member.
 fn mark_name(marks: &mut Vec<bool>, name: &(Path, Thing), logs: &[Family]) -> Result<(), Memory>
     requires { All (λ f. f.naming.dated ≡ None) logs.now }
-    ensures { OnOk result ((sets : List LogSet) → AreSetsOf (logs_of logs.now) sets → (g : ℕ) → is_marked marks.new.items g ≡ (is_marked marks.old.items g || (in_one sets name.now.0 && is_file name.now.1 g))) }
+    ensures { OnOk result ((sets : List LogSet) → AreSetsOf (logs_of logs.now) sets → (g : ℕ)
+        → is_marked marks.new.items g ≡ (is_marked marks.old.items g || (in_one sets name.now.0 && is_file name.now.1 g))) }
 {
     if !is_of_one(logs, &name.0) {
         return Ok(());
@@ -42,7 +44,8 @@ pub fn mark_names(
     logs: &[Family],
 ) -> Result<(), Memory>
     requires { All (λ f. f.naming.dated ≡ None) logs.now }
-    ensures { OnOk result ((sets : List LogSet) → AreSetsOf (logs_of logs.now) sets → (g : ℕ) → is_marked marks.new.items g ≡ (is_marked marks.old.items g || is_of_logs sets named.now g)) }
+    ensures { OnOk result ((sets : List LogSet) → AreSetsOf (logs_of logs.now) sets → (g : ℕ)
+        → is_marked marks.new.items g ≡ (is_marked marks.old.items g || is_of_logs sets named.now g)) }
 {
     for name in named {
         mark_name(marks, name, logs)?;

@@ -44,7 +44,8 @@ fn turns_log(entry: &Entry, log: &Family) -> bool
 fn turn(turning: &mut Turning, entry: &Entry, log: &Family)
     requires numbered { log.now.naming.dated ≡ None }
     requires room { turning.old.count < 18446744073709551615 }
-    ensures turning { (s : LogSet) (p : Past) → IsSetOf (log.now.log, log.now.naming) s → IsTurning s p turning.old → IsTurning s (p ▸ entry.now) turning.new }
+    ensures turning { (s : LogSet) (p : Past) → IsSetOf (log.now.log, log.now.naming) s → IsTurning s p turning.old
+        → IsTurning s (p ▸ entry.now) turning.new }
     ensures bound { turning.new.count ≤ turning.old.count + 1 }
 {
     if starts(entry) {
@@ -64,7 +65,8 @@ fn turn(turning: &mut Turning, entry: &Entry, log: &Family)
 // How many times runs began the rotation of the log.
 fn rotations_of(entries: &[Entry], log: &Family) -> u64
     requires { log.now.naming.dated ≡ None }
-    ensures { (o : Opening) (s : LogSet) → IsSetOf (log.now.log, log.now.naming) s → result ≡ rotations s (then (Opens o) entries.now) }
+    ensures { (o : Opening) (s : LogSet) → IsSetOf (log.now.log, log.now.naming) s
+        → result ≡ rotations s (then (Opens o) entries.now) }
 {
     let mut turning = Turning {
         begun: false,
@@ -79,7 +81,8 @@ fn rotations_of(entries: &[Entry], log: &Family) -> u64
 /// How many times runs began the rotation of one of the logs.
 pub fn begun_of(entries: &[Entry], logs: &[Family]) -> Result<u64, Memory>
     requires { All (λ f. f.naming.dated ≡ None) logs.now }
-    ensures { IfOk result (λ sum. (o : Opening) (sets : List LogSet) → AreSetsOf (logs_of logs.now) sets → sum ≡ begun_in sets (then (Opens o) entries.now)) }
+    ensures { IfOk result (λ sum. (o : Opening) (sets : List LogSet) → AreSetsOf (logs_of logs.now) sets
+        → sum ≡ begun_in sets (then (Opens o) entries.now)) }
 {
     let mut sum: u64 = 0;
     for log in logs {

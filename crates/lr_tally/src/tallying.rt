@@ -31,7 +31,8 @@ fn look_at_paths(logs: &[Family])
 // What stands at the end of the walk, and how many generations are gone.
 fn end_of(walk: &mut Walk, logs: &[Family]) -> Result<(Standing, u64), Memory>
     requires { All (λ f. f.naming.dated ≡ None) logs.now }
-    ensures { IfOk result (λ end. (sets : List LogSet) (p : Past) → AreSetsOf (logs_of logs.now) sets → IsWalk sets p walk.old → IsStanding sets p end.0 × AreGone sets p end.1) }
+    ensures { IfOk result (λ end. (sets : List LogSet) (p : Past) → AreSetsOf (logs_of logs.now) sets → IsWalk sets p walk.old
+        → IsStanding sets p end.0 × AreGone sets p end.1) }
 {
     let standing = count_files(&walk.replay, logs)?;
     let released = count_gone(walk);

@@ -42,7 +42,8 @@ fn renames(entry: &Entry) -> bool
 fn begin(alloc: Global, opening: &Opening, logs: &[Family]) -> Result<Walk, Memory>
     requires valid { IsValid opening.now }
     requires numbered { All (λ f. f.naming.dated ≡ None) logs.now }
-    ensures { IfOk result (λ walk. (sets : List LogSet) → AreSetsOf (logs_of logs.now) sets → IsWalk sets (Opens opening.now) walk) }
+    ensures { IfOk result (λ walk. (sets : List LogSet) → AreSetsOf (logs_of logs.now) sets
+        → IsWalk sets (Opens opening.now) walk) }
 {
     let mut walk = Walk {
         replay: Replay::new(alloc, opening)?,
@@ -54,7 +55,8 @@ fn begin(alloc: Global, opening: &Opening, logs: &[Family]) -> Result<Walk, Memo
 
 // Goes one entry on.
 fn follow(walk: &mut Walk, entry: &Entry, logs: &[Family]) -> Result<(), Memory>
-    ensures { OnOk result ((sets : List LogSet) (p : Past) → AreSetsOf (logs_of logs.now) sets → IsWalk sets p walk.old → IsWalk sets (p ▸ entry.now) walk.new) }
+    ensures { OnOk result ((sets : List LogSet) (p : Past) → AreSetsOf (logs_of logs.now) sets → IsWalk sets p walk.old
+        → IsWalk sets (p ▸ entry.now) walk.new) }
 {
     walk.replay.follow(entry)?;
     if !renames(entry) {

@@ -5,7 +5,8 @@ use Rattle.lr_copy.specs.declared.job.Job.{Job}
 use Rattle.lr_copy.specs.Copying.{cutting}
 use Rattle.lr_copied.specs.Whole.{Named}
 
--- A copy by this job stands among these entries, one entry behind another, with the truncation of the log where the job asks for that.
+-- A copy by this job stands among these entries, one entry behind another, with the truncation of the log where the job asks for
+-- that.
 pub record CopyStands (job : Job) (ts : List Entry) : Type 0 where
   pub before : List Entry
   pub named : List Entry

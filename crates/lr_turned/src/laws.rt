@@ -26,5 +26,6 @@ pub fn copied_log_rotates()
         (x : Target) (job : Job) → AreQuiet reads → IsIn x t.turns.targets → x.job ≡ Some job → IsOfMembers x.naming (rotation_by x)
         → ((y : Path) → IsIn y (job.part ∷ paths_beside state x t.turns.targets) → IsNoMember x.naming y)
         → CopyStands job t.turns.acts → EmptiesCopied (IsSameFor job) t.turns.acts
-        → RotatesAmong (paths_beside state x t.turns.targets) x.naming (rotation_by x) (reads ++ Starts state clock.now rules ∷ tail) }
+        → RotatesAmong (paths_beside state x t.turns.targets) x.naming (rotation_by x)
+        (reads ++ Starts state clock.now rules ∷ tail) }
 {}

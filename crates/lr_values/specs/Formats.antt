@@ -1,5 +1,6 @@
 -- Formats of dates.
-use Rattle.std.specs.Prelude.{◌≡◌, ℕ, ◌==◌, Bool, true, false, List, [], ◌∷◌, ◌++◌, Option, Some, None, Result, Ok, Err, if◌then◌else◌}
+use Rattle.std.specs.Prelude.{◌≡◌, ℕ, ◌==◌, Bool, true, false, List, [], ◌∷◌, ◌++◌, Option, Some, None, Result, Ok, Err}
+use Rattle.std.specs.Prelude.{if◌then◌else◌}
 use Rattle.lr_rules.specs.declared.fault.ConfKind.{ConfKind}
 use Rattle.lr_rules.specs.declared.fault.ConfKind.TheVariants as kind
 use Rattle.lr_rules.specs.declared.rule.Back.TheVariants as back
@@ -47,7 +48,8 @@ pieces_from true (b ∷ bs) = behind_percent b (field_of b) (pieces_from false b
 
 -- the format that the word says: its pieces, where they are one
 unfoldable pub format_value : List ℕ → Result (List Piece) ConfKind
-format_value word = let pieces = pieces_from false word in if is_format (record { pieces = pieces; back = back.Now; serial = false }) then Ok pieces else Err kind.BadFormat
+format_value word = let pieces = pieces_from false word in if is_format
+    (record { pieces = pieces; back = back.Now; serial = false }) then Ok pieces else Err kind.BadFormat
 
 -- ---- pieces
 

@@ -21,7 +21,8 @@ pub record IsOpen (t : Taking) : Type 0 where
 
 -- the bytes tell the same, whatever follows
 abbrev pub Keeps : Taking → Taking → Type 0
-Keeps old new = (more : List ℕ) → MayFollow old.stream.closed more → old.told.items ++ still old.stream more ≡ new.told.items ++ still new.stream more
+Keeps old new = (more : List ℕ) → MayFollow old.stream.closed more
+    → old.told.items ++ still old.stream more ≡ new.told.items ++ still new.stream more
 
 -- these bytes followed
 abbrev pub Adds : Taking → Taking → List ℕ → Type 0
@@ -29,9 +30,12 @@ Adds old new piece = (more : List ℕ) → old.told.items ++ still old.stream (p
 
 -- what a read brought, where there is room for so many bytes
 abbrev pub Brings : Taking → Taking → ℕ → List ℕ → Option TextEnd → Type 0
-Brings old new room piece None = IsOpen new × (new.size ≤ room) × (old.size < new.size) × (new.size ≡ old.size + length piece) × Adds old new piece
-Brings old new room piece (Some end.Whole) = (piece ≡ []) × (new.size ≡ old.size) × (new.told.items ≡ old.told.items ++ still old.stream [])
-Brings old new room piece (Some end.TooMany) = IsOpen new × (room < new.size) × (new.size ≡ old.size + length piece) × Adds old new (take (room - old.size) piece)
+Brings old new room piece None = IsOpen new × (new.size ≤ room) × (old.size < new.size) × (new.size ≡ old.size + length piece)
+    × Adds old new piece
+Brings old new room piece (Some end.Whole) = (piece ≡ []) × (new.size ≡ old.size)
+    × (new.told.items ≡ old.told.items ++ still old.stream [])
+Brings old new room piece (Some end.TooMany) = IsOpen new × (room < new.size) × (new.size ≡ old.size + length piece)
+    × Adds old new (take (room - old.size) piece)
 Brings old new room piece (Some end.Failed) = ⊥
 
 -- these bytes were read of the path from its first byte on, by reads of at most 65,536 bytes that gave some each

@@ -68,9 +68,11 @@ fn read_on<H: Host>(
     requires buffer { 0 < length buffer.old }
     requires short { length buffer.old ≤ 65536 }
     requires file { Can (H.told host.old) (entry.Reads path.now 0 []) }
-    ensures told { IfOk result (λ how. (before : Option Journal) → TookFrom path.now taking.old before (H.told host.old) → GoesOn path.now room taking.new before (H.told host.new) how) }
+    ensures told { IfOk result (λ how. (before : Option Journal) → TookFrom path.now taking.old before (H.told host.old)
+        → GoesOn path.now room taking.new before (H.told host.new) how) }
     ensures more { result ≡ Ok None → IsOpen taking.new × (taking.new.size ≤ room) × (taking.old.size < taking.new.size) }
-    ensures lacking { OnErr result ((before : Option Journal) → TookFrom path.now taking.old before (H.told host.old) → Left (PartText path.now room) before (H.told host.new)) }
+    ensures lacking { OnErr result ((before : Option Journal) → TookFrom path.now taking.old before (H.told host.old)
+        → Left (PartText path.now room) before (H.told host.new)) }
     ensures only { Left (Each (IsShortReadOf path.now)) (H.told host.old) (H.told host.new) }
     ensures cause { result ≡ Ok (Some end.Failed) → Rose (H.counts host.old).faults (H.counts host.new).faults }
     ensures counts { Onward (H.counts host.old) (H.counts host.new) }
@@ -98,7 +100,8 @@ pub fn read_pieces<H: Host>(
     requires short { length buffer.old ≤ 65536 }
     requires file { Can (H.told host.old) (entry.Reads path.now 0 []) }
     requires begun { TookFrom path.now taking.old (H.told host.old) (H.told host.old) }
-    ensures told { IfOk result (λ how. Left (ShowsText path.now room taking.new.told.items taking.new.size how) (H.told host.old) (H.told host.new)) }
+    ensures told { IfOk result (λ how. Left (ShowsText path.now room taking.new.told.items taking.new.size how) (H.told host.old)
+        (H.told host.new)) }
     ensures lacking { OnErr result (Left (PartText path.now room) (H.told host.old) (H.told host.new)) }
     ensures cause { result ≡ Ok end.Failed → Rose (H.counts host.old).faults (H.counts host.new).faults }
     ensures counts { Onward (H.counts host.old) (H.counts host.new) }

@@ -1,5 +1,6 @@
 // What the bytes of a file tell, as they are read.
-ghost use Rattle.std.specs.Prelude.{◌≡◌, ◌≤◌, ◌<◌, ◌+◌, ◌-◌, ◌^◌, ◌∷◌, ◌++◌, [], ℕ, List, true, false, Ok, take, length, IfOk, OnOk};
+ghost use Rattle.std.specs.Prelude.{◌≡◌, ◌≤◌, ◌<◌, ◌+◌, ◌-◌, ◌^◌, ◌∷◌, ◌++◌, [], ℕ, List, true, false, Ok, take, length, IfOk};
+ghost use Rattle.std.specs.Prelude.{OnOk};
 ghost use Rattle.lr_lex.specs.Items.{items};
 ghost use Rattle.lr_stream.specs.Streams.{Stands, still, given, HasNone};
 ghost use Rattle.lr_visits.specs.Taken.{IsOpen, Keeps, Adds};

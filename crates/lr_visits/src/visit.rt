@@ -2,7 +2,8 @@
 ghost use Rattle.std.specs.Prelude.{◌≡◌, ◌<◌, ◌+◌, ◌^◌, [], Some, IfOk, OnErr};
 ghost use Rattle.lr_host.specs.declared.entry.Entry.TheVariants as entry;
 ghost use Rattle.lr_host.specs.Told.{Left, Are, Can, Onward, Rose};
-ghost use Rattle.lr_visits.specs.Visits.{ShowsNames, ShowsBytes, ShowsDir, ShowsFile, ShowsVisit, IsRead, HasRoom, HasFailed, PartText, PartFile, PartVisit};
+ghost use Rattle.lr_visits.specs.Visits.{ShowsNames, ShowsBytes, ShowsDir, ShowsFile, ShowsVisit, IsRead, HasRoom, HasFailed};
+ghost use Rattle.lr_visits.specs.Visits.{PartText, PartFile, PartVisit};
 
 use crate::listing::list_rising;
 use crate::look::{Sight, look_at};

@@ -16,7 +16,8 @@ use Rattle.lr_plan.specs.declared.plan.LogPlan.{LogPlan}
 use Rattle.lr_plan.specs.declared.plan.SetPlan.{SetPlan}
 use Rattle.lr_laws_targets.specs.Target.{Target}
 
--- The rotation of the log has names for all its members, numbers or dates, and its calls fit where the calls are now; and the log can be made anew.
+-- The rotation of the log has names for all its members, numbers or dates, and its calls fit where the calls are now; and the log
+-- can be made anew.
 pub record IsFit (told : Option Journal) (t : Target) : Type 0 where
   pub names : HasNames t
   pub fits : CanCalls told (calls_of t)
@@ -55,7 +56,8 @@ abbrev pub ReadThemselves : List Removal → Type 0
 ReadThemselves [] = Unit {0}
 ReadThemselves (r ∷ rs) = ReadsNothing r.preremove × ReadsThis r.path r.mail × ReadThemselves rs
 
--- Of the programs of a log a mail alone reads a file: of a removal the file that is removed, and the mail of the first file the log's final path.
+-- Of the programs of a log a mail alone reads a file: of a removal the file that is removed, and the mail of the first file the
+-- log's final path.
 pub record ReadsOwn (log : LogPlan) : Type 0 where
   pub pre : ReadsNothing log.pre
   pub post : ReadsNothing log.post
@@ -67,7 +69,8 @@ abbrev pub ReadOwn : List LogPlan → Type 0
 ReadOwn [] = Unit {0}
 ReadOwn (log ∷ logs) = ReadsOwn log × ReadOwn logs
 
--- None of the programs of the definition reads a file but the mail of a removed one, which reads that, and the mail of the first file, which reads the log's final path.
+-- None of the programs of the definition reads a file but the mail of a removed one, which reads that, and the mail of the first
+-- file, which reads the log's final path.
 pub record SetReadsOwn (set : SetPlan) : Type 0 where
   pub first : ReadsNothing set.first
   pub pre : ReadsNothing set.pre

@@ -20,7 +20,8 @@ takes_name (entry.Renames from to) = true
 takes_name (entry.Unlinks x) = true
 takes_name _ = false
 
--- the change by which a step takes names, if any; the making of a log or of a directory isn't one, since it is left out where that is there
+-- the change by which a step takes names, if any; the making of a log or of a directory isn't one, since it is left out where that
+-- is there
 abbrev pub change_of : Step → List Entry
 change_of step = filter takes_name (asks step)
 

@@ -15,7 +15,8 @@ bare_removal r = record { path = r.path; preremove = None; mail = None }
 abbrev pub bare : Ready → Ready
 bare ready = with_removals (map bare_removal ready.leftovers) (map bare_removal ready.retire) ready
 
--- The rotation of the log is ready, and its copy, where it is copied; and they are what the plan does with it, besides the programs.
+-- The rotation of the log is ready, and its copy, where it is copied; and they are what the plan does with it, besides the
+-- programs.
 pub record IsReadyFor (t : Target) (log : LogPlan) : Type 0 where
   pub log_is : t.ready.log ≡ t.log
   pub job : HasJob t

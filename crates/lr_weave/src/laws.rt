@@ -38,20 +38,25 @@ pub fn ready_is_planned()
 
 /// Behind looks that saw its logs, the acts of a planned plan leave the entries of a run that rotates them, whatever failed.
 pub fn acts_turn_all()
-    ensures { (state : Path) (clock : Clock) (rules : Rules) (looks : List Entry) (targets : List Target) (sets : List SetSteps) (marks : List Mark) (faults : List Fault) (ts : List Entry)
-        → AreQuiet looks → AreLogsSeen rules clock looks targets → ArePlanned targets sets → SetsDone sets marks faults ts → AllTurnsBy state clock rules (looks ++ ts) }
+    ensures { (state : Path) (clock : Clock) (rules : Rules) (looks : List Entry) (targets : List Target) (sets : List SetSteps)
+        (marks : List Mark) (faults : List Fault) (ts : List Entry)
+        → AreQuiet looks → AreLogsSeen rules clock looks targets → ArePlanned targets sets → SetsDone sets marks faults ts
+        → AllTurnsBy state clock rules (looks ++ ts) }
 {}
 
 /// So they do as far as they came where there was no memory to run a program.
 pub fn cut_acts_turn_all()
-    ensures { (state : Path) (clock : Clock) (rules : Rules) (looks : List Entry) (targets : List Target) (sets : List SetSteps) (marks : List Mark) (faults : List Fault) (ts : List Entry)
-        → AreQuiet looks → AreLogsSeen rules clock looks targets → ArePlanned targets sets → SetsCut sets marks faults ts → AllTurnsBy state clock rules (looks ++ ts) }
+    ensures { (state : Path) (clock : Clock) (rules : Rules) (looks : List Entry) (targets : List Target) (sets : List SetSteps)
+        (marks : List Mark) (faults : List Fault) (ts : List Entry)
+        → AreQuiet looks → AreLogsSeen rules clock looks targets → ArePlanned targets sets → SetsCut sets marks faults ts
+        → AllTurnsBy state clock rules (looks ++ ts) }
 {}
 
 /// Behind looks that saw the logs, the rotation of each fits by itself, whatever writers did meanwhile, and on a disk the log
 /// can be made anew, since what stood there stood in a directory.
 pub fn seen_is_fit()
-    ensures { (rules : Rules) (clock : Clock) (targets : List Target) (before now : Option Journal) → HaveNames targets → HaveLogPaths targets → WhereTold before IsJournal
+    ensures { (rules : Rules) (clock : Clock) (targets : List Target) (before now : Option Journal) → HaveNames targets
+        → HaveLogPaths targets → WhereTold before IsJournal
         → Left (λ ts. AreQuiet ts × AreLogsSeen rules clock ts targets) before now → AreFit now targets }
 {}
 
@@ -65,8 +70,10 @@ pub fn ready_can_be_made()
 
 /// Acts without a fault rotate each log of the plan whole.
 pub fn whole_acts_turn_all()
-    ensures { (state : Path) (clock : Clock) (rules : Rules) (looks : List Entry) (targets : List Target) (sets : List SetPlan) (marks : List Mark) (ts : List Entry)
-        → AreQuiet looks → AreLogsSeen rules clock looks targets → ArePlanned targets (map steps_of_set sets) → SetsDone (map steps_of_set sets) marks [] ts
+    ensures { (state : Path) (clock : Clock) (rules : Rules) (looks : List Entry) (targets : List Target) (sets : List SetPlan)
+        (marks : List Mark) (ts : List Entry)
+        → AreQuiet looks → AreLogsSeen rules clock looks targets → ArePlanned targets (map steps_of_set sets)
+        → SetsDone (map steps_of_set sets) marks [] ts
         → AllTurnedBy state clock rules (looks ++ ts) }
 {}
 

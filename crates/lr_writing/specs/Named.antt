@@ -4,7 +4,8 @@ use Rattle.lr_rules.specs.declared.path.Path.{Path}
 use Rattle.lr_rules.specs.Path.{parent_of}
 use Rattle.lr_rules.specs.StatePath.{state_part}
 use Rattle.lr_host.specs.declared.entry.Entry.{Entry}
-use Rattle.lr_host.specs.declared.entry.Entry.TheVariants.{Renames, Makes, Appends, Truncates, Unlinks, SyncsFile, SyncsDir, MakesDir}
+use Rattle.lr_host.specs.declared.entry.Entry.TheVariants.{Renames, Makes, Appends, Truncates, Unlinks, SyncsFile, SyncsDir}
+use Rattle.lr_host.specs.declared.entry.Entry.TheVariants.{MakesDir}
 use Rattle.lr_host.specs.Told.{Each, Maybe}
 use Rattle.lr_plan.specs.Appending.{Appended}
 
@@ -18,11 +19,13 @@ Spares x (Unlinks y) = y ≢ x
 Spares x (MakesDir y mode) = y ≢ x
 Spares x _ = Unit {0}
 
--- Behind these entries the part file has the text, durably, and the name changes in the directories are durable: an old file was unlinked or there was none; then the new one was made, got the text in pieces, and was synced; and each directory was.
+-- Behind these entries the part file has the text, durably, and the name changes in the directories are durable: an old file was
+-- unlinked or there was none; then the new one was made, got the text in pieces, and was synced; and each directory was.
 pub record IsReady (state : Path) (dirs : List Path) (text : List ℕ) (before : List Entry) : Type 0 where
   pub cleared : List Entry
   pub pieces : List Entry
-  pub before_is : before ≡ cleared ++ (Makes (state_part state) (Some 416) ∷ (pieces ++ (SyncsFile (state_part state) ∷ map SyncsDir dirs)))
+  pub before_is : before ≡ cleared ++ (Makes (state_part state) (Some 416) ∷
+      (pieces ++ (SyncsFile (state_part state) ∷ map SyncsDir dirs)))
   pub cleared_is : Maybe (Unlinks (state_part state)) cleared
   pub text_is : Appended (state_part state) text pieces
 
@@ -33,7 +36,9 @@ pub record IsNamed (state : Path) (dirs : List Path) (text : List ℕ) (ts : Lis
   pub ready : IsReady state dirs text before
   pub spared : Each (Spares state) before
 
--- The state's path was spared; or one entry touches it, the rename of a part file that was ready, and behind it comes the sync of the directory, if anything.
+-- The state's path was spared; or one entry touches it, the rename of a part file that was ready, and behind it comes the sync of
+-- the directory, if anything.
 pub data NamedLast (state : Path) (dirs : List Path) (text : List ℕ) (ts : List Entry) : Type 0 where
   not_named : Each (Spares state) ts → NamedLast state dirs text ts
-  named : (before after : List Entry) → ts ≡ before ++ (Renames (state_part state) state ∷ after) → IsReady state dirs text before → Each (Spares state) before → Maybe (SyncsDir (parent_of state)) after → NamedLast state dirs text ts
+  named : (before after : List Entry) → ts ≡ before ++ (Renames (state_part state) state ∷ after) → IsReady state dirs text before
+      → Each (Spares state) before → Maybe (SyncsDir (parent_of state)) after → NamedLast state dirs text ts

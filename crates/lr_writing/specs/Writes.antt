@@ -40,8 +40,10 @@ pub record ComesTo (steps : List Step) (faults : List Fault) (told later : Optio
   pub onward : Onward counted counts
   pub next : faults ≡ [] → (rest : List Step) → CanMake told (steps ++ rest) → CanMake later rest
 
--- The steps were made, up to one that failed; its fault was added, with its cause: the counts tell of a failed call, and a path that is told as taken was named.
-pub record AddsCourse (steps : List Step) (before now : List Fault) (told later : Option Journal) (counted counts : Counts) : Type 0 where
+-- The steps were made, up to one that failed; its fault was added, with its cause: the counts tell of a failed call, and a path
+-- that is told as taken was named.
+pub record AddsCourse (steps : List Step) (before now : List Fault) (told later : Option Journal)
+    (counted counts : Counts) : Type 0 where
   pub added : List Fault
   pub now_is : now ≡ before ++ added
   pub entries : Left (Writes steps added) told later

@@ -13,16 +13,19 @@ ghost use Rattle.lr_writing.specs.Named.{IsNamed, NamedLast};
 /// Whatever the steps of the writing left, whole or broken off: the state's path is touched by one rename alone, and
 /// before that the part file was made, got the whole text and was synced, and each of the directories was synced.
 pub fn state_is_named_last()
-    ensures { (state : Path) (stale : Bool) (dirs : List Path) (text : List ℕ) (faults : List Fault) (ts : List Entry) → Course (state_steps state stale dirs text) [] faults ts → NamedLast state dirs text ts }
+    ensures { (state : Path) (stale : Bool) (dirs : List Path) (text : List ℕ) (faults : List Fault) (ts : List Entry)
+        → Course (state_steps state stale dirs text) [] faults ts → NamedLast state dirs text ts }
 {}
 
 /// Where no step failed, the state's path has the new file, and that is durable.
 pub fn whole_writing_names_state()
-    ensures { (state : Path) (stale : Bool) (dirs : List Path) (text : List ℕ) (ts : List Entry) → Course (state_steps state stale dirs text) [] [] ts → IsNamed state dirs text ts }
+    ensures { (state : Path) (stale : Bool) (dirs : List Path) (text : List ℕ) (ts : List Entry)
+        → Course (state_steps state stale dirs text) [] [] ts → IsNamed state dirs text ts }
 {}
 
 /// What `write_state` asks for holds where the state's directory and the others stand, the state's path is that of a file
 /// or free, and the old part file that was seen is still there, whatever writers do.
 pub fn writing_fits()
-    ensures { (told : Option Journal) (state : Path) (stale : Bool) (dirs : List Path) (text : List ℕ) → CanBegin told state stale dirs → CanMake told (state_steps state stale dirs text) }
+    ensures { (told : Option Journal) (state : Path) (stale : Bool) (dirs : List Path) (text : List ℕ)
+        → CanBegin told state stale dirs → CanMake told (state_steps state stale dirs text) }
 {}

@@ -10,7 +10,8 @@ use lr_rules::{CallKind, Fault, Listed, Path};
 // Makes the name changes in a directory durable.
 fn sync_one<H: Host>(host: &mut H, dir: Path) -> Result<(), Fault>
     requires { CanMake (H.told host.old) (step.SyncsDir dir ∷ []) }
-    ensures { ComesTo (step.SyncsDir dir ∷ []) (faults_in result) (H.told host.old) (H.told host.new) (H.counts host.old) (H.counts host.new) }
+    ensures { ComesTo (step.SyncsDir dir ∷ []) (faults_in result) (H.told host.old) (H.told host.new) (H.counts host.old)
+        (H.counts host.new) }
 {
     match host.sync_dir(&dir) {
         Ok(()) => Ok(()),
@@ -21,7 +22,8 @@ fn sync_one<H: Host>(host: &mut H, dir: Path) -> Result<(), Fault>
 // Makes the name changes in these directories durable, in order, up to a failed call.
 fn sync_all<H: Host>(host: &mut H, dirs: Listed<Path>) -> Result<(), Fault>
     requires { CanMake (H.told host.old) (map step.SyncsDir dirs) }
-    ensures { ComesTo (map step.SyncsDir dirs) (faults_in result) (H.told host.old) (H.told host.new) (H.counts host.old) (H.counts host.new) }
+    ensures { ComesTo (map step.SyncsDir dirs) (faults_in result) (H.told host.old) (H.told host.new) (H.counts host.old)
+        (H.counts host.new) }
 {
     for dir in dirs.into_vec() {
         sync_one(host, dir)?;
@@ -32,7 +34,8 @@ fn sync_all<H: Host>(host: &mut H, dirs: Listed<Path>) -> Result<(), Fault>
 // Gives the part file the state's path.
 fn rename_part<H: Host>(host: &mut H, part: Path, state: &Path) -> Result<(), Fault>
     requires { CanMake (H.told host.old) (step.Renames part state.now ∷ []) }
-    ensures { ComesTo (step.Renames part state.now ∷ []) (faults_in result) (H.told host.old) (H.told host.new) (H.counts host.old) (H.counts host.new) }
+    ensures { ComesTo (step.Renames part state.now ∷ []) (faults_in result) (H.told host.old) (H.told host.new) (H.counts host.old)
+        (H.counts host.new) }
 {
     match host.rename(&part, state) {
         Ok(()) => Ok(()),
@@ -43,7 +46,8 @@ fn rename_part<H: Host>(host: &mut H, part: Path, state: &Path) -> Result<(), Fa
 // Gives the part file the state's path, and makes that durable.
 fn name_state<H: Host>(host: &mut H, part: Path, state: &Path, dir: Path) -> Result<(), Fault>
     requires { CanMake (H.told host.old) (name_steps part state.now dir) }
-    ensures { ComesTo (name_steps part state.now dir) (faults_in result) (H.told host.old) (H.told host.new) (H.counts host.old) (H.counts host.new) }
+    ensures { ComesTo (name_steps part state.now dir) (faults_in result) (H.told host.old) (H.told host.new) (H.counts host.old)
+        (H.counts host.new) }
 {
     rename_part(host, part, state)?;
     sync_one(host, dir)
@@ -58,7 +62,8 @@ pub fn name_synced<H: Host>(
     dirs: Listed<Path>,
 ) -> Result<(), Fault>
     requires { CanMake (H.told host.old) (map step.SyncsDir dirs ++ name_steps part state dir) }
-    ensures { ComesTo (map step.SyncsDir dirs ++ name_steps part state dir) (faults_in result) (H.told host.old) (H.told host.new) (H.counts host.old) (H.counts host.new) }
+    ensures { ComesTo (map step.SyncsDir dirs ++ name_steps part state dir) (faults_in result) (H.told host.old) (H.told host.new)
+        (H.counts host.old) (H.counts host.new) }
 {
     sync_all(host, dirs)?;
     name_state(host, part, &state, dir)

@@ -25,7 +25,8 @@ pub fn fault_at(path: Path, why: Refused) -> Fault
 // Unlinks an old file, where one was seen.
 fn clear_part<H: Host>(host: &mut H, part: &Path, stale: bool) -> Result<(), Refused>
     requires { CanMake (H.told host.old) (step_if stale (step.Removes part.now)) }
-    ensures { ComesTo (step_if stale (step.Removes part.now)) (refusal part.now result) (H.told host.old) (H.told host.new) (H.counts host.old) (H.counts host.new) }
+    ensures { ComesTo (step_if stale (step.Removes part.now)) (refusal part.now result) (H.told host.old) (H.told host.new)
+        (H.counts host.old) (H.counts host.new) }
 {
     if !stale {
         return Ok(());
@@ -39,7 +40,8 @@ fn clear_part<H: Host>(host: &mut H, part: &Path, stale: bool) -> Result<(), Ref
 // Makes the file, which its owner may read and write, and its group may read.
 fn take_part<H: Host>(host: &mut H, part: &Path) -> Result<(), Refused>
     requires { CanMake (H.told host.old) (step.Takes part.now (Some 416) ∷ []) }
-    ensures { ComesTo (step.Takes part.now (Some 416) ∷ []) (refusal part.now result) (H.told host.old) (H.told host.new) (H.counts host.old) (H.counts host.new) }
+    ensures { ComesTo (step.Takes part.now (Some 416) ∷ []) (refusal part.now result) (H.told host.old) (H.told host.new)
+        (H.counts host.old) (H.counts host.new) }
 {
     match host.make_new(part, Some(0o640)) {
         Ok(true) => Ok(()),
@@ -57,7 +59,8 @@ fn fill_part<H: Host>(
 ) -> Result<(), Refused>
     requires fits { CanMake (H.told host.old) (step.Appends part.now (text_of table.now) ∷ []) }
     requires size { length buffer.old ≡ 65_536 }
-    ensures { ComesTo (step.Appends part.now (text_of table.now) ∷ []) (refusal part.now result) (H.told host.old) (H.told host.new) (H.counts host.old) (H.counts host.new) }
+    ensures { ComesTo (step.Appends part.now (text_of table.now) ∷ []) (refusal part.now result) (H.told host.old) (H.told host.new)
+        (H.counts host.old) (H.counts host.new) }
 {
     match append_table(host, part, table, buffer) {
         Ok(()) => Ok(()),
@@ -68,7 +71,8 @@ fn fill_part<H: Host>(
 // Makes its bytes durable.
 fn sync_part<H: Host>(host: &mut H, part: &Path) -> Result<(), Refused>
     requires { CanMake (H.told host.old) (step.SyncsFile part.now ∷ []) }
-    ensures { ComesTo (step.SyncsFile part.now ∷ []) (refusal part.now result) (H.told host.old) (H.told host.new) (H.counts host.old) (H.counts host.new) }
+    ensures { ComesTo (step.SyncsFile part.now ∷ []) (refusal part.now result) (H.told host.old) (H.told host.new)
+        (H.counts host.old) (H.counts host.new) }
 {
     match host.sync_file(part) {
         Ok(()) => Ok(()),
@@ -87,7 +91,8 @@ pub fn write_part<H: Host>(
 ) -> Result<(), Refused>
     requires fits { CanMake (H.told host.old) (part_steps part.now stale (text_of table.now)) }
     requires size { length buffer.old ≡ 65_536 }
-    ensures { ComesTo (part_steps part.now stale (text_of table.now)) (refusal part.now result) (H.told host.old) (H.told host.new) (H.counts host.old) (H.counts host.new) }
+    ensures { ComesTo (part_steps part.now stale (text_of table.now)) (refusal part.now result) (H.told host.old) (H.told host.new)
+        (H.counts host.old) (H.counts host.new) }
 {
     clear_part(host, part, stale)?;
     take_part(host, part)?;

@@ -40,7 +40,8 @@ fn make_room<H: Host>(
     requires file { Can (H.told host.old) (entry.Appends path.now []) }
     requires size { length buffer.now ≡ 65_536 }
     requires bound { held ≤ 65_536 }
-    ensures told { IfOk result (λ left. HoldsBack path.now (take held buffer.now) (take left buffer.now) (H.told host.old) (H.told host.new)) }
+    ensures told { IfOk result (λ left. HoldsBack path.now (take held buffer.now) (take left buffer.now) (H.told host.old)
+        (H.told host.new)) }
     ensures room { IfOk result (λ left. left + 8448 ≤ 65_536) }
     ensures broke { OnErr result (Left (WriteBroke path.now (take held buffer.now)) (H.told host.old) (H.told host.new)) }
     ensures cause { OnErr result (Rose (H.counts host.old).faults (H.counts host.new).faults) }

@@ -21,7 +21,8 @@ fn make_all<H: Host>(
     table: &State,
 ) -> Result<(), Fault>
     requires { CanMake (H.told host.old) (state_steps writing.state writing.stale dirs (text_of table.now)) }
-    ensures { ComesTo (state_steps writing.state writing.stale dirs (text_of table.now)) (faults_in result) (H.told host.old) (H.told host.new) (H.counts host.old) (H.counts host.new) }
+    ensures { ComesTo (state_steps writing.state writing.stale dirs (text_of table.now)) (faults_in result) (H.told host.old)
+        (H.told host.new) (H.counts host.old) (H.counts host.new) }
 {
     let Writing {
         part,
@@ -59,7 +60,8 @@ pub fn write_state<H: Host>(
 )
     requires fits { CanMake (H.told host.old) (state_steps writing.state writing.stale dirs (text_of table.now)) }
     requires room { vec_len faults.old + 1 ≤ vec_capacity faults.old }
-    ensures told { AddsCourse (state_steps writing.state writing.stale dirs (text_of table.now)) faults.old.items faults.new.items (H.told host.old) (H.told host.new) (H.counts host.old) (H.counts host.new) }
+    ensures told { AddsCourse (state_steps writing.state writing.stale dirs (text_of table.now)) faults.old.items faults.new.items
+        (H.told host.old) (H.told host.new) (H.counts host.old) (H.counts host.new) }
     ensures few { vec_len faults.new ≤ vec_len faults.old + 1 }
     ensures room { vec_capacity faults.old ≤ vec_capacity faults.new }
 {

@@ -42,7 +42,8 @@ fn part_bytes(alloc: Global, state: &Path) -> Result<Vec<u8>, AllocError>
 /// The path of the file that a state is first written to: that of the state, with `.tmp` behind it. A refusal is that of
 /// `Path::new` for these bytes; so it is `TooLong` for a state whose path has more than 4,092 bytes.
 pub fn part_of(alloc: Global, state: &Path) -> Result<Path, PathFault>
-    ensures { MatchResult result (λ path. (path ≡ state_part state.now) × (path_fault (state_part state.now) ≡ None)) (IsRefusal (path_fault (state_part state.now))) }
+    ensures { MatchResult result (λ path. (path ≡ state_part state.now) × (path_fault (state_part state.now) ≡ None))
+        (IsRefusal (path_fault (state_part state.now))) }
 {
     match part_bytes(alloc, state) {
         Ok(bytes) => Path::new(alloc, bytes.as_slice()),

@@ -24,7 +24,9 @@ use Rattle.lr_forms.specs.Says.{line_of, closes, said}
 use Rattle.lr_fields.specs.Fields.{last_or}
 use Rattle.lr_fields.specs.Rules.{rule_of}
 use Rattle.lr_fields.specs.Scripts.{script_fault}
-use Rattle.lr_conf.specs.Meaning.{Line, file_of, Read, Spoiled, End, Cut, Past, stands, spoiled, file_ends, breaks_off, Meaning, ◌and◌, nothing, told, conf, list_of, of_line, of_spoilt, opened, or_line, past, ends, notice_of, notice_past, line_faults, fault_of, said_behind, asks, asked, bans, after_bans, banned}
+use Rattle.lr_conf.specs.Meaning.{Line, file_of, Read, Spoiled, End, Cut, Past, stands, spoiled, file_ends, breaks_off, Meaning}
+use Rattle.lr_conf.specs.Meaning.{◌and◌, nothing, told, conf, list_of, of_line, of_spoilt, opened, or_line, past, ends, notice_of}
+use Rattle.lr_conf.specs.Meaning.{notice_past, line_faults, fault_of, said_behind, asks, asked, bans, after_bans, banned}
 use Rattle.lr_conf.specs.Stops.{faults_of, include_of}
 use Rattle.lr_fields.specs.Setting.{default_fields, with_set}
 
@@ -88,7 +90,8 @@ with_said s (says.Bad k) = record s { place = Dropped }
 with_said s v = s
 
 abbrev pub good : State → Line → State
-good s (Read file i) = if closes i then record s { place = Outside; words = []; first = None; fields = default_fields } else with_said s (said true i)
+good s (Read file i) = if closes i then record s { place = Outside; words = []; first = None; fields = default_fields } else
+    with_said s (said true i)
 good s (Spoiled f) = record s { place = Dropped }
 good s (End file) = left s
 good s Cut = left s
@@ -153,7 +156,14 @@ abbrev pub kept : List Rule → List Notice → Meaning
 kept rules notices = record { rules = rules; notices = notices; faults = [] }
 
 abbrev pub state_of : Draft → State
-state_of k = record { place = k.place; defaults = k.defaults; words = k.words.items; first = k.first; fields = k.fields; scripts = k.scripts.items }
+state_of k = record {
+  place = k.place;
+  defaults = k.defaults;
+  words = k.words.items;
+  first = k.first;
+  fields = k.fields;
+  scripts = k.scripts.items;
+}
 
 -- what is kept, and what lines give from then on
 abbrev pub coming_from : Draft → List Line → Meaning
@@ -198,7 +208,8 @@ Steps old new file e (Err fault) = Stepped old new e (faults_of file fault) (inc
 abbrev pub TookIn : Draft → Draft → Path → Line → Result (Option Include) LayerStop → Type 0
 TookIn old new file e (Ok include) = (lines : List Line) → coming_from old (e ∷ lines) ≡ coming_from new lines
 TookIn old new file e (Err stop.Memory) = (lines : List Line) → coming_from new lines ≡ coming_from old lines
-TookIn old new file e (Err fault) = (lines : List Line) → coming_from old (e ∷ lines) ≡ (told (faults_of file fault) and coming_from new lines)
+TookIn old new file e (Err fault) = (lines : List Line) → coming_from old (e ∷ lines)
+    ≡ (told (faults_of file fault) and coming_from new lines)
 
 -- the file for which the answer asks is that of the line
 abbrev pub AsksIn : Draft → Draft → Line → Result (Option Include) LayerStop → Type 0
@@ -288,7 +299,8 @@ pub record Settled (old : Draft) (new : Draft) (brace : Bool) : Type 0 where
   pub rest : SameRest old new
 
 -- a line with this fault, which leaves pending names, was taken in
-pub record Aside (old : Draft) (new : Draft) (at : ℕ) (brace : Bool) (k : ConfKind) (r : Result (Option Include) LayerStop) : Type 0 where
+pub record Aside (old : Draft) (new : Draft) (at : ℕ) (brace : Bool) (k : ConfKind)
+    (r : Result (Option Include) LayerStop) : Type 0 where
   pub state : state_of new ≡ turned brace None (state_of old)
   pub rest : SameRest old new
   pub answer : r ≡ Err (stop.Conf at k)

@@ -1,12 +1,14 @@
 // What the calls have in common.
-ghost use Rattle.std.specs.Prelude.{◌≡◌, ◌≢◌, ◌≤◌, ◌⊎◌, ◌↔◌, ◌∷◌, [], true, false, Some, None, IsTrue, IsErr, OnErr, OnOk, IfOk, Ok, drop};
+ghost use Rattle.std.specs.Prelude.{◌≡◌, ◌≢◌, ◌≤◌, ◌⊎◌, ◌↔◌, ◌∷◌, [], true, false, Some, None, IsTrue, IsErr, OnErr, OnOk, IfOk};
+ghost use Rattle.std.specs.Prelude.{Ok, drop};
 ghost use Rattle.lr_rules.specs.declared.fault.Ended.{Ended};
 ghost use Rattle.lr_host.specs.declared.entry.Entry.{Entry};
 ghost use Rattle.lr_host.specs.declared.thing.Thing.TheVariants as thing;
 ghost use Rattle.lr_host.specs.World.{world, past, names};
 ghost use Rattle.lr_host.specs.Told.{Onward, Rose, Are, Did, DidWhere, Can};
 ghost use Rattle.lr_memhost.specs.How.{idles};
-ghost use Rattle.lr_memhost.specs.Acts.{counts_of, how_at, one_more, first_end, is_bad, after_end, IsFree, Starved, Unraised, Turned, IsSure, IsMaking};
+ghost use Rattle.lr_memhost.specs.Acts.{counts_of, how_at, one_more, first_end, is_bad, after_end, IsFree, Starved, Unraised};
+ghost use Rattle.lr_memhost.specs.Acts.{Turned, IsSure, IsMaking};
 ghost use Rattle.lr_memhost.specs.Calm.{StaysCalm};
 ghost use Rattle.lr_memhost.specs.declared.act.How.TheVariants as way;
 
@@ -107,7 +109,8 @@ impl MemHost {
         ensures only { OnErr result ((how ≢ None) ⊎ Starved self.old self.new) }
         ensures listed { how ≢ None → IsErr result }
         ensures nothing { idles how ≡ true → Turned (Are []) self.old self.new }
-        ensures effect { (e : Entry) → IfOk entry (λ x. x ≡ e) → how ≡ Some way.WithEffect → Turned (Are (e ∷ [])) self.old self.new ⊎ Starved self.old self.new }
+        ensures effect { (e : Entry) → IfOk entry (λ x. x ≡ e) → how ≡ Some way.WithEffect
+            → Turned (Are (e ∷ [])) self.old self.new ⊎ Starved self.old self.new }
         ensures steady { OnOk result (Unraised self.old self.new) }
         ensures calm { how ≡ None → StaysCalm self.old self.new }
         ensures rest { self.new.rest ≡ self.old.rest }
@@ -140,7 +143,9 @@ impl MemHost {
         ensures only { OnErr result ((how ≢ None) ⊎ Starved self.old self.new) }
         ensures listed { how ≢ None → IsErr result }
         ensures nothing { idles how ≡ true → Turned (Are []) self.old self.new }
-        ensures effect { (e : Entry) → IfOk entry (λ x. x ≡ e) → how ≡ Some way.WithEffect → Turned (Are (e ∷ [])) self.old self.new ⊎ (names (world (past self.new.journal)) path.now ≢ thing.Nothing) ⊎ Starved self.old self.new }
+        ensures effect { (e : Entry) → IfOk entry (λ x. x ≡ e) → how ≡ Some way.WithEffect
+            → Turned (Are (e ∷ [])) self.old self.new ⊎ (names (world (past self.new.journal)) path.now ≢ thing.Nothing)
+            ⊎ Starved self.old self.new }
         ensures steady { OnOk result (Unraised self.old self.new) }
         ensures calm { how ≡ None → StaysCalm self.old self.new }
         ensures rest { self.new.rest ≡ self.old.rest }
