@@ -1,5 +1,5 @@
--- Faults that are added, one part behind another.
-use Rattle.std.proofs.Common.{◌≡◌, ◌≤◌, ◌+◌, ℕ, List, [], ◌∷◌, ◌++◌, refl, sym, ap, ◌∙◌, subst, arith, append_assoc}
+-- Faults that are added, and how calls went, one part behind another.
+use Rattle.std.proofs.Common.{◌≡◌, ◌≤◌, ◌+◌, ℕ, List, [], ◌∷◌, ◌++◌, Result, Ok, Err, OnOk, refl, sym, ap, ◌∙◌, subst, arith, append_assoc}
 use Rattle.std.proofs.lemmas.List.{append-nil}
 use Rattle.lr_rules.specs.declared.fault.CallKind.{CallKind}
 use Rattle.lr_rules.specs.declared.fault.Ended.{Ended}
@@ -7,8 +7,8 @@ use Rattle.lr_rules.specs.declared.fault.Fault.{Fault}
 use Rattle.lr_rules.specs.declared.fault.Fault.TheVariants as fault
 use Rattle.lr_rules.specs.declared.fault.Phase.{Phase}
 use Rattle.lr_rules.specs.declared.path.Path.{Path}
-use Rattle.lr_host.specs.Told.{Counts, NoneFell, Rose}
-use Rattle.lr_host.specs.Counted.{calls_in, scripts_in, NoneAround, RoseBy, AreCounted, AddsFaults}
+use Rattle.lr_host.specs.Told.{Counts, NoneFell, Onward, Rose}
+use Rattle.lr_host.specs.Counted.{calls_in, scripts_in, NoneAround, RoseBy, AreCounted, AddsFaults, Went, WentBy}
 
 none_more : (n : ℕ) → 0 + n ≡ n
 none_more n = omega arith
@@ -94,3 +94,55 @@ counted_script phase on end k l r f = record {
 
 pub adds_call : (a b : List Fault) (kind : CallKind) (path : Path) (k l : Counts) → b ≡ a ++ fault.Call kind path ∷ [] → Rose k.faults l.faults → NoneFell k l → AddsFaults a b k l
 adds_call a b kind path k l e r f = record { added = fault.Call kind path ∷ []; after_is = e; are_counted = counted_call kind path k l r f }
+
+-- ---- how calls went
+
+pub onward_same : (k : Counts) → Onward k k
+onward_same k = ((omega arith, omega arith, omega arith), refl)
+
+pub onward_on : (k l m : Counts) → Onward k l → Onward l m → Onward k m
+onward_on k l m x y = ((omega (arith, x.0.0, y.0.0), omega (arith, x.0.1, y.0.1), omega (arith, x.0.2, y.0.2)), y.1 ∙ x.1)
+
+-- no call was made, and nothing added
+pub went_none : (a : List Fault) (k : Counts) → Went a a k k
+went_none a k = record { adds = adds_none a k; onward = onward_same k }
+
+-- nothing was added
+pub went_same : (a : List Fault) (k l : Counts) → Onward k l → Went a a k l
+went_same a k l h = record { adds = adds_free a a [] k l (sym (append-nil a)) free_none h.0; onward = h }
+
+-- faults were added that no count tells of
+pub went_free : (a b added : List Fault) (k l : Counts) → b ≡ a ++ added → AreFree added → Onward k l → Went a b k l
+went_free a b added k l e f h = record { adds = adds_free a b added k l e f h.0; onward = h }
+
+-- a failed call was added
+pub went_call : (a b : List Fault) (kind : CallKind) (path : Path) (k l : Counts) → b ≡ a ++ fault.Call kind path ∷ [] → Rose k.faults l.faults → Onward k l → Went a b k l
+went_call a b kind path k l e r h = record { adds = adds_call a b kind path k l e r h.0; onward = h }
+
+-- one call went so, and then another
+pub went_on : (a b c : List Fault) (k l m : Counts) → Went a b k l → Went b c l m → Went a c k m
+went_on a b c k l m x y = record { adds = adds_on a b c k l m x.adds y.adds; onward = onward_on k l m x.onward y.onward }
+
+-- one went so, and then another by its result
+pub went_then : {T E : Type 0} (r : Result T E) (a b c : List Fault) (k l m : Counts) → Went a b k l → WentBy r b c l m → WentBy r a c k m
+went_then (Ok x) a b c k l m p q = went_on a b c k l m p q
+went_then (Err x) a b c k l m p q = onward_on k l m p.onward q
+
+-- behind a call that adds nothing
+pub went_behind : {T E : Type 0} (r : Result T E) (a b : List Fault) (k l m : Counts) → Onward k l → WentBy r a b l m → WentBy r a b k m
+went_behind r a b k l m h q = went_then r a a b k l m (went_same a k l h) q
+
+-- by what a call added where it ended well
+pub went_as : {T E : Type 0} (r : Result T E) (a b : List Fault) (k l : Counts) → OnOk r (AddsFaults a b k l) → Onward k l → WentBy r a b k l
+went_as (Ok x) a b k l p h = record { adds = p; onward = h }
+went_as (Err x) a b k l p h = h
+
+-- in any case no count fell
+pub went_onward : {T E : Type 0} (r : Result T E) (a b : List Fault) (k l : Counts) → WentBy r a b k l → Onward k l
+went_onward (Ok x) a b k l h = h.onward
+went_onward (Err x) a b k l h = h
+
+-- what it added where it ended well
+pub went_adds : {T E : Type 0} (r : Result T E) (a b : List Fault) (k l : Counts) → WentBy r a b k l → OnOk r (AddsFaults a b k l)
+went_adds (Ok x) a b k l h = h.adds
+went_adds (Err x) a b k l h = tt
