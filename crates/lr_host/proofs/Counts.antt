@@ -132,6 +132,16 @@ went_then (Err x) a b c k l m p q = onward_on k l m p.onward q
 pub went_behind : {T E : Type 0} (r : Result T E) (a b : List Fault) (k l m : Counts) → Onward k l → WentBy r a b l m → WentBy r a b k m
 went_behind r a b k l m h q = went_then r a a b k l m (went_same a k l h) q
 
+-- nothing was added, however the call ended
+pub went_only : {T E : Type 0} (r : Result T E) (a : List Fault) (k l : Counts) → Onward k l → WentBy r a a k l
+went_only (Ok x) a k l h = went_same a k l h
+went_only (Err x) a k l h = h
+
+-- so it went by what is known where the call ended well
+pub went_where : {T E P : Type 0} (r : Result T E) (a b : List Fault) (k l : Counts) → (P → Went a b k l) → OnOk r P → Onward k l → WentBy r a b k l
+went_where (Ok x) a b k l f p h = f p
+went_where (Err x) a b k l f p h = h
+
 -- by what a call added where it ended well
 pub went_as : {T E : Type 0} (r : Result T E) (a b : List Fault) (k l : Counts) → OnOk r (AddsFaults a b k l) → Onward k l → WentBy r a b k l
 went_as (Ok x) a b k l p h = record { adds = p; onward = h }

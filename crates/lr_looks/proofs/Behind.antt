@@ -7,7 +7,7 @@ use Rattle.lr_rules.specs.declared.path.Path.{Path}
 use Rattle.lr_rules.specs.declared.rule.Naming.{Naming}
 use Rattle.lr_host.specs.declared.entry.Entry.{Entry}
 use Rattle.lr_host.specs.declared.journal.Journal.{Journal}
-use Rattle.lr_host.specs.Told.{Left, Counts, NoneFell, Rose}
+use Rattle.lr_host.specs.Told.{Left, Counts, Onward, Rose}
 use Rattle.lr_host.proofs.Left.{left_as, left_first, left_then}
 use Rattle.lr_family.specs.declared.listing.Listing.{Listing}
 use Rattle.lr_family.specs.declared.stand.Stand.{Stand}
@@ -21,8 +21,8 @@ use Rattle.lr_looks.proofs.Known.{read_last}
 use Rattle.lr_rules.specs.declared.fault.Fault.{Fault}
 use Rattle.lr_rules.specs.Limits.{is_format, or_none}
 use Rattle.lr_looks.specs.declared.found.Found.{Found}
-use Rattle.lr_host.specs.Counted.{AddsFaults}
-use Rattle.lr_host.proofs.Counts.{free_none, adds_free, adds_call}
+use Rattle.lr_host.specs.Counted.{WentBy}
+use Rattle.lr_host.proofs.Counts.{free_none, went_free, went_call}
 use Rattle.lr_looks.specs.Found.{FoundLog, found_in, all_found_in, Hold}
 use Rattle.lr_looks.specs.Families.{ShowFamilies, HadMemory, AllHadMemory, stop_fault, family_fault, family_faults, LookedLog, looked_at, looked_by, looked_of, LookedAtFamilies, LookedAtSomeFamilies, FamilySight, Stood, Stopped, sight_of, ShowsMembersIn, ShowsFamily, behind_listing, with_listing, not_listed}
 use Rattle.lr_looks.specs.Internal.{TakesListing, before, taken, LacksListing, IsAt, NoListing, lacks, unadded, FamilyPart, AddsLooked, AddsFamily, AddsFamilies, LooksBySets}
@@ -114,15 +114,11 @@ some_told (Err x) known f s l = left_as l (λ ts h. record {
   shown = (h.0, record { front = ts; back = []; joined = sym (append-nil ts); first = h.1; second = (refl, refl) });
 })
 
-pub stop_counted : {T E : Type 0} (r : Result T E) (why : StandStop) (faults all : List Fault) (a b : Counts) → (IsFailedCall why → Rose a.faults b.faults) → NoneFell a b → OnOk r (all ≡ faults ++ stop_fault why) → OnOk r (AddsFaults faults all a b)
-stop_counted (Ok x) (stop.Call kind path) faults all a b rose le e = adds_call faults all kind path a b e (rose (record {})) le
-stop_counted (Ok x) (stop.NotFile path) faults all a b rose le e = adds_free faults all (stop_fault (stop.NotFile path)) a b e (record { calls = refl; scripts = refl; none_around = ((λ h. h), tt) }) le
-stop_counted (Ok x) stop.Memory faults all a b rose le e = adds_free faults all [] a b e free_none le
-stop_counted (Err x) why faults all a b rose le e = tt
-
-pub none_counted : {T E : Type 0} (r : Result T E) (faults : List Fault) (a b : Counts) → NoneFell a b → OnOk r (AddsFaults faults faults a b)
-none_counted (Ok x) faults a b le = adds_free faults faults [] a b (sym (append-nil faults)) free_none le
-none_counted (Err x) faults a b le = tt
+pub stop_went : {T E : Type 0} (r : Result T E) (why : StandStop) (faults all : List Fault) (a b : Counts) → (IsFailedCall why → Rose a.faults b.faults) → Onward a b → OnOk r (all ≡ faults ++ stop_fault why) → WentBy r faults all a b
+stop_went (Ok x) (stop.Call kind path) faults all a b rose on e = went_call faults all kind path a b e (rose (record {})) on
+stop_went (Ok x) (stop.NotFile path) faults all a b rose on e = went_free faults all (stop_fault (stop.NotFile path)) a b e (record { calls = refl; scripts = refl; none_around = ((λ h. h), tt) }) on
+stop_went (Ok x) stop.Memory faults all a b rose on e = went_free faults all [] a b e free_none on
+stop_went (Err x) why faults all a b rose on e = on
 
 -- ---- a list of logs
 

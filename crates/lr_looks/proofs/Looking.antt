@@ -9,7 +9,7 @@ use Rattle.lr_rules.specs.declared.fault.Fault.TheVariants as fault
 use Rattle.lr_rules.specs.Path.{last_of}
 use Rattle.lr_host.specs.declared.entry.Entry.{Entry}
 use Rattle.lr_host.specs.declared.journal.Journal.{Journal}
-use Rattle.lr_host.specs.Told.{Counts, NoneFell, Left, Rose}
+use Rattle.lr_host.specs.Told.{Counts, Left, Onward, Rose}
 use Rattle.lr_host.proofs.Left.{left_as, left_first, left_then}
 use Rattle.lr_glob.specs.declared.found.Found.{Found as Match}
 use Rattle.lr_glob.specs.declared.found.GlobStop.{GlobStop}
@@ -19,8 +19,8 @@ use Rattle.lr_glob.specs.Stops.{IsFailedCall}
 use Rattle.lr_glob.specs.Words.{Comes, Stopped}
 use Rattle.lr_looks.specs.declared.found.Found.{Found}
 use Rattle.lr_looks.specs.Asked.{Word, AreTexts}
-use Rattle.lr_host.specs.Counted.{AddsFaults}
-use Rattle.lr_host.proofs.Counts.{AreFree, free_none, adds_free, adds_call}
+use Rattle.lr_host.specs.Counted.{Went, WentBy}
+use Rattle.lr_host.proofs.Counts.{AreFree, free_none, went_free, went_call, went_where}
 use Rattle.lr_looks.specs.Found.{FoundLog, found_in, all_found_in, HasLogPath, HaveLogPaths}
 use Rattle.lr_looks.specs.Sights.{WordSight, found_at, found_by, glob_fault, fault_of, found_of, faults_of, ShowsWord, ShowWords, WordHadMemory, WordsHadMemory, AreFoundOf, LookedAt, LookedAtSome}
 use Rattle.lr_looks.specs.Internal.{AddsFound}
@@ -227,17 +227,17 @@ given_free : (w : Word) (matches : List Match) → AreFree (fault_of w (Ok match
 given_free w [] = missing_free w.rule.missingok w.text
 given_free w (m ∷ ms) = free_none
 
-pub given_counted : {T E : Type 0} (r : Result T E) (w : Word) (matches : List Match) (faults all : List Fault) (a b : Counts) → NoneFell a b → OnOk r (all ≡ faults ++ fault_of w (Ok matches)) → OnOk r (AddsFaults faults all a b)
-given_counted r w matches faults all a b le h = on_ok r (λ e. adds_free faults all (fault_of w (Ok matches)) a b e (given_free w matches) le) h
+pub given_went : {T E : Type 0} (r : Result T E) (w : Word) (matches : List Match) (faults all : List Fault) (a b : Counts) → Onward a b → OnOk r (all ≡ faults ++ fault_of w (Ok matches)) → WentBy r faults all a b
+given_went r w matches faults all a b on h = went_where r faults all a b (λ e. went_free faults all (fault_of w (Ok matches)) a b e (given_free w matches) on) h on
 
-one_counted : (w : Word) (why : GlobStop) (faults all : List Fault) (a b : Counts) → (IsFailedCall why → Rose a.faults b.faults) → NoneFell a b → all ≡ faults ++ glob_fault w why → AddsFaults faults all a b
-one_counted w (stop.Call kind path) faults all a b rose le e = adds_call faults all kind path a b e (rose tt) le
-one_counted w stop.LongName faults all a b rose le e = adds_free faults all (fault.LongName w.text ∷ []) a b e (record { calls = refl; scripts = refl; none_around = ((λ h. h), tt) }) le
-one_counted w stop.TooMany faults all a b rose le e = adds_free faults all (fault.TooMany w.text ∷ []) a b e (record { calls = refl; scripts = refl; none_around = ((λ h. h), tt) }) le
-one_counted w stop.Memory faults all a b rose le e = adds_free faults all [] a b e free_none le
+one_went : (w : Word) (why : GlobStop) (faults all : List Fault) (a b : Counts) → (IsFailedCall why → Rose a.faults b.faults) → Onward a b → all ≡ faults ++ glob_fault w why → Went faults all a b
+one_went w (stop.Call kind path) faults all a b rose on e = went_call faults all kind path a b e (rose tt) on
+one_went w stop.LongName faults all a b rose on e = went_free faults all (fault.LongName w.text ∷ []) a b e (record { calls = refl; scripts = refl; none_around = ((λ h. h), tt) }) on
+one_went w stop.TooMany faults all a b rose on e = went_free faults all (fault.TooMany w.text ∷ []) a b e (record { calls = refl; scripts = refl; none_around = ((λ h. h), tt) }) on
+one_went w stop.Memory faults all a b rose on e = went_free faults all [] a b e free_none on
 
-pub stopped_counted : {T E : Type 0} (r : Result T E) (w : Word) (why : GlobStop) (faults all : List Fault) (a b : Counts) → (IsFailedCall why → Rose a.faults b.faults) → NoneFell a b → OnOk r (all ≡ faults ++ glob_fault w why) → OnOk r (AddsFaults faults all a b)
-stopped_counted r w why faults all a b rose le h = on_ok r (λ e. one_counted w why faults all a b rose le e) h
+pub stopped_went : {T E : Type 0} (r : Result T E) (w : Word) (why : GlobStop) (faults all : List Fault) (a b : Counts) → (IsFailedCall why → Rose a.faults b.faults) → Onward a b → OnOk r (all ≡ faults ++ glob_fault w why) → WentBy r faults all a b
+stopped_went r w why faults all a b rose on h = went_where r faults all a b (λ e. one_went w why faults all a b rose on e) h on
 
 -- ---- the matches of a word, one behind another
 

@@ -8,11 +8,11 @@ use Rattle.lr_rules.specs.declared.path.Path.{Path}
 use Rattle.lr_rules.specs.declared.rule.Rule.{Rule}
 use Rattle.lr_host.specs.declared.entry.Entry.{Entry}
 use Rattle.lr_host.specs.declared.journal.Journal.{Journal}
-use Rattle.lr_host.specs.Told.{Counts, NoneFell, Left}
+use Rattle.lr_host.specs.Told.{Counts, Left}
 use Rattle.lr_host.proofs.Left.{left_as, left_first, left_then}
 use Rattle.lr_plan.specs.declared.looks.Looks.{Looks}
-use Rattle.lr_host.specs.Counted.{AddsFaults}
-use Rattle.lr_host.proofs.Counts.{AreFree, free_none, free_on, adds_on, adds_free}
+use Rattle.lr_host.specs.Counted.{Went, WentBy}
+use Rattle.lr_host.proofs.Counts.{AreFree, free_none, free_on, onward_same, went_free, went_on, went_then}
 use Rattle.lr_kept.specs.declared.choice.Choice.{Choice}
 use Rattle.lr_kept.specs.declared.choice.Choice.TheVariants.{Kept, Again, MemberOf, Reserved, Meets}
 use Rattle.lr_looks.specs.Asked.{Word, asked_by, AreTexts}
@@ -116,15 +116,11 @@ kinds_free : (fs : List FoundLog) → AreFree (flat_map kind_fault fs)
 kinds_free [] = free_none
 kinds_free (f ∷ fs) = free_on (kind_fault f) (flat_map kind_fault fs) (kind_free f) (kinds_free fs)
 
-none_fell : (k : Counts) → NoneFell k k
-none_fell k = (omega arith, omega arith, omega arith)
+kept_went : (reserved : List Path) (found kept : List FoundLog) (b c : List Fault) (k : Counts) → Keeps reserved found b c kept → Went b c k k
+kept_went reserved found kept b c k h = went_free b c (kept_faults reserved found b c kept h) k k h.faults_are (free_on (choice_faults reserved found found h.choices) (flat_map kind_fault (kept_of found h.choices)) (choices_free reserved found found h.choices) (kinds_free (kept_of found h.choices))) (onward_same k)
 
-kept_counted : (reserved : List Path) (found kept : List FoundLog) (b c : List Fault) (k : Counts) → Keeps reserved found b c kept → AddsFaults b c k k
-kept_counted reserved found kept b c k h = adds_free b c (kept_faults reserved found b c kept h) k k h.faults_are (free_on (choice_faults reserved found found h.choices) (flat_map kind_fault (kept_of found h.choices)) (choices_free reserved found found h.choices) (kinds_free (kept_of found h.choices))) (none_fell k)
-
-pub all_counted : {E : Type 0} (r : Result Looks E) (reserved : List Path) (found kept : List FoundLog) (a b c d : List Fault) (k l m : Counts) → AddsFaults a b k l → Keeps reserved found b c kept → IfOk r (λ looks. AddsFaults c d l m) → IfOk r (λ looks. AddsFaults a d k m)
-all_counted (Ok looks) reserved found kept a b c d k l m x h y = adds_on a c d k l m (adds_on a b c k l l x (kept_counted reserved found kept b c l h)) y
-all_counted (Err e) reserved found kept a b c d k l m x h y = tt
+pub all_went : {E : Type 0} (r : Result Looks E) (reserved : List Path) (found kept : List FoundLog) (a b c d : List Fault) (k l m : Counts) → Went a b k l → Keeps reserved found b c kept → WentBy r c d l m → WentBy r a d k m
+all_went r reserved found kept a b c d k l m x h y = went_then r a c d k l m (went_on a b c k l l x (kept_went reserved found kept b c l h)) y
 
 -- ---- in part
 

@@ -1,7 +1,7 @@
 // All looks of a run.
 ghost use Rattle.std.specs.Prelude.{IfOk, OnErr};
-ghost use Rattle.lr_host.specs.Counted.{AddsFaults};
-ghost use Rattle.lr_host.specs.Told.{Left, Onward};
+ghost use Rattle.lr_host.specs.Counted.{WentBy};
+ghost use Rattle.lr_host.specs.Told.{Left};
 ghost use Rattle.lr_looks.specs.Shown.{LooksAtAll, ShowsSomeLooks};
 ghost use Rattle.lr_plan.specs.Planned.{CanPlanAll};
 ghost use Rattle.lr_looks.specs.Reserved.{reserved_by};
@@ -25,8 +25,7 @@ pub fn look_all<H: Host>(
     ensures told { IfOk result (λ looks. Left (LooksAtAll (reserved_by state.now) rules.now.sets looks faults.old.items faults.new.items) (H.told host.old) (H.told host.new)) }
     ensures some { OnErr result (Left (ShowsSomeLooks (reserved_by state.now) rules.now.sets) (H.told host.old) (H.told host.new)) }
     ensures planned { IfOk result (λ looks. CanPlanAll rules.now.sets looks.sets) }
-    ensures counted { IfOk result (λ looks. AddsFaults faults.old.items faults.new.items (H.counts host.old) (H.counts host.new)) }
-    ensures counts { Onward (H.counts host.old) (H.counts host.new) }
+    ensures went { WentBy result faults.old.items faults.new.items (H.counts host.old) (H.counts host.new) }
 {
     let reserved = reserved_paths(alloc, state)?;
     let looks = look_at_unreserved(alloc, host, rules, &reserved, faults)?;

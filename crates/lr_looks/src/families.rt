@@ -4,7 +4,7 @@ ghost use Rattle.lr_rules.specs.Limits.{is_format, or_none};
 ghost use Rattle.lr_host.specs.Told.{Left, Onward, Rose};
 ghost use Rattle.lr_family.specs.Stands.{IsFailedCall};
 ghost use Rattle.lr_family.specs.declared.stand.StandStop.TheVariants as stop;
-ghost use Rattle.lr_host.specs.Counted.{AddsFaults};
+ghost use Rattle.lr_host.specs.Counted.{WentBy};
 ghost use Rattle.lr_looks.specs.Families.{looked_at, ShowsFamily, sight_of, stop_fault, LookedAtSomeFamilies};
 ghost use Rattle.lr_plan.specs.Planned.{AreMembersOf};
 ghost use Rattle.lr_looks.specs.Found.{found_in, all_found_in, paths_of, HasBounds, HaveBounds};
@@ -109,8 +109,7 @@ fn look_at_family<H: Host>(
     ensures known { OnOk result (AreListings listings.new) }
     ensures many { OnOk result (length sets.new.items ≡ length sets.old.items) }
     ensures ready { OnOk result (AreReady sets.old.items → AreReady sets.new.items) }
-    ensures counted { OnOk result (AddsFaults faults.old.items faults.new.items (H.counts host.old) (H.counts host.new)) }
-    ensures counts { Onward (H.counts host.old) (H.counts host.new) }
+    ensures went { WentBy result faults.old.items faults.new.items (H.counts host.old) (H.counts host.new) }
 {
     match stand_at(alloc, host, listings, &found.family) {
         Ok(stand) => add_look(alloc, sets, found, stand),
@@ -147,8 +146,7 @@ fn look_at_each<H: Host>(
     ensures some { OnErr result (Left (LookedAtSomeFamilies [] (all_found_in found.items)) (H.told host.old) (H.told host.new)) }
     ensures many { OnOk result (length sets.new.items ≡ length sets.old.items) }
     ensures ready { OnOk result (AreReady sets.old.items → AreReady sets.new.items) }
-    ensures counted { OnOk result (AddsFaults faults.old.items faults.new.items (H.counts host.old) (H.counts host.new)) }
-    ensures counts { Onward (H.counts host.old) (H.counts host.new) }
+    ensures went { WentBy result faults.old.items faults.new.items (H.counts host.old) (H.counts host.new) }
 {
     let mut listings = Listings {
         places: IndexMap::new(alloc),
@@ -188,8 +186,7 @@ pub fn look_at_families<H: Host>(
     ensures kept { IfOk result (λ looks. looks.kept ≡ paths_of (all_found_in found.items)) }
     ensures many { IfOk result (λ looks. length looks.sets ≡ count) }
     ensures ready { IfOk result (λ looks. AreReady looks.sets) }
-    ensures counted { IfOk result (λ looks. AddsFaults faults.old.items faults.new.items (H.counts host.old) (H.counts host.new)) }
-    ensures counts { Onward (H.counts host.old) (H.counts host.new) }
+    ensures went { WentBy result faults.old.items faults.new.items (H.counts host.old) (H.counts host.new) }
 {
     let kept = paths_of(alloc, &found)?;
     let mut sets = no_looks(alloc, count)?;

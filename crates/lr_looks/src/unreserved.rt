@@ -1,8 +1,8 @@
 // The looks at the logs of which no name is reserved.
 ghost use Rattle.std.specs.Prelude.{◌≡◌, OnErr, IfOk, length};
-ghost use Rattle.lr_host.specs.Told.{Left, Onward};
+ghost use Rattle.lr_host.specs.Told.{Left};
 ghost use Rattle.lr_looks.specs.Asked.{CanAskAll};
-ghost use Rattle.lr_host.specs.Counted.{AddsFaults};
+ghost use Rattle.lr_host.specs.Counted.{WentBy};
 ghost use Rattle.lr_looks.specs.Ready.{AreReady};
 ghost use Rattle.lr_looks.specs.Shown.{LooksAtAll, ShowsSomeLooks};
 
@@ -29,8 +29,7 @@ pub fn look_at_unreserved<H: Host>(
     ensures some { OnErr result (Left (ShowsSomeLooks reserved.now rules.now.sets) (H.told host.old) (H.told host.new)) }
     ensures many { IfOk result (λ looks. length looks.sets ≡ length rules.now.sets) }
     ensures ready { IfOk result (λ looks. AreReady looks.sets) }
-    ensures counted { IfOk result (λ looks. AddsFaults faults.old.items faults.new.items (H.counts host.old) (H.counts host.new)) }
-    ensures counts { Onward (H.counts host.old) (H.counts host.new) }
+    ensures went { WentBy result faults.old.items faults.new.items (H.counts host.old) (H.counts host.new) }
 {
     let found = look_at_words(alloc, host, rules, faults)?;
     let kept = keep(alloc, found, reserved, faults)?;

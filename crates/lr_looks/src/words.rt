@@ -7,7 +7,7 @@ ghost use Rattle.lr_glob.specs.Stops.{IsFailedCall};
 ghost use Rattle.lr_glob.specs.Words.{Comes, Stopped};
 ghost use Rattle.lr_glob.specs.declared.found.GlobStop.TheVariants as stop;
 ghost use Rattle.lr_looks.specs.Asked.{CanAsk, CanAskAll, AreTexts, word_of, words_of, asked_by};
-ghost use Rattle.lr_host.specs.Counted.{AddsFaults};
+ghost use Rattle.lr_host.specs.Counted.{WentBy};
 ghost use Rattle.lr_looks.specs.Found.{all_found_in, HasLogPath, HaveLogPaths};
 ghost use Rattle.lr_looks.specs.Sights.{found_at, found_by, missing, glob_fault, fault_of, AreFoundOf, LookedAt, LookedAtSome};
 ghost use Rattle.lr_looks.specs.Internal.{AddsFound};
@@ -203,8 +203,7 @@ fn look_at_word<H: Host>(
     ensures found { OnOk result (AddsFound (word_of set rule.now word.now ∷ []) (all_found_in found.old.items) (all_found_in found.new.items)) }
     ensures paths { OnOk result (HaveLogPaths (all_found_in found.old.items) → HaveLogPaths (all_found_in found.new.items)) }
     ensures text { OnOk result (AreTexts (word_of set rule.now word.now ∷ [])) }
-    ensures counted { OnOk result (AddsFaults faults.old.items faults.new.items (H.counts host.old) (H.counts host.new)) }
-    ensures counts { Onward (H.counts host.old) (H.counts host.new) }
+    ensures went { WentBy result faults.old.items faults.new.items (H.counts host.old) (H.counts host.new) }
 {
     let _text = word.bytes();
     let room = room_behind(found.as_slice());
@@ -229,8 +228,7 @@ fn look_at_rule<H: Host>(
     ensures found { OnOk result (AddsFound (words_of set rule.now) (all_found_in found.old.items) (all_found_in found.new.items)) }
     ensures paths { OnOk result (HaveLogPaths (all_found_in found.old.items) → HaveLogPaths (all_found_in found.new.items)) }
     ensures texts { OnOk result (AreTexts (words_of set rule.now)) }
-    ensures counted { OnOk result (AddsFaults faults.old.items faults.new.items (H.counts host.old) (H.counts host.new)) }
-    ensures counts { Onward (H.counts host.old) (H.counts host.new) }
+    ensures went { WentBy result faults.old.items faults.new.items (H.counts host.old) (H.counts host.new) }
 {
     for word in rule.words.as_slice() {
         look_at_word(alloc, host, set, rule, word, found, faults)?;
@@ -254,8 +252,7 @@ pub fn look_at_words<H: Host>(
     ensures found { IfOk result (λ found. AreFoundOf (asked_by rules.now.sets) (all_found_in found.items)) }
     ensures paths { IfOk result (λ found. HaveLogPaths (all_found_in found.items)) }
     ensures texts { OnOk result (AreTexts (asked_by rules.now.sets)) }
-    ensures counted { OnOk result (AddsFaults faults.old.items faults.new.items (H.counts host.old) (H.counts host.new)) }
-    ensures counts { Onward (H.counts host.old) (H.counts host.new) }
+    ensures went { WentBy result faults.old.items faults.new.items (H.counts host.old) (H.counts host.new) }
 {
     let mut found = Vec::new(alloc);
     let sets = rules.sets.as_slice();

@@ -4,7 +4,7 @@ use Rattle.std.proofs.lemmas.List.{append-nil, nil_from_length}
 use Rattle.lr_looks.specs.declared.found.Found.{Found}
 use Rattle.lr_looks.specs.Found.{HasBounds}
 use Rattle.lr_looks.proofs.Known.{places_none}
-use Rattle.lr_host.proofs.Counts.{adds_none, adds_on}
+use Rattle.lr_host.proofs.Counts.{went_none, went_on}
 use Rattle.lr_looks.proofs.Behind.{families_none, families_more, families_part, families_all, next_holds}
 use Rattle.lr_looks.proofs.families.look_at_each.Goals as goal
 
@@ -25,8 +25,7 @@ loop-item-init g c = record {
   told = families_none c.args.faults.now.items c.args.sets.now.items c.new-2.result.items c.new-2.ensures.items;
   many = refl;
   ready = λ r. r;
-  counted = adds_none c.args.faults.now.items _;
-  counts = search rules;
+  went = went_none c.args.faults.now.items _;
 }
 
 pub loop-item-preserved : goal.loop-item-preserved
@@ -40,8 +39,7 @@ loop-item-preserved g c =
           c.args.sets.now.items c.loop-item.sets.items c.look_at_family.new.sets.items c.loop-item.invariant.told c.in_ok-look_at_family.ensures.told;
       many = c.in_ok-look_at_family.ensures.many ∙ c.loop-item.invariant.many;
       ready = λ r. c.in_ok-look_at_family.ensures.ready (c.loop-item.invariant.ready r);
-      counted = adds_on c.args.faults.now.items c.loop-item.faults.items c.look_at_family.new.faults.items _ _ _ c.loop-item.invariant.counted c.in_ok-look_at_family.ensures.counted;
-      counts = search rules;
+      went = went_on c.args.faults.now.items c.loop-item.faults.items c.look_at_family.new.faults.items _ _ _ c.loop-item.invariant.went c.in_ok-look_at_family.ensures.went;
     }
 
 pub returns-in_err-look_at_family-clause-some : goal.returns-in_err-look_at_family-clause-some

@@ -1,8 +1,7 @@
 use Rattle.std.proofs.Common.{◌≡◌, List, ◌++◌, length}
 use Rattle.std.specs.Vec.Iter.{into_iter_items, into_iter_len}
-use Rattle.lr_host.specs.Told.{Onward}
 use Rattle.lr_looks.specs.declared.found.Found.{Found}
-use Rattle.lr_host.specs.Counted.{AddsFaults}
+use Rattle.lr_host.specs.Counted.{Went}
 use Rattle.lr_looks.specs.Internal.{AreListings}
 use Rattle.lr_looks.specs.Ready.{AreReady}
 use Rattle.lr_looks.proofs.Behind.{SoFar}
@@ -17,6 +16,5 @@ invariant-loop-item g l = record {
   told : SoFar done l.listings.taken.items l.initial.faults.items l.faults.items l.initial.sets.items l.sets.items (g.H.Host.told l.initial.host) (g.H.Host.told l.host);
   many : length l.sets.items ≡ length l.initial.sets.items;
   ready : AreReady l.initial.sets.items → AreReady l.sets.items;
-  counted : AddsFaults l.initial.faults.items l.faults.items (g.H.Host.counts l.initial.host) (g.H.Host.counts l.host);
-  counts : Onward (g.H.Host.counts l.initial.host) (g.H.Host.counts l.host);
+  went : Went l.initial.faults.items l.faults.items (g.H.Host.counts l.initial.host) (g.H.Host.counts l.host);
 }

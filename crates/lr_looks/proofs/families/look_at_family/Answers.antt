@@ -1,5 +1,6 @@
+use Rattle.lr_host.proofs.Counts.{went_only}
 use Rattle.lr_looks.specs.Found.{found_in}
-use Rattle.lr_looks.proofs.Behind.{stood_told, stop_told, some_told, stop_counted, none_counted}
+use Rattle.lr_looks.proofs.Behind.{stood_told, stop_told, some_told, stop_went}
 use Rattle.lr_looks.proofs.families.look_at_family.Goals as goal
 
 pub returns-in-Ok-clause-told : goal.returns-in-Ok-clause-told
@@ -16,8 +17,8 @@ returns-in-Ok-clause-some g c = some_told c.add_look.result c.args.listings.now.
 pub returns-in-Err-clause-some : goal.returns-in-Err-clause-some
 returns-in-Err-clause-some g c = some_told c.add_stop.result c.args.listings.now.taken.items (found_in c.args.found) _ c.in-Err.ensures.part
 
-pub returns-in-Ok-clause-counted : goal.returns-in-Ok-clause-counted
-returns-in-Ok-clause-counted g c = none_counted c.add_look.result c.args.faults.now.items _ _ c.in-Ok.ensures.counts.0
+pub returns-in-Ok-clause-went : goal.returns-in-Ok-clause-went
+returns-in-Ok-clause-went g c = went_only c.add_look.result c.args.faults.now.items _ _ c.in-Ok.ensures.counts
 
-pub returns-in-Err-clause-counted : goal.returns-in-Err-clause-counted
-returns-in-Err-clause-counted g c = stop_counted c.add_stop.result c.in-Err.why c.args.faults.now.items c.add_stop.new.faults.items _ _ c.in-Err.ensures.cause c.in-Err.ensures.counts.0 c.add_stop.ensures.faults
+pub returns-in-Err-clause-went : goal.returns-in-Err-clause-went
+returns-in-Err-clause-went g c = stop_went c.add_stop.result c.in-Err.why c.args.faults.now.items c.add_stop.new.faults.items _ _ c.in-Err.ensures.cause c.in-Err.ensures.counts c.add_stop.ensures.faults

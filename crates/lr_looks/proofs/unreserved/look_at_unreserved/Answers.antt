@@ -1,7 +1,7 @@
 use Rattle.std.proofs.Common.{sym}
 use Rattle.lr_looks.specs.Found.{all_found_in}
 use Rattle.lr_looks.proofs.Holding.{kept_bounds, kept_within}
-use Rattle.lr_looks.proofs.Whole.{all_ok, all_many, all_counted, all_at_words, all_at_kept, all_at_families}
+use Rattle.lr_looks.proofs.Whole.{all_ok, all_many, all_went, all_at_words, all_at_kept, all_at_families}
 use Rattle.lr_looks.proofs.unreserved.look_at_unreserved.Goals as goal
 
 pub look_at_families-requires-clause-sets : goal.look_at_families-requires-clause-sets
@@ -14,9 +14,9 @@ pub returns-clause-told : goal.returns-clause-told
 returns-clause-told g c = all_ok c.look_at_families.result c.args.reserved.now c.args.rules.now.sets (all_found_in c.in_ok-found.found.items) (all_found_in c.in_ok-kept.kept.items) c.args.faults.now.items c.look_at_words.new.faults.items c.keep.new.faults.items c.look_at_families.new.faults.items c.len.result _
     c.in_ok-found.ensures.texts c.in_ok-found.ensures.paths c.in_ok-found.ensures.told c.in_ok-kept.ensures c.look_at_families.ensures.told c.look_at_families.ensures.kept c.look_at_families.ensures.many c.len.ensures
 
-pub returns-clause-counted : goal.returns-clause-counted
-returns-clause-counted g c = all_counted c.look_at_families.result c.args.reserved.now (all_found_in c.in_ok-found.found.items) (all_found_in c.in_ok-kept.kept.items) c.args.faults.now.items c.look_at_words.new.faults.items c.keep.new.faults.items c.look_at_families.new.faults.items _ _ _
-    c.in_ok-found.ensures.counted c.in_ok-kept.ensures c.look_at_families.ensures.counted
+pub returns-clause-went : goal.returns-clause-went
+returns-clause-went g c = all_went c.look_at_families.result c.args.reserved.now (all_found_in c.in_ok-found.found.items) (all_found_in c.in_ok-kept.kept.items) c.args.faults.now.items c.look_at_words.new.faults.items c.keep.new.faults.items c.look_at_families.new.faults.items _ _ _
+    c.in_ok-found.ensures.went c.in_ok-kept.ensures c.look_at_families.ensures.went
 
 pub returns-clause-some : goal.returns-clause-some
 returns-clause-some g c = all_at_families c.look_at_families.result c.args.reserved.now c.args.rules.now.sets (all_found_in c.in_ok-found.found.items) (all_found_in c.in_ok-kept.kept.items) c.args.faults.now.items c.look_at_words.new.faults.items c.keep.new.faults.items _

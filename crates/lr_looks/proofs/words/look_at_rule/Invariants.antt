@@ -1,6 +1,6 @@
 use Rattle.std.proofs.Common.{map, take}
-use Rattle.lr_host.specs.Told.{Left, Onward}
-use Rattle.lr_host.specs.Counted.{AddsFaults}
+use Rattle.lr_host.specs.Told.{Left}
+use Rattle.lr_host.specs.Counted.{Went}
 use Rattle.lr_looks.specs.Asked.{word_of, AreTexts}
 use Rattle.lr_looks.specs.Found.{all_found_in, HaveLogPaths}
 use Rattle.lr_looks.specs.Internal.{AddsFound}
@@ -13,6 +13,5 @@ invariant-loop-word g l = record {
   found : AddsFound (map (word_of l.set l.rule) (take l.word-index l.rule.words)) (all_found_in l.initial.found.items) (all_found_in l.found.items);
   paths : HaveLogPaths (all_found_in l.initial.found.items) → HaveLogPaths (all_found_in l.found.items);
   texts : AreTexts (map (word_of l.set l.rule) (take l.word-index l.rule.words));
-  counted : AddsFaults l.initial.faults.items l.faults.items (g.H.Host.counts l.initial.host) (g.H.Host.counts l.host);
-  counts : Onward (g.H.Host.counts l.initial.host) (g.H.Host.counts l.host);
+  went : Went l.initial.faults.items l.faults.items (g.H.Host.counts l.initial.host) (g.H.Host.counts l.host);
 }
