@@ -116,7 +116,8 @@ pub went_free : (a b added : List Fault) (k l : Counts) → b ≡ a ++ added →
 went_free a b added k l e f h = record { adds = adds_free a b added k l e f h.0; onward = h }
 
 -- a failed call was added
-pub went_call : (a b : List Fault) (kind : CallKind) (path : Path) (k l : Counts) → b ≡ a ++ fault.Call kind path ∷ [] → Rose k.faults l.faults → Onward k l → Went a b k l
+pub went_call : (a b : List Fault) (kind : CallKind) (path : Path) (k l : Counts)
+    → b ≡ a ++ fault.Call kind path ∷ [] → Rose k.faults l.faults → Onward k l → Went a b k l
 went_call a b kind path k l e r h = record { adds = adds_call a b kind path k l e r h.0; onward = h }
 
 -- one call went so, and then another
@@ -124,12 +125,14 @@ pub went_on : (a b c : List Fault) (k l m : Counts) → Went a b k l → Went b 
 went_on a b c k l m x y = record { adds = adds_on a b c k l m x.adds y.adds; onward = onward_on k l m x.onward y.onward }
 
 -- one went so, and then another by its result
-pub went_then : {T E : Type 0} (r : Result T E) (a b c : List Fault) (k l m : Counts) → Went a b k l → WentBy r b c l m → WentBy r a c k m
+pub went_then : {T E : Type 0} (r : Result T E) (a b c : List Fault) (k l m : Counts)
+    → Went a b k l → WentBy r b c l m → WentBy r a c k m
 went_then (Ok x) a b c k l m p q = went_on a b c k l m p q
 went_then (Err x) a b c k l m p q = onward_on k l m p.onward q
 
 -- behind a call that adds nothing
-pub went_behind : {T E : Type 0} (r : Result T E) (a b : List Fault) (k l m : Counts) → Onward k l → WentBy r a b l m → WentBy r a b k m
+pub went_behind : {T E : Type 0} (r : Result T E) (a b : List Fault) (k l m : Counts)
+    → Onward k l → WentBy r a b l m → WentBy r a b k m
 went_behind r a b k l m h q = went_then r a a b k l m (went_same a k l h) q
 
 -- nothing was added, however the call ended
@@ -138,12 +141,14 @@ went_only (Ok x) a k l h = went_same a k l h
 went_only (Err x) a k l h = h
 
 -- so it went by what is known where the call ended well
-pub went_where : {T E P : Type 0} (r : Result T E) (a b : List Fault) (k l : Counts) → (P → Went a b k l) → OnOk r P → Onward k l → WentBy r a b k l
+pub went_where : {T E P : Type 0} (r : Result T E) (a b : List Fault) (k l : Counts)
+    → (P → Went a b k l) → OnOk r P → Onward k l → WentBy r a b k l
 went_where (Ok x) a b k l f p h = f p
 went_where (Err x) a b k l f p h = h
 
 -- by what a call added where it ended well
-pub went_as : {T E : Type 0} (r : Result T E) (a b : List Fault) (k l : Counts) → OnOk r (AddsFaults a b k l) → Onward k l → WentBy r a b k l
+pub went_as : {T E : Type 0} (r : Result T E) (a b : List Fault) (k l : Counts)
+    → OnOk r (AddsFaults a b k l) → Onward k l → WentBy r a b k l
 went_as (Ok x) a b k l p h = record { adds = p; onward = h }
 went_as (Err x) a b k l p h = h
 

@@ -1,5 +1,5 @@
 -- Looks at families, one behind another.
-use Rattle.std.proofs.Common.{◌≡◌, ◌≢◌, ◌+◌, inl, inr, ℕ, suc, true, List, [], ◌∷◌, ◌++◌, length, take, get_or, Option, Some, None, Result, Ok, Err, OnErr, slice_get, refl, sym, ap, ◌∙◌, subst, arith, append_assoc}
+use Rattle.std.proofs.Common.{◌≡◌, ◌≢◌, ◌+◌, inl, inr, ℕ, suc, true, List, [], ◌∷◌, ◌++◌, length, take, get_or, Option, Some, Result, Ok, Err, OnErr, slice_get, refl, sym, ap, ◌∙◌, subst, arith, append_assoc}
 use Rattle.std.specs.Prelude.{◌≤◌, IfOk, IfErr, OnOk}
 use Rattle.std.proofs.lemmas.List.{append-nil, length-append, map-append, take-append-le}
 use Rattle.std.proofs.lemmas.Option.{get_or_from_slice_get}
@@ -114,9 +114,11 @@ some_told (Err x) known f s l = left_as l (λ ts h. record {
   shown = (h.0, record { front = ts; back = []; joined = sym (append-nil ts); first = h.1; second = (refl, refl) });
 })
 
-pub stop_went : {T E : Type 0} (r : Result T E) (why : StandStop) (faults all : List Fault) (a b : Counts) → (IsFailedCall why → Rose a.faults b.faults) → Onward a b → OnOk r (all ≡ faults ++ stop_fault why) → WentBy r faults all a b
+pub stop_went : {T E : Type 0} (r : Result T E) (why : StandStop) (faults all : List Fault) (a b : Counts)
+    → (IsFailedCall why → Rose a.faults b.faults) → Onward a b → OnOk r (all ≡ faults ++ stop_fault why) → WentBy r faults all a b
 stop_went (Ok x) (stop.Call kind path) faults all a b rose on e = went_call faults all kind path a b e (rose (record {})) on
-stop_went (Ok x) (stop.NotFile path) faults all a b rose on e = went_free faults all (stop_fault (stop.NotFile path)) a b e (record { calls = refl; scripts = refl; none_around = ((λ h. h), tt) }) on
+stop_went (Ok x) (stop.NotFile path) faults all a b rose on e = went_free faults all (stop_fault (stop.NotFile path)) a b e
+    (record { calls = refl; scripts = refl; none_around = ((λ h. h), tt) }) on
 stop_went (Ok x) stop.Memory faults all a b rose on e = went_free faults all [] a b e free_none on
 stop_went (Err x) why faults all a b rose on e = on
 

@@ -227,16 +227,22 @@ given_free : (w : Word) (matches : List Match) → AreFree (fault_of w (Ok match
 given_free w [] = missing_free w.rule.missingok w.text
 given_free w (m ∷ ms) = free_none
 
-pub given_went : {T E : Type 0} (r : Result T E) (w : Word) (matches : List Match) (faults all : List Fault) (a b : Counts) → Onward a b → OnOk r (all ≡ faults ++ fault_of w (Ok matches)) → WentBy r faults all a b
-given_went r w matches faults all a b on h = went_where r faults all a b (λ e. went_free faults all (fault_of w (Ok matches)) a b e (given_free w matches) on) h on
+pub given_went : {T E : Type 0} (r : Result T E) (w : Word) (matches : List Match) (faults all : List Fault) (a b : Counts)
+    → Onward a b → OnOk r (all ≡ faults ++ fault_of w (Ok matches)) → WentBy r faults all a b
+given_went r w matches faults all a b on h =
+    went_where r faults all a b (λ e. went_free faults all (fault_of w (Ok matches)) a b e (given_free w matches) on) h on
 
-one_went : (w : Word) (why : GlobStop) (faults all : List Fault) (a b : Counts) → (IsFailedCall why → Rose a.faults b.faults) → Onward a b → all ≡ faults ++ glob_fault w why → Went faults all a b
+one_went : (w : Word) (why : GlobStop) (faults all : List Fault) (a b : Counts)
+    → (IsFailedCall why → Rose a.faults b.faults) → Onward a b → all ≡ faults ++ glob_fault w why → Went faults all a b
 one_went w (stop.Call kind path) faults all a b rose on e = went_call faults all kind path a b e (rose tt) on
-one_went w stop.LongName faults all a b rose on e = went_free faults all (fault.LongName w.text ∷ []) a b e (record { calls = refl; scripts = refl; none_around = ((λ h. h), tt) }) on
-one_went w stop.TooMany faults all a b rose on e = went_free faults all (fault.TooMany w.text ∷ []) a b e (record { calls = refl; scripts = refl; none_around = ((λ h. h), tt) }) on
+one_went w stop.LongName faults all a b rose on e = went_free faults all (fault.LongName w.text ∷ []) a b e
+    (record { calls = refl; scripts = refl; none_around = ((λ h. h), tt) }) on
+one_went w stop.TooMany faults all a b rose on e = went_free faults all (fault.TooMany w.text ∷ []) a b e
+    (record { calls = refl; scripts = refl; none_around = ((λ h. h), tt) }) on
 one_went w stop.Memory faults all a b rose on e = went_free faults all [] a b e free_none on
 
-pub stopped_went : {T E : Type 0} (r : Result T E) (w : Word) (why : GlobStop) (faults all : List Fault) (a b : Counts) → (IsFailedCall why → Rose a.faults b.faults) → Onward a b → OnOk r (all ≡ faults ++ glob_fault w why) → WentBy r faults all a b
+pub stopped_went : {T E : Type 0} (r : Result T E) (w : Word) (why : GlobStop) (faults all : List Fault) (a b : Counts)
+    → (IsFailedCall why → Rose a.faults b.faults) → Onward a b → OnOk r (all ≡ faults ++ glob_fault w why) → WentBy r faults all a b
 stopped_went r w why faults all a b rose on h = went_where r faults all a b (λ e. one_went w why faults all a b rose on e) h on
 
 -- ---- the matches of a word, one behind another

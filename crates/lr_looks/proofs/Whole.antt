@@ -116,11 +116,17 @@ kinds_free : (fs : List FoundLog) → AreFree (flat_map kind_fault fs)
 kinds_free [] = free_none
 kinds_free (f ∷ fs) = free_on (kind_fault f) (flat_map kind_fault fs) (kind_free f) (kinds_free fs)
 
-kept_went : (reserved : List Path) (found kept : List FoundLog) (b c : List Fault) (k : Counts) → Keeps reserved found b c kept → Went b c k k
-kept_went reserved found kept b c k h = went_free b c (kept_faults reserved found b c kept h) k k h.faults_are (free_on (choice_faults reserved found found h.choices) (flat_map kind_fault (kept_of found h.choices)) (choices_free reserved found found h.choices) (kinds_free (kept_of found h.choices))) (onward_same k)
+kept_went : (reserved : List Path) (found kept : List FoundLog) (b c : List Fault) (k : Counts)
+    → Keeps reserved found b c kept → Went b c k k
+kept_went reserved found kept b c k h =
+    went_free b c (kept_faults reserved found b c kept h) k k h.faults_are
+    (free_on (choice_faults reserved found found h.choices) (flat_map kind_fault (kept_of found h.choices))
+    (choices_free reserved found found h.choices) (kinds_free (kept_of found h.choices))) (onward_same k)
 
-pub all_went : {E : Type 0} (r : Result Looks E) (reserved : List Path) (found kept : List FoundLog) (a b c d : List Fault) (k l m : Counts) → Went a b k l → Keeps reserved found b c kept → WentBy r c d l m → WentBy r a d k m
-all_went r reserved found kept a b c d k l m x h y = went_then r a c d k l m (went_on a b c k l l x (kept_went reserved found kept b c l h)) y
+pub all_went : {E : Type 0} (r : Result Looks E) (reserved : List Path) (found kept : List FoundLog) (a b c d : List Fault)
+    (k l m : Counts) → Went a b k l → Keeps reserved found b c kept → WentBy r c d l m → WentBy r a d k m
+all_went r reserved found kept a b c d k l m x h y =
+    went_then r a c d k l m (went_on a b c k l l x (kept_went reserved found kept b c l h)) y
 
 -- ---- in part
 

@@ -39,7 +39,8 @@ loop-item-preserved g c =
           c.args.sets.now.items c.loop-item.sets.items c.look_at_family.new.sets.items c.loop-item.invariant.told c.in_ok-look_at_family.ensures.told;
       many = c.in_ok-look_at_family.ensures.many ∙ c.loop-item.invariant.many;
       ready = λ r. c.in_ok-look_at_family.ensures.ready (c.loop-item.invariant.ready r);
-      went = went_on c.args.faults.now.items c.loop-item.faults.items c.look_at_family.new.faults.items _ _ _ c.loop-item.invariant.went c.in_ok-look_at_family.ensures.went;
+      went = went_on c.args.faults.now.items c.loop-item.faults.items c.look_at_family.new.faults.items
+          _ _ _ c.loop-item.invariant.went c.in_ok-look_at_family.ensures.went;
     }
 
 pub returns-in_err-look_at_family-clause-some : goal.returns-in_err-look_at_family-clause-some

@@ -21,4 +21,5 @@ pub returns-in-Ok-clause-went : goal.returns-in-Ok-clause-went
 returns-in-Ok-clause-went g c = went_only c.add_look.result c.args.faults.now.items _ _ c.in-Ok.ensures.counts
 
 pub returns-in-Err-clause-went : goal.returns-in-Err-clause-went
-returns-in-Err-clause-went g c = stop_went c.add_stop.result c.in-Err.why c.args.faults.now.items c.add_stop.new.faults.items _ _ c.in-Err.ensures.cause c.in-Err.ensures.counts c.add_stop.ensures.faults
+returns-in-Err-clause-went g c = stop_went c.add_stop.result c.in-Err.why c.args.faults.now.items c.add_stop.new.faults.items
+    _ _ c.in-Err.ensures.cause c.in-Err.ensures.counts c.add_stop.ensures.faults

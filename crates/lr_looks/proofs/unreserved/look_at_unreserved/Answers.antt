@@ -15,7 +15,9 @@ returns-clause-told g c = all_ok c.look_at_families.result c.args.reserved.now c
     c.in_ok-found.ensures.texts c.in_ok-found.ensures.paths c.in_ok-found.ensures.told c.in_ok-kept.ensures c.look_at_families.ensures.told c.look_at_families.ensures.kept c.look_at_families.ensures.many c.len.ensures
 
 pub returns-clause-went : goal.returns-clause-went
-returns-clause-went g c = all_went c.look_at_families.result c.args.reserved.now (all_found_in c.in_ok-found.found.items) (all_found_in c.in_ok-kept.kept.items) c.args.faults.now.items c.look_at_words.new.faults.items c.keep.new.faults.items c.look_at_families.new.faults.items _ _ _
+returns-clause-went g c = all_went c.look_at_families.result c.args.reserved.now
+    (all_found_in c.in_ok-found.found.items) (all_found_in c.in_ok-kept.kept.items) c.args.faults.now.items
+    c.look_at_words.new.faults.items c.keep.new.faults.items c.look_at_families.new.faults.items _ _ _
     c.in_ok-found.ensures.went c.in_ok-kept.ensures c.look_at_families.ensures.went
 
 pub returns-clause-some : goal.returns-clause-some

@@ -1,4 +1,4 @@
-use Rattle.std.proofs.Common.{◌≡◌, ◌<◌, ◌∷◌, [], List, length, map, take, get_or, ap, subst, rules, arith}
+use Rattle.std.proofs.Common.{◌≡◌, ◌<◌, ◌∷◌, [], List, length, map, take, get_or, ap, subst, arith}
 use Rattle.std.proofs.lemmas.List.{take_all}
 use Rattle.lr_host.proofs.Counts.{went_none, went_on}
 use Rattle.lr_looks.specs.Asked.{word_of, AreTexts}
@@ -28,7 +28,8 @@ loop-word-preserved g c =
           c.loop-word.invariant.found c.in_ok-look_at_word.ensures.found;
       paths = λ h. c.in_ok-look_at_word.ensures.paths (c.loop-word.invariant.paths h);
       texts = texts_more _ (map (word_of c.args.set c.args.rule.now) (take c.loop-word.word-index c.args.rule.now.words)) (word_of c.args.set c.args.rule.now c.word-item.result ∷ []) more c.loop-word.invariant.texts c.in_ok-look_at_word.ensures.text;
-      went = went_on c.args.faults.now.items c.loop-word.faults.items c.look_at_word.new.faults.items _ _ _ c.loop-word.invariant.went c.in_ok-look_at_word.ensures.went;
+      went = went_on c.args.faults.now.items c.loop-word.faults.items c.look_at_word.new.faults.items
+          _ _ _ c.loop-word.invariant.went c.in_ok-look_at_word.ensures.went;
     }
 
 pub returns-in_err-look_at_word-clause-some : goal.returns-in_err-look_at_word-clause-some

@@ -17,7 +17,9 @@ pub returns-in-Ok-clause-found : goal.returns-in-Ok-clause-found
 returns-in-Ok-clause-found g c = given_found c.add_matches.result (word_of c.args.set c.args.rule.now c.args.word.now) (Ok c.in-Ok.matches.items) (all_found_in c.args.found.now.items) (all_found_in c.add_matches.new.found.items) c.add_matches.ensures.found
 
 pub returns-in-Ok-clause-went : goal.returns-in-Ok-clause-went
-returns-in-Ok-clause-went g c = given_went c.add_matches.result (word_of c.args.set c.args.rule.now c.args.word.now) c.in-Ok.matches.items c.args.faults.now.items c.add_matches.new.faults.items _ _ c.in-Ok.ensures.counts c.add_matches.ensures.faults
+returns-in-Ok-clause-went g c = given_went c.add_matches.result (word_of c.args.set c.args.rule.now c.args.word.now)
+    c.in-Ok.matches.items c.args.faults.now.items c.add_matches.new.faults.items _ _
+    c.in-Ok.ensures.counts c.add_matches.ensures.faults
 
 pub returns-in-Err-clause-told : goal.returns-in-Err-clause-told
 returns-in-Err-clause-told g c = stopped_told c.add_stop.result (word_of c.args.set c.args.rule.now c.args.word.now) c.room_behind-room.result c.in-Err.why c.args.faults.now.items c.add_stop.new.faults.items c.args.found.now.items
@@ -31,4 +33,6 @@ pub returns-in-Err-clause-found : goal.returns-in-Err-clause-found
 returns-in-Err-clause-found g c = stopped_found c.add_stop.result (word_of c.args.set c.args.rule.now c.args.word.now) c.in-Err.why (all_found_in c.args.found.now.items)
 
 pub returns-in-Err-clause-went : goal.returns-in-Err-clause-went
-returns-in-Err-clause-went g c = stopped_went c.add_stop.result (word_of c.args.set c.args.rule.now c.args.word.now) c.in-Err.why c.args.faults.now.items c.add_stop.new.faults.items _ _ c.in-Err.ensures.cause c.in-Err.ensures.counts c.add_stop.ensures.faults
+returns-in-Err-clause-went g c = stopped_went c.add_stop.result (word_of c.args.set c.args.rule.now c.args.word.now)
+    c.in-Err.why c.args.faults.now.items c.add_stop.new.faults.items _ _
+    c.in-Err.ensures.cause c.in-Err.ensures.counts c.add_stop.ensures.faults

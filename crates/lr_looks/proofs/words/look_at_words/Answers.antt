@@ -1,4 +1,4 @@
-use Rattle.std.proofs.Common.{◌≡◌, [], List, take, sym, ap, ◌∙◌, subst, rules, arith}
+use Rattle.std.proofs.Common.{◌≡◌, [], List, take, sym, ap, ◌∙◌, subst, arith}
 use Rattle.std.proofs.lemmas.List.{take_all}
 use Rattle.lr_host.proofs.Counts.{went_none, went_on}
 use Rattle.lr_rules.specs.declared.rule.Rule.{Rule}
@@ -28,7 +28,8 @@ loop-set-preserved g c =
           c.loop-set.invariant.found c.in_ok-look_at_rule.ensures.found;
       paths = c.in_ok-look_at_rule.ensures.paths c.loop-set.invariant.paths;
       texts = texts_more _ (asked_by (take c.loop-set.set c.as_slice-sets.result.now)) (words_of c.loop-set.set c.index-sets-set.result) more c.loop-set.invariant.texts c.in_ok-look_at_rule.ensures.texts;
-      went = went_on c.args.faults.now.items c.loop-set.faults.items c.look_at_rule.new.faults.items _ _ _ c.loop-set.invariant.went c.in_ok-look_at_rule.ensures.went;
+      went = went_on c.args.faults.now.items c.loop-set.faults.items c.look_at_rule.new.faults.items
+          _ _ _ c.loop-set.invariant.went c.in_ok-look_at_rule.ensures.went;
     }
 
 pub returns-in_err-look_at_rule-clause-some : goal.returns-in_err-look_at_rule-clause-some
