@@ -8,12 +8,12 @@ use Rattle.lr_rules.specs.declared.path.Path.{Path}
 use Rattle.lr_rules.specs.declared.rule.Rule.{Rule}
 use Rattle.lr_host.specs.declared.entry.Entry.{Entry}
 use Rattle.lr_host.specs.declared.journal.Journal.{Journal}
-use Rattle.lr_host.specs.Told.{Counts, NoneFell, Rose, Left, Then, WhereTold}
+use Rattle.lr_host.specs.Told.{Counts, NoneFell, Onward, Rose, Left, Then, WhereTold}
 use Rattle.lr_host.proofs.Left.{left_both}
-use Rattle.lr_host.specs.Counted.{AreCounted, AddsFaults}
+use Rattle.lr_host.specs.Counted.{AreCounted, AddsFaults, Went, WentBy}
 use Rattle.lr_plan.specs.Asked.{Asked}
 use Rattle.lr_plan.specs.declared.plan.Plan.{Plan}
-use Rattle.lr_host.proofs.Counts.{adds_free, adds_call}
+use Rattle.lr_host.proofs.Counts.{went_free, went_call}
 use Rattle.lr_run.specs.declared.directory.DirStop.{DirStop}
 use Rattle.lr_run.specs.declared.directory.DirStop.TheVariants as dir
 use Rattle.lr_run.specs.Internal.{dir_fault_of, CameTo, WorksOn, SomeWork}
@@ -40,22 +40,13 @@ counted_wider fs k l m le c = record {
   none_around = c.none_around;
 }
 
-counted_later : (fs : List Fault) (j k l : Counts) → NoneFell j k → AreCounted fs k l → AreCounted fs j l
-counted_later fs j k l le c = record {
-  calls = (let a = c.calls in let b : j.faults ≤ k.faults = le.0 in omega (arith, a, b));
-  scripts = (let a = c.scripts in let b : j.bad_ends ≤ k.bad_ends = le.1 in omega (arith, a, b));
-  none_around = c.none_around;
-}
-
-pub adds_wider : {T E : Type 0} (r : Result T E) (a b : List Fault) (k l m : Counts) → NoneFell l m → OnOk r (AddsFaults a b k l) → OnOk r (AddsFaults a b k m)
-adds_wider (Ok x) a b k l m le h = record { added = h.added; after_is = h.after_is; are_counted = counted_wider h.added k l m le h.are_counted }
+-- the counts of what came behind are told too
+pub adds_wider : {T E : Type 0} (r : Result T E) (a b : List Fault) (k l m : Counts) → NoneFell l m → WentBy r a b k l → OnOk r (AddsFaults a b k m)
+adds_wider (Ok x) a b k l m le h = record { added = h.adds.added; after_is = h.adds.after_is; are_counted = counted_wider h.adds.added k l m le h.adds.are_counted }
 adds_wider (Err x) a b k l m le h = tt
 
-pub adds_later : {T E : Type 0} (r : Result T E) (a b : List Fault) (j k l : Counts) → NoneFell j k → OnOk r (AddsFaults a b k l) → OnOk r (AddsFaults a b j l)
-adds_later (Ok x) a b j k l le h = record { added = h.added; after_is = h.after_is; are_counted = counted_later h.added j k l le h.are_counted }
-adds_later (Err x) a b j k l le h = tt
-
-pub dir_counted : (why : DirStop) (x : Path) (a b : List Fault) (k l : Counts) → b ≡ a ++ dir_fault_of why x ∷ [] → (why ≡ dir.Call → Rose k.faults l.faults) → NoneFell k l → AddsFaults a b k l
-dir_counted dir.Nothing x a b k l e r le = adds_free a b (fault.NoDir x ∷ []) k l e (record { calls = refl; scripts = refl; none_around = ((λ h. h), tt) }) le
-dir_counted dir.NoDir x a b k l e r le = adds_free a b (fault.NoDir x ∷ []) k l e (record { calls = refl; scripts = refl; none_around = ((λ h. h), tt) }) le
-dir_counted dir.Call x a b k l e r le = adds_call a b call.Look x k l e (r refl) le
+-- the fault of the state's directory
+pub dir_went : (why : DirStop) (x : Path) (a b : List Fault) (k l : Counts) → b ≡ a ++ dir_fault_of why x ∷ [] → (why ≡ dir.Call → Rose k.faults l.faults) → Onward k l → Went a b k l
+dir_went dir.Nothing x a b k l e r h = went_free a b (fault.NoDir x ∷ []) k l e (record { calls = refl; scripts = refl; none_around = ((λ h. h), tt) }) h
+dir_went dir.NoDir x a b k l e r h = went_free a b (fault.NoDir x ∷ []) k l e (record { calls = refl; scripts = refl; none_around = ((λ h. h), tt) }) h
+dir_went dir.Call x a b k l e r h = went_call a b call.Look x k l e (r refl) h

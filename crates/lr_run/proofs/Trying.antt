@@ -15,7 +15,7 @@ use Rattle.lr_rules.specs.declared.rules.Rules.{Rules}
 use Rattle.lr_rules.specs.Path.{parent_of}
 use Rattle.lr_host.specs.declared.entry.Entry.{Entry}
 use Rattle.lr_host.specs.declared.journal.Journal.{Journal}
-use Rattle.lr_host.specs.Counted.{AddsFaults}
+use Rattle.lr_host.specs.Counted.{AddsFaults, Went, WentBy}
 use Rattle.lr_host.specs.Looks.{Sees, IsDir, IsNoDir, IsNothing}
 use Rattle.lr_host.specs.Told.{Counts, Left, not_told, is_told}
 use Rattle.lr_host.proofs.Counts.{AreFree, adds_on, adds_free}
@@ -96,10 +96,10 @@ planned (Ok told) state rules looks table clock asked x y z l h = left_as l (λ 
       follows = follows_by rules saw clock asked told h.0 (subst (λ (ks : List Path). Follows rules looks.sets ks table clock asked told h.0) g.kept_are h.2);
     })
 
-pub planned_counted : {E : Type 0} (r : Result (Option Plan) E) (rules : List Rule) (sets : List SetLooks) (kept : List Path) (table : List Row) (clock : Clock) (asked : Asked) (x y z : List Fault) (k l : Counts) → AddsFaults x y k l
-    → IfOk r (λ told. (own : List Fault) × (z ≡ y ++ own) × Follows rules sets kept table clock asked told own) → OnOk r (AddsFaults x z k l)
-planned_counted (Err e) rules sets kept table clock asked x y z k l a h = tt
-planned_counted (Ok told) rules sets kept table clock asked x y z k l a h = adds_on x y z k l l a (follows_free rules sets kept table clock asked told h.0 y z l h.2 h.1)
+pub planned_went : {E : Type 0} (r : Result (Option Plan) E) (rules : List Rule) (sets : List SetLooks) (kept : List Path) (table : List Row) (clock : Clock) (asked : Asked) (x y z : List Fault) (k l : Counts) → Went x y k l
+    → IfOk r (λ told. (own : List Fault) × (z ≡ y ++ own) × Follows rules sets kept table clock asked told own) → WentBy r x z k l
+planned_went (Err e) rules sets kept table clock asked x y z k l w h = w.onward
+planned_went (Ok told) rules sets kept table clock asked x y z k l w h = record { adds = adds_on x y z k l l w.adds (follows_free rules sets kept table clock asked told h.0 y z l h.2 h.1); onward = w.onward }
 
 -- all of them
 pub all_looked : {T E : Type 0} (r : Result T E) (state : Path) (rules : List Rule) (looks : Looks) (a b : List Fault) {o n : Option Journal} → Left (LooksAtAll (reserved_by state) rules looks a b) o n → OnErr r (Left (ShowsSomeLooks (reserved_by state) rules) o n)

@@ -181,10 +181,6 @@ pub too_big_counted : {T E : Type 0} (r : Result T E) (a b : List Fault) (k : Co
 too_big_counted (Ok u) a b k e = adds_free a b (fault.State 0 kind.TooBig ∷ []) k k e (record { calls = refl; scripts = refl; none_around = ((λ h. h), tt) }) (none_fell k)
 too_big_counted (Err u) a b k e = tt
 
-pub looked_counted : {T E : Type 0} (r : Result T E) (a b c : List Fault) (k l m : Counts) → AddsFaults a b k l → OnOk r (AddsFaults b c l m) → OnOk r (AddsFaults a c k m)
-looked_counted (Ok u) a b c k l m h g = adds_on a b c k l m h g
-looked_counted (Err u) a b c k l m h g = tt
-
 -- ---- the reading
 
 abbrev pub none_sights : StateSights

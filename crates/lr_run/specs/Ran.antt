@@ -1,5 +1,5 @@
 -- What a run leaves and answers: it halted before its plan, or it came to its plan.
-use Rattle.std.specs.Prelude.{◌≡◌, Bool, true, false, List, ◌++◌, Option, Some, None, Result, Ok, Err}
+use Rattle.std.specs.Prelude.{◌≡◌, Bool, true, false, List, [], ◌++◌, Option, Some, None, Result, Ok, Err}
 use Rattle.lr_rules.specs.declared.clock.Clock.{Clock}
 use Rattle.lr_rules.specs.declared.fault.Fault.{Fault}
 use Rattle.lr_rules.specs.declared.fault.Fault.TheVariants as fault
@@ -22,6 +22,11 @@ use Rattle.lr_run.specs.Halt.{Halt, OfFaults, OfLock, OfMemory, Halts}
 use Rattle.lr_run.specs.Work.{Work, ShowsWork, CarriesOut, BreaksOff, DidNothing, act_faults, run_entries, steps_in}
 
 -- ---- answers
+
+-- the faults of a run's answer
+abbrev pub run_faults : Result Ran RunStop → List Fault
+run_faults (Ok ran) = ran.faults.items
+run_faults (Err why) = []
 
 -- of a run that halted: by its own faults, behind those that were handed in
 abbrev pub AnswersHalt : List Fault → Halt → Result Ran RunStop → Type 0

@@ -4,8 +4,8 @@ ghost use Rattle.std.specs.Vec.{vec_capacity};
 ghost use Rattle.lr_rules.specs.declared.clock.Clock.{Clock};
 ghost use Rattle.lr_rules.specs.declared.fault.Fault.{Fault};
 ghost use Rattle.lr_rules.specs.Path.{parent_of};
-ghost use Rattle.lr_host.specs.Counted.{AddsFaults};
-ghost use Rattle.lr_host.specs.Told.{Left, Onward};
+ghost use Rattle.lr_host.specs.Counted.{WentBy};
+ghost use Rattle.lr_host.specs.Told.{Left};
 ghost use Rattle.lr_looks.specs.Shown.{ShowsSomeLooks};
 ghost use Rattle.lr_plan.specs.Asked.{asking};
 ghost use Rattle.lr_plan.specs.Planned.{CanPlanAll};
@@ -13,7 +13,7 @@ ghost use Rattle.lr_looks.specs.Reserved.{reserved_by};
 ghost use Rattle.lr_run.specs.Dry.{Follows, measured_by};
 ghost use Rattle.lr_run.specs.Halt.{OfMemory, Halts};
 ghost use Rattle.lr_run.specs.Internal.{plan_if, faults_if};
-ghost use Rattle.lr_run.specs.Ran.{RanSo};
+ghost use Rattle.lr_run.specs.Ran.{RanSo, run_faults};
 ghost use Rattle.lr_run.specs.Runs.{SomeSeen};
 ghost use Rattle.lr_run.specs.Trying.{PlansOn, PlansByOn, TriesOn};
 
@@ -117,8 +117,7 @@ fn look_and_plan<H: Host>(
     ensures told { IfOk result (λ plan. Left (PlansOn settings.now.state rules.now.sets table clock.entry.now (asking settings.now.force settings.now.mailer) plan faults.old.items faults.new.items) (H.told host.old) (H.told host.new)) }
     ensures some { OnErr result (Left (ShowsSomeLooks (reserved_by settings.now.state) rules.now.sets) (H.told host.old) (H.told host.new)) }
     ensures room { OnOk result (vec_len faults.new + 1 ≤ vec_capacity faults.new) }
-    ensures counted { OnOk result (AddsFaults faults.old.items faults.new.items (H.counts host.old) (H.counts host.new)) }
-    ensures counts { Onward (H.counts host.old) (H.counts host.new) }
+    ensures went { WentBy result faults.old.items faults.new.items (H.counts host.old) (H.counts host.new) }
 {
     let looks = look_all(alloc, host, rules, &settings.state, faults)?;
     plan_dry(alloc, rules, settings, clock, &looks, table, faults)
@@ -137,8 +136,7 @@ fn read_and_plan<H: Host>(
     ensures told { IfOk result (λ plan. Left (PlansByOn settings.now.state rules.now.sets clock.entry.now (asking settings.now.force settings.now.mailer) plan faults.old.items faults.new.items) (H.told host.old) (H.told host.new)) }
     ensures some { OnErr result (Left (SomeSeen settings.now.state rules.now.sets) (H.told host.old) (H.told host.new)) }
     ensures room { OnOk result (vec_len faults.new + 1 ≤ vec_capacity faults.new) }
-    ensures counted { OnOk result (AddsFaults faults.old.items faults.new.items (H.counts host.old) (H.counts host.new)) }
-    ensures counts { Onward (H.counts host.old) (H.counts host.new) }
+    ensures went { WentBy result faults.old.items faults.new.items (H.counts host.old) (H.counts host.new) }
 {
     let part = part_path(alloc, &settings.state)?;
     match known_state(alloc, host, &settings.state, &part)? {
@@ -175,8 +173,7 @@ fn try_run<H: Host>(
     ensures told { IfOk result (λ plan. Left (TriesOn settings.now.state rules.now clock.entry.now (asking settings.now.force settings.now.mailer) faults.old.items (Ok (record { plan = plan; faults = faults.new }))) (H.told host.old) (H.told host.new)) }
     ensures some { OnErr result (Left (Halts true settings.now.state rules.now clock.entry.now (asking settings.now.force settings.now.mailer) OfMemory) (H.told host.old) (H.told host.new)) }
     ensures room { OnOk result (vec_len faults.new + 1 ≤ vec_capacity faults.new) }
-    ensures counted { OnOk result (AddsFaults faults.old.items faults.new.items (H.counts host.old) (H.counts host.new)) }
-    ensures counts { Onward (H.counts host.old) (H.counts host.new) }
+    ensures went { WentBy result faults.old.items faults.new.items (H.counts host.old) (H.counts host.new) }
 {
     match look_for_dir(host, &dir) {
         Ok(()) => read_and_plan(alloc, host, rules, settings, clock, faults),
@@ -205,10 +202,9 @@ pub fn dry_run<H: Host>(
     host: &mut H,
 ) -> Result<Ran, RunStop>
     ensures told { RanSo true settings.now.state rules.now clock.entry.now (asking settings.now.force settings.now.mailer) earlier.items result (H.told host.old) (H.told host.new) }
-    ensures counted { IfOk result (λ ran. AddsFaults earlier.items ran.faults.items (H.counts host.old) (H.counts host.new)) }
+    ensures went { WentBy result earlier.items (run_faults result) (H.counts host.old) (H.counts host.new) }
     ensures held { result ≢ Err RunStop.Held }
     ensures room { IfOk result (λ ran. vec_len ran.faults + 1 ≤ vec_capacity ran.faults) }
-    ensures counts { Onward (H.counts host.old) (H.counts host.new) }
 {
     let Ok(dir) = settings.state.parent(alloc) else {
         return Err(RunStop::Memory);

@@ -6,9 +6,9 @@ ghost use Rattle.lr_rules.specs.declared.fault.Fault.TheVariants as fault;
 ghost use Rattle.lr_rules.specs.Path.{parent_of};
 ghost use Rattle.lr_host.specs.declared.entry.Entry.TheVariants as entry;
 ghost use Rattle.lr_host.specs.Opening.{IsJournal};
-ghost use Rattle.lr_host.specs.Told.{Left, Then, Are, Can, NoneFell, Onward, Rose, WhereTold};
+ghost use Rattle.lr_host.specs.Told.{Left, Then, Are, Can, NoneFell, Rose, WhereTold};
 ghost use Rattle.lr_host.specs.World.{world};
-ghost use Rattle.lr_host.specs.Counted.{AddsFaults};
+ghost use Rattle.lr_host.specs.Counted.{AddsFaults, WentBy};
 ghost use Rattle.lr_plan.specs.Asked.{asking};
 ghost use Rattle.lr_run.specs.Internal.{CameTo, EndsWork, Goes, SomeWork, Stopped};
 
@@ -76,8 +76,7 @@ pub fn begin_to_end<H: Host>(
     ensures stopped { IfErr result (λ why. Left (Stopped settings.now.state (asking settings.now.force settings.now.mailer) clock.entry.now rules.now why) (H.told host.old) (H.told host.new)) }
     ensures held { result ≡ Err RunStop.Held → Rose (H.counts host.old).held (H.counts host.new).held }
     ensures room { OnOk result (vec_len progress.new.faults + 1 ≤ vec_capacity progress.new.faults) }
-    ensures counted { OnOk result (AddsFaults progress.old.faults.items progress.new.faults.items (H.counts host.old) (H.counts host.new)) }
-    ensures counts { Onward (H.counts host.old) (H.counts host.new) }
+    ensures went { WentBy result progress.old.faults.items progress.new.faults.items (H.counts host.old) (H.counts host.new) }
 {
     match host.begin(&settings.state, &clock.now, rules) {
         Ok(true) => match work_to_end(alloc, host, rules, settings, clock, reached, progress) {

@@ -3,9 +3,9 @@ ghost use Rattle.std.specs.Prelude.{◌≡◌, ◌+◌, ◌≤◌, ◌++◌, ◌
 ghost use Rattle.std.specs.Vec.{vec_capacity};
 ghost use Rattle.lr_rules.specs.Path.{parent_of};
 ghost use Rattle.lr_host.specs.Opening.{IsJournal};
-ghost use Rattle.lr_host.specs.Told.{Left, Onward, Rose, WhereTold};
+ghost use Rattle.lr_host.specs.Told.{Left, Rose, WhereTold};
 ghost use Rattle.lr_durable.specs.StateWhole.{KeepsWhole};
-ghost use Rattle.lr_host.specs.Counted.{AddsFaults};
+ghost use Rattle.lr_host.specs.Counted.{WentBy};
 ghost use Rattle.lr_emptied.specs.Emptied.{EmptiesWhole};
 ghost use Rattle.lr_laws.specs.Forward.{IsForwardFor};
 ghost use Rattle.lr_laws.specs.Stays.{KeepsSafeWhere};
@@ -13,7 +13,7 @@ ghost use Rattle.lr_laws_targets.specs.Runs.{IsWholeRunBy};
 ghost use Rattle.lr_plan.specs.Asked.{asking};
 ghost use Rattle.lr_run.specs.Internal.{StopsSo, dir_fault_of};
 ghost use Rattle.lr_run.specs.Copied.{IsCopyBy};
-ghost use Rattle.lr_run.specs.Ran.{RanSo};
+ghost use Rattle.lr_run.specs.Ran.{RanSo, run_faults};
 ghost use Rattle.lr_run.specs.State.{IsNewText};
 
 use crate::answer::{Ran, RunStop};
@@ -71,8 +71,7 @@ fn make_run<H: Host>(
     ensures stopped { IfErr result (λ why. Left (StopsSo settings.now.state (asking settings.now.force settings.now.mailer) clock.entry.now rules.now why) (H.told host.old) (H.told host.new)) }
     ensures held { result ≡ Err RunStop.Held → Rose (H.counts host.old).held (H.counts host.new).held }
     ensures room { OnOk result (vec_len progress.new.faults + 1 ≤ vec_capacity progress.new.faults) }
-    ensures counted { OnOk result (AddsFaults progress.old.faults.items progress.new.faults.items (H.counts host.old) (H.counts host.new)) }
-    ensures counts { Onward (H.counts host.old) (H.counts host.new) }
+    ensures went { WentBy result progress.old.faults.items progress.new.faults.items (H.counts host.old) (H.counts host.new) }
 {
     match look_for_dir(host, &names.dir) {
         Ok(()) => {
@@ -129,10 +128,9 @@ pub fn real_run<H: Host>(
     ensures copied { EmptiesWhole (IsCopyBy rules.now.sets clock.entry.now) (H.told host.old) (H.told host.new) }
     ensures told { RanSo false settings.now.state rules.now clock.entry.now (asking settings.now.force settings.now.mailer) earlier.items result (H.told host.old) (H.told host.new) }
     ensures shape { Left (IsWholeRunBy clock.entry.now) (H.told host.old) (H.told host.new) }
-    ensures counted { IfOk result (λ ran. AddsFaults earlier.items ran.faults.items (H.counts host.old) (H.counts host.new)) }
+    ensures went { WentBy result earlier.items (run_faults result) (H.counts host.old) (H.counts host.new) }
     ensures held { result ≡ Err RunStop.Held → Rose (H.counts host.old).held (H.counts host.new).held }
     ensures room { IfOk result (λ ran. vec_len ran.faults + 1 ≤ vec_capacity ran.faults) }
-    ensures counts { Onward (H.counts host.old) (H.counts host.new) }
 {
     let Ok(names) = names_of(alloc, &settings.state) else {
         return Err(RunStop::Memory);

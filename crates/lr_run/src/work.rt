@@ -7,8 +7,8 @@ ghost use Rattle.lr_rules.specs.Path.{parent_of};
 ghost use Rattle.lr_rules.specs.StatePath.{state_part};
 ghost use Rattle.lr_host.specs.declared.entry.Entry.TheVariants as entry;
 ghost use Rattle.lr_host.specs.Opening.{IsJournal};
-ghost use Rattle.lr_host.specs.Told.{Left, Can, Onward, WhereTold};
-ghost use Rattle.lr_host.specs.Counted.{AddsFaults};
+ghost use Rattle.lr_host.specs.Told.{Left, Can, WhereTold};
+ghost use Rattle.lr_host.specs.Counted.{WentBy};
 ghost use Rattle.lr_plan.specs.Asked.{asking};
 ghost use Rattle.lr_plan.specs.Planned.{CanPlanAll};
 ghost use Rattle.lr_run.specs.Internal.{CameTo, Carries, EndsBehindLooks, EndsBehindState, IsBehind, KnownBefore, LooksAndActs, SeenBefore, SomeWork, WorksOn};
@@ -66,8 +66,7 @@ fn plan_and_act<H: Host>(
     ensures told { OnOk result (Carries settings.now.state rules.now looks.now remembered clock.entry.now (asking settings.now.force settings.now.mailer) reached.new progress.old.faults.items progress.new.faults.items (H.told host.old) (H.told host.new)) }
     ensures some { OnErr result (Left (EndsBehindLooks rules.now looks.now settings.now.state remembered clock.entry.now (asking settings.now.force settings.now.mailer)) (H.told host.old) (H.told host.new)) }
     ensures room { OnOk result (vec_len progress.new.faults + 1 ≤ vec_capacity progress.new.faults) }
-    ensures counted { OnOk result (AddsFaults progress.old.faults.items progress.new.faults.items (H.counts host.old) (H.counts host.new)) }
-    ensures counts { Onward (H.counts host.old) (H.counts host.new) }
+    ensures went { WentBy result progress.old.faults.items progress.new.faults.items (H.counts host.old) (H.counts host.new) }
 {
     let plan = plan(alloc, rules, looks, &remembered.table, clock, settings)?;
     let kept = looks.kept.as_slice();
@@ -107,8 +106,7 @@ fn look_and_act<H: Host>(
     ensures told { OnOk result (CameTo (LooksAndActs (IsBehind remembered) settings.now.state rules.now.sets clock.entry.now (asking settings.now.force settings.now.mailer) reached.new progress.old.faults.items progress.new.faults.items) settings.now.state clock.entry.now (H.told host.old) (H.told host.new)) }
     ensures some { OnErr result (Left (EndsBehindState settings.now.state rules.now.sets clock.entry.now (asking settings.now.force settings.now.mailer) remembered) (H.told host.old) (H.told host.new)) }
     ensures room { OnOk result (vec_len progress.new.faults + 1 ≤ vec_capacity progress.new.faults) }
-    ensures counted { OnOk result (AddsFaults progress.old.faults.items progress.new.faults.items (H.counts host.old) (H.counts host.new)) }
-    ensures counts { Onward (H.counts host.old) (H.counts host.new) }
+    ensures went { WentBy result progress.old.faults.items progress.new.faults.items (H.counts host.old) (H.counts host.new) }
 {
     let looks = look_all(alloc, host, rules, &settings.state, &mut progress.faults)?;
     plan_and_act(
@@ -143,8 +141,7 @@ pub fn work<H: Host>(
     ensures told { OnOk result (CameTo (WorksOn settings.now.state rules.now.sets clock.entry.now (asking settings.now.force settings.now.mailer) reached.new progress.old.faults.items progress.new.faults.items) settings.now.state clock.entry.now (H.told host.old) (H.told host.new)) }
     ensures some { OnErr result (Left (SomeWork settings.now.state rules.now.sets clock.entry.now (asking settings.now.force settings.now.mailer)) (H.told host.old) (H.told host.new)) }
     ensures room { OnOk result (vec_len progress.new.faults + 1 ≤ vec_capacity progress.new.faults) }
-    ensures counted { OnOk result (AddsFaults progress.old.faults.items progress.new.faults.items (H.counts host.old) (H.counts host.new)) }
-    ensures counts { Onward (H.counts host.old) (H.counts host.new) }
+    ensures went { WentBy result progress.old.faults.items progress.new.faults.items (H.counts host.old) (H.counts host.new) }
 {
     let part = part_path(alloc, &settings.state)?;
     match known_state(alloc, host, &settings.state, &part)? {

@@ -1,6 +1,6 @@
 use Rattle.std.proofs.Common.{refl}
 use Rattle.lr_plan.specs.Asked.{asking}
-use Rattle.lr_run.proofs.Trying.{planned, planned_counted, all_looked}
+use Rattle.lr_run.proofs.Trying.{planned, planned_went, all_looked}
 use Rattle.lr_looks.proofs.Whole.{some_looked}
 use Rattle.lr_run.proofs.dry.look_and_plan.Goals as goal
 
@@ -14,5 +14,5 @@ returns-clause-told g c = planned c.plan_dry.result c.args.settings.now.state c.
 pub returns-clause-some : goal.returns-clause-some
 returns-clause-some g c = all_looked c.plan_dry.result c.args.settings.now.state c.args.rules.now.sets c.in_ok-looks.looks c.args.faults.now.items c.look_all.new.faults.items c.in_ok-looks.ensures.told
 
-pub returns-clause-counted : goal.returns-clause-counted
-returns-clause-counted g c = planned_counted c.plan_dry.result c.args.rules.now.sets c.in_ok-looks.looks.sets c.in_ok-looks.looks.kept c.args.table c.args.clock.now (asking c.args.settings.now.force c.args.settings.now.mailer) c.args.faults.now.items c.look_all.new.faults.items c.plan_dry.new.faults.items _ _ c.in_ok-looks.ensures.counted c.plan_dry.ensures.follows
+pub returns-clause-went : goal.returns-clause-went
+returns-clause-went g c = planned_went c.plan_dry.result c.args.rules.now.sets c.in_ok-looks.looks.sets c.in_ok-looks.looks.kept c.args.table c.args.clock.now (asking c.args.settings.now.force c.args.settings.now.mailer) c.args.faults.now.items c.look_all.new.faults.items c.plan_dry.new.faults.items _ _ c.in_ok-looks.ensures.went c.plan_dry.ensures.follows

@@ -1,7 +1,7 @@
 use Rattle.std.proofs.Common.{◌∙◌, Ok, Err, ap}
+use Rattle.lr_host.proofs.Counts.{went_behind}
 use Rattle.lr_plan.specs.Asked.{asking}
 use Rattle.lr_run.proofs.Trying.{planned_by, not_planned, some_planned, none_read, some_read}
-use Rattle.lr_run.proofs.Ending.{adds_later}
 use Rattle.lr_run.proofs.Works.{unknown_counted}
 use Rattle.lr_run.proofs.dry.read_and_plan.Goals as goal
 
@@ -17,11 +17,14 @@ returns-in-Ok-clause-told g c = planned_by c.look_and_plan.result c.args.setting
 pub returns-in-Ok-clause-some : goal.returns-in-Ok-clause-some
 returns-in-Ok-clause-some g c = some_planned c.look_and_plan.result c.args.settings.now.state c.args.rules.now.sets c.in-Ok.remembered _ (rw c.in-Ok.is at c.in_ok-remembered.ensures.told) c.look_and_plan.ensures.some
 
-pub returns-in-Ok-clause-counted : goal.returns-in-Ok-clause-counted
-returns-in-Ok-clause-counted g c = adds_later c.look_and_plan.result c.args.faults.now.items c.look_and_plan.new.faults.items _ _ _ c.in_ok-remembered.ensures.counts.0 c.look_and_plan.ensures.counted
+pub returns-in-Ok-clause-went : goal.returns-in-Ok-clause-went
+returns-in-Ok-clause-went g c = went_behind c.look_and_plan.result c.args.faults.now.items c.look_and_plan.new.faults.items _ _ _ c.in_ok-remembered.ensures.counts c.look_and_plan.ensures.went
 
 pub returns-clause-told : goal.returns-clause-told
 returns-clause-told g c = not_planned c.args.settings.now.state c.args.rules.now.sets c.args.clock.now (asking c.args.settings.now.force c.args.settings.now.mailer) c.in-Err.fault c.args.faults.now.items c.add_fault.new.faults.items (rw c.in-Err.is at c.in_ok-remembered.ensures.told) c.add_fault.ensures.faults
 
-pub returns-clause-counted : goal.returns-clause-counted
-returns-clause-counted g c = unknown_counted c.args.settings.now.state c.in-Err.fault c.args.faults.now.items c.add_fault.new.faults.items _ _ c.add_fault.ensures.faults (c.in_ok-remembered.ensures.only c.in-Err.fault (ap Ok c.in-Err.is)) (λ kind path is. c.in_ok-remembered.ensures.counted kind path (ap Ok (c.in-Err.is ∙ ap Err is))) c.in_ok-remembered.ensures.counts.0
+pub returns-clause-went : goal.returns-clause-went
+returns-clause-went g c = record {
+  adds = unknown_counted c.args.settings.now.state c.in-Err.fault c.args.faults.now.items c.add_fault.new.faults.items _ _ c.add_fault.ensures.faults (c.in_ok-remembered.ensures.only c.in-Err.fault (ap Ok c.in-Err.is)) (λ kind path is. c.in_ok-remembered.ensures.counted kind path (ap Ok (c.in-Err.is ∙ ap Err is))) c.in_ok-remembered.ensures.counts.0;
+  onward = c.in_ok-remembered.ensures.counts;
+}

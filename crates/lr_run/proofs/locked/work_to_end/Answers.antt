@@ -13,4 +13,4 @@ pub returns-clause-some : goal.returns-clause-some
 returns-clause-some g c = work_lacked c.work-done.result _ _ _ _ _ c.work-done.ensures.some c.end.ensures.told
 
 pub returns-clause-counted : goal.returns-clause-counted
-returns-clause-counted g c = adds_wider c.work-done.result c.args.progress.now.faults.items c.work-done.new.progress.faults.items _ _ _ c.end.ensures.counts c.work-done.ensures.counted
+returns-clause-counted g c = adds_wider c.work-done.result c.args.progress.now.faults.items c.work-done.new.progress.faults.items _ _ _ c.end.ensures.counts c.work-done.ensures.went
