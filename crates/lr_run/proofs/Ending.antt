@@ -14,8 +14,8 @@ use Rattle.lr_host.specs.Counted.{AreCounted, AddsFaults, Went, WentBy}
 use Rattle.lr_plan.specs.Asked.{Asked}
 use Rattle.lr_plan.specs.declared.plan.Plan.{Plan}
 use Rattle.lr_host.proofs.Counts.{went_free, went_call}
-use Rattle.lr_run.specs.declared.directory.DirStop.{DirStop}
-use Rattle.lr_run.specs.declared.directory.DirStop.TheVariants as dir
+use Rattle.lr_family.specs.declared.directory.DirStop.{DirStop}
+use Rattle.lr_family.specs.declared.directory.DirStop.TheVariants as dir
 use Rattle.lr_run.specs.Internal.{dir_fault_of, CameTo, WorksOn, SomeWork}
 use Rattle.lr_run.proofs.Entries.{works_so, lacking_so}
 use Rattle.lr_run.proofs.Evidence.{works_of}
@@ -47,6 +47,5 @@ adds_wider (Err x) a b k l m le h = tt
 
 -- the fault of the state's directory
 pub dir_went : (why : DirStop) (x : Path) (a b : List Fault) (k l : Counts) → b ≡ a ++ dir_fault_of why x ∷ [] → (why ≡ dir.Call → Rose k.faults l.faults) → Onward k l → Went a b k l
-dir_went dir.Nothing x a b k l e r h = went_free a b (fault.NoDir x ∷ []) k l e (record { calls = refl; scripts = refl; none_around = ((λ h. h), tt) }) h
-dir_went dir.NoDir x a b k l e r h = went_free a b (fault.NoDir x ∷ []) k l e (record { calls = refl; scripts = refl; none_around = ((λ h. h), tt) }) h
+dir_went dir.NotDir x a b k l e r h = went_free a b (fault.NoDir x ∷ []) k l e (record { calls = refl; scripts = refl; none_around = ((λ h. h), tt) }) h
 dir_went dir.Call x a b k l e r h = went_call a b call.Look x k l e (r refl) h

@@ -1,4 +1,3 @@
-mod Sights
 pub mod Simple
 pub mod Scriptless
 pub mod Folded

@@ -25,11 +25,12 @@ use Rattle.lr_plan.specs.declared.plan.Plan.{Plan}
 use Rattle.lr_run.specs.declared.answer.Ran.{Ran}
 use Rattle.lr_run.specs.declared.answer.RunStop.{RunStop}
 use Rattle.lr_run.specs.declared.answer.RunStop.TheVariants as stop
-use Rattle.lr_run.specs.declared.directory.DirStop.{DirStop}
-use Rattle.lr_run.specs.declared.directory.DirStop.TheVariants as dir
+use Rattle.lr_family.specs.declared.directory.DirStop.{DirStop}
+use Rattle.lr_family.specs.declared.directory.DirStop.TheVariants as dir
+use Rattle.lr_family.specs.Directory.{DirSeen, DirStopped}
 use Rattle.lr_run.specs.Halt as halt
 use Rattle.lr_run.specs.Halt.{Halts, LacksState, OfFaults, OfLock, OfMemory}
-use Rattle.lr_run.specs.Internal.{NotSeen, dir_fault_of, CameTo, WorksTo, SeesTooBig, saw_too_big, came_to, ReadsText, WorksOn, knows_none, knows, SomeWork, some_seen, some_done, Begun, Goes, begun, not_begun, Stopped, StopsSo}
+use Rattle.lr_run.specs.Internal.{dir_fault_of, CameTo, WorksTo, SeesTooBig, saw_too_big, came_to, ReadsText, WorksOn, knows_none, knows, SomeWork, some_seen, some_done, Begun, Goes, begun, not_begun, Stopped, StopsSo}
 use Rattle.lr_run.specs.Ran.{RanSo, RunEnds, halted, came, TellsNamesOf}
 use Rattle.lr_looks.specs.Inside.{Inside}
 use Rattle.lr_run.specs.Runs as runs
@@ -149,17 +150,19 @@ other_seen (Some seen) h = h
 no_directory_at : (state x : Path) (P : Option Seen → Type 0) (ts : List Entry) → x ≡ parent_of state → ((look : Option Seen) → P look → IsNotDir look) → Sees x P ts → Sees (parent_of state) IsNotDir ts
 no_directory_at state x P ts e f h = subst (λ (y : Path). Sees y IsNotDir ts) e (record { seen = h.seen; is = f h.seen h.is; look = h.look })
 
-pub no_dir : (state : Path) (asked : Asked) (clock : Clock) (rules : Rules) (earlier : List Fault) (ran : Ran) (why : DirStop) (x : Path) {o n : Option Journal} → ran.plan ≡ None → x ≡ parent_of state → ran.faults.items ≡ earlier ++ dir_fault_of why x ∷ [] → Left (NotSeen x why) o n
-    → RanSo false state rules clock asked earlier (Ok ran) o n
-no_dir state asked clock rules earlier ran why x none e is l = none_came state asked clock rules earlier ran (left_as l (λ ts h. go why is ts h))
-  where
-    told : (own : List Fault) (ts : List Entry) → ran.faults.items ≡ earlier ++ own → Halts false state rules clock asked (OfFaults own) ts → Ended state asked clock rules earlier ran None ts
-    told own ts is h = halted (OfFaults own) refl h (none, is)
+module _ (state : Path) (asked : Asked) (clock : Clock) (rules : Rules) (earlier : List Fault) (ran : Ran) (x : Path) where
+  dir_told : (own : List Fault) (ts : List Entry) → ran.plan ≡ None → ran.faults.items ≡ earlier ++ own → Halts false state rules clock asked (OfFaults own) ts → Ended state asked clock rules earlier ran None ts
+  dir_told own ts none is h = halted (OfFaults own) refl h (none, is)
 
-    go : (why : DirStop) → ran.faults.items ≡ earlier ++ dir_fault_of why x ∷ [] → (ts : List Entry) → NotSeen x why ts → Ended state asked clock rules earlier ran None ts
-    go dir.Nothing is ts h = told (fault.NoDir (parent_of state) ∷ []) ts (is ∙ ap (λ (y : Path). earlier ++ fault.NoDir y ∷ []) e) (halt.no_directory refl (no_directory_at state x IsNothing ts e (λ look h. subst IsNotDir (sym h) tt) h))
-    go dir.NoDir is ts h = told (fault.NoDir (parent_of state) ∷ []) ts (is ∙ ap (λ (y : Path). earlier ++ fault.NoDir y ∷ []) e) (halt.no_directory refl (no_directory_at state x IsNoDir ts e other_seen h))
-    go dir.Call is ts h = told (fault.Call call.Look (parent_of state) ∷ []) ts (is ∙ ap (λ (y : Path). earlier ++ fault.Call call.Look y ∷ []) e) (halt.not_seen refl h)
+  at_dir : (P : Option Seen → Type 0) (ts : List Entry) → ran.plan ≡ None → x ≡ parent_of state → ran.faults.items ≡ earlier ++ fault.NoDir x ∷ [] → ((look : Option Seen) → P look → IsNotDir look) → Sees x P ts → Ended state asked clock rules earlier ran None ts
+  at_dir P ts none e is f h = dir_told (fault.NoDir (parent_of state) ∷ []) ts none (is ∙ ap (λ (y : Path). earlier ++ fault.NoDir y ∷ []) e) (halt.no_directory refl (no_directory_at state x P ts e f h))
+
+  pub nothing_there : {o n : Option Journal} → ran.plan ≡ None → x ≡ parent_of state → ran.faults.items ≡ earlier ++ fault.NoDir x ∷ [] → Left (DirSeen x false) o n → RanSo false state rules clock asked earlier (Ok ran) o n
+  nothing_there none e is l = none_came state asked clock rules earlier ran (left_as l (λ ts h. at_dir IsNothing ts none e is (λ look g. subst IsNotDir (sym g) tt) h))
+
+  pub no_dir : (why : DirStop) {o n : Option Journal} → ran.plan ≡ None → x ≡ parent_of state → ran.faults.items ≡ earlier ++ dir_fault_of why x ∷ [] → Left (DirStopped x why) o n → RanSo false state rules clock asked earlier (Ok ran) o n
+  no_dir dir.Call none e is l = none_came state asked clock rules earlier ran (left_as l (λ ts h. dir_told (fault.Call call.Look (parent_of state) ∷ []) ts none (is ∙ ap (λ (y : Path). earlier ++ fault.Call call.Look y ∷ []) e) (halt.not_seen refl h)))
+  no_dir dir.NotDir none e is l = none_came state asked clock rules earlier ran (left_as l (λ ts h. at_dir IsNoDir ts none e is other_seen h))
 
 -- ---- the whole run
 

@@ -20,6 +20,9 @@ use Rattle.lr_host.specs.Looks.{Sees, IsDir, IsNoDir, IsNothing}
 use Rattle.lr_host.specs.Told.{Counts, Left, not_told, is_told}
 use Rattle.lr_host.proofs.Counts.{AreFree, adds_on, adds_free}
 use Rattle.lr_host.proofs.Left.{left_as, left_first, left_then}
+use Rattle.lr_family.specs.declared.directory.DirStop.{DirStop}
+use Rattle.lr_family.specs.declared.directory.DirStop.TheVariants as dir
+use Rattle.lr_family.specs.Directory.{DirSeen, DirStopped}
 use Rattle.lr_state.specs.Table.{Entry as Row}
 use Rattle.lr_looks.specs.Found.{paths_of}
 use Rattle.lr_looks.specs.Shown.{LooksAtAll, ShowsSomeLooks}
@@ -34,11 +37,9 @@ use Rattle.lr_looks.specs.Reserved.{reserved_by}
 use Rattle.lr_run.specs.declared.answer.Ran.{Ran}
 use Rattle.lr_run.specs.declared.answer.RunStop.{RunStop}
 use Rattle.lr_run.specs.declared.answer.RunStop.TheVariants as stop
-use Rattle.lr_run.specs.declared.directory.DirStop.{DirStop}
-use Rattle.lr_run.specs.declared.directory.DirStop.TheVariants as dir
 use Rattle.lr_run.specs.Dry.{measured_by, Follows}
 use Rattle.lr_run.specs.Halt.{OfFaults, OfMemory, Halts, not_seen, no_directory, unknown, too_big, short, short_anew}
-use Rattle.lr_run.specs.Internal.{NotSeen, dir_fault_of, plan_if, faults_if}
+use Rattle.lr_run.specs.Internal.{dir_fault_of, plan_if, faults_if}
 use Rattle.lr_run.specs.Ran.{halted, came, RanSo}
 use Rattle.lr_run.specs.Runs.{SomeSeen, of_state, of_looks}
 use Rattle.lr_run.specs.Saw.{Saw, ShowsStateFile, by_dir, by_none, ShowsSaw}
@@ -172,28 +173,27 @@ pub tried_by : {E : Type 0} (r : Result (Option Plan) E) (state : Path) (rules :
 tried_by (Err e) state rules clock asked x a later n is l h = tt
 tried_by (Ok told) state rules clock asked x a later n is l h = left_then l h (λ ts us p q. tried_so state rules clock asked told a later ts us (subst (λ (y : Path). Sees y IsDir ts) is p) q)
 
-pub tried_by_none : {E : Type 0} (r : Result (Option Plan) E) (state : Path) (rules : Rules) (table : List Row) (clock : Clock) (asked : Asked) (x : Path) (a : List Fault) (later : Vec Fault Global) {o m : Option Journal} (n : Option Journal) → x ≡ parent_of state → table ≡ [] → Left (NotSeen x dir.Nothing) o m
+pub tried_by_none : {E : Type 0} (r : Result (Option Plan) E) (state : Path) (rules : Rules) (table : List Row) (clock : Clock) (asked : Asked) (x : Path) (a : List Fault) (later : Vec Fault Global) {o m : Option Journal} (n : Option Journal) → x ≡ parent_of state → table ≡ [] → Left (DirSeen x false) o m
     → IfOk r (λ told. Left (PlansOn state rules.sets table clock asked told a later.items) m n) → IfOk r (λ told. Left (TriesOn state rules clock asked a (Ok (record { plan = told; faults = later }))) o n)
 tried_by_none (Err e) state rules table clock asked x a later n is t l h = tt
 tried_by_none (Ok told) state rules table clock asked x a later n is t l h = left_then l h (λ ts us p q. planned_so state rules clock asked told a later [] table false ts [] us
     (by_none refl (subst (λ (y : Path). Sees y IsNothing ts) is p) refl refl) (subst (λ (rows : List Row). TextSaysOnly [] (Ok rows)) (sym t) nothing_said) q)
 
--- it wasn't seen as one, nor as nothing
-pub not_tried : (state : Path) (rules : Rules) (clock : Clock) (asked : Asked) (why : DirStop) (x : Path) (a : List Fault) (later : Vec Fault Global) {o n : Option Journal} → (why ≡ dir.Nothing → ⊥) → x ≡ parent_of state → later.items ≡ a ++ dir_fault_of why x ∷ [] → Left (NotSeen x why) o n
+-- it wasn't seen
+pub not_tried : (state : Path) (rules : Rules) (clock : Clock) (asked : Asked) (why : DirStop) (x : Path) (a : List Fault) (later : Vec Fault Global) {o n : Option Journal} → x ≡ parent_of state → later.items ≡ a ++ dir_fault_of why x ∷ [] → Left (DirStopped x why) o n
     → Left (TriesOn state rules clock asked a (Ok (record { plan = None; faults = later }))) o n
-not_tried state rules clock asked dir.Nothing x a later other e is l = absurd (other refl)
-not_tried state rules clock asked dir.NoDir x a later other e is l = left_as l (λ ts h. (
+not_tried state rules clock asked dir.NotDir x a later e is l = left_as l (λ ts h. (
   None,
   halted (OfFaults (fault.NoDir (parent_of state) ∷ [])) refl
       (no_directory refl (let s : Sees (parent_of state) IsNoDir ts = subst (λ (y : Path). Sees y IsNoDir ts) e h in record { seen = s.seen; is = s.is; look = s.look })) (refl, is ∙ ap (λ (y : Path). a ++ fault.NoDir y ∷ []) e),
 ))
-not_tried state rules clock asked dir.Call x a later other e is l = left_as l (λ ts h. (None, halted (OfFaults (fault.Call call.Look (parent_of state) ∷ [])) refl (not_seen refl h) (refl, is ∙ ap (λ (y : Path). a ++ fault.Call call.Look y ∷ []) e)))
+not_tried state rules clock asked dir.Call x a later e is l = left_as l (λ ts h. (None, halted (OfFaults (fault.Call call.Look (parent_of state) ∷ [])) refl (not_seen refl h) (refl, is ∙ ap (λ (y : Path). a ++ fault.Call call.Look y ∷ []) e)))
 
 pub lacks_state : {T E : Type 0} (r : Result T E) (state : Path) (rules : Rules) (clock : Clock) (asked : Asked) (x : Path) {o m : Option Journal} (n : Option Journal) → x ≡ parent_of state → Left (Sees x IsDir) o m → OnErr r (Left (SomeSeen state rules.sets) m n) → OnErr r (Left (Halts true state rules clock asked OfMemory) o n)
 lacks_state (Ok y) state rules clock asked x n is l h = tt
 lacks_state (Err y) state rules clock asked x n is l h = left_then l h (λ ts us p q. short refl (record { front = ts; back = us; joined = refl; first = subst (λ (y : Path). Sees y IsDir ts) is p; second = q }))
 
-pub lacks_looks : {T E : Type 0} (r : Result T E) (state : Path) (rules : Rules) (clock : Clock) (asked : Asked) (x : Path) {o m : Option Journal} (n : Option Journal) → x ≡ parent_of state → Left (NotSeen x dir.Nothing) o m → OnErr r (Left (ShowsSomeLooks (reserved_by state) rules.sets) m n)
+pub lacks_looks : {T E : Type 0} (r : Result T E) (state : Path) (rules : Rules) (clock : Clock) (asked : Asked) (x : Path) {o m : Option Journal} (n : Option Journal) → x ≡ parent_of state → Left (DirSeen x false) o m → OnErr r (Left (ShowsSomeLooks (reserved_by state) rules.sets) m n)
     → OnErr r (Left (Halts true state rules clock asked OfMemory) o n)
 lacks_looks (Ok y) state rules clock asked x n is l h = tt
 lacks_looks (Err y) state rules clock asked x n is l h = left_then l h (λ ts us p q. short_anew refl refl (record { front = ts; back = us; joined = refl; first = subst (λ (y : Path). Sees y IsNothing ts) is p; second = q }))

@@ -18,7 +18,7 @@ use Rattle.lr_host.specs.declared.entry.Entry.TheVariants.{Starts, Ends}
 use Rattle.lr_host.specs.declared.journal.Journal.{Journal}
 use Rattle.lr_host.specs.Opening.{IsJournal}
 use Rattle.lr_host.specs.Told.{Left, Then, Are, Can, Counts, WhereTold, Maybe}
-use Rattle.lr_host.specs.Looks.{Sees, IsDir, IsNoDir, IsNothing}
+use Rattle.lr_host.specs.Looks.{Sees, IsDir}
 use Rattle.lr_state.specs.Table.{Entry as Row}
 use Rattle.lr_state.specs.Written.{text_of}
 use Rattle.lr_plan.specs.Asked.{Asked}
@@ -35,6 +35,8 @@ use Rattle.lr_plan.specs.Planned.{plan_of}
 use Rattle.lr_plan.specs.Asking.{CanMake}
 use Rattle.lr_plan.specs.Cut.{SetsCut}
 use Rattle.lr_plan.specs.Steps.{steps_of_plan, state_steps}
+use Rattle.lr_family.specs.declared.directory.DirStop.{DirStop}
+use Rattle.lr_family.specs.declared.directory.DirStop.TheVariants as dir
 use Rattle.lr_acts.specs.declared.progress.Progress.{Progress}
 use Rattle.lr_acts.specs.Adding.{HasRoom}
 use Rattle.lr_acts.specs.Making.{all_of_sets}
@@ -53,8 +55,6 @@ use Rattle.lr_synced.specs.Before.{IsBy}
 use Rattle.lr_synced.specs.Synced.{AreSynced}
 use Rattle.lr_run.specs.declared.answer.RunStop.{RunStop}
 use Rattle.lr_run.specs.declared.answer.RunStop.TheVariants as stop
-use Rattle.lr_run.specs.declared.directory.DirStop.{DirStop}
-use Rattle.lr_run.specs.declared.directory.DirStop.TheVariants as dir
 use Rattle.lr_run.specs.declared.ready.Ready.{Ready}
 use Rattle.lr_run.specs.Runs.{logs_in, SomeSeen, BrokeOff, LacksMemory}
 use Rattle.lr_run.specs.Saw.{Saw, ShowsStateText, ShowsSets, plan_by, measured_by}
@@ -62,16 +62,10 @@ use Rattle.lr_run.specs.Work.{Acts, act_faults, Work, IsPlanOf, CarriesOut}
 use Rattle.lr_run.specs.Halt.{LacksState}
 use Rattle.lr_run.specs.Ran.{TellsNames, TellsNamesOf}
 
--- the directory wasn't seen as one
-abbrev pub NotSeen : Path → DirStop → List Entry → Type 0
-NotSeen path dir.Nothing ts = Sees path IsNothing ts
-NotSeen path dir.NoDir ts = Sees path IsNoDir ts
-NotSeen path dir.Call ts = ts ≡ []
-
+-- the fault of a directory that wasn't seen
 abbrev pub dir_fault_of : DirStop → Path → Fault
-dir_fault_of dir.Nothing path = fault.NoDir path
-dir_fault_of dir.NoDir path = fault.NoDir path
 dir_fault_of dir.Call path = fault.Call call.Look path
+dir_fault_of dir.NotDir path = fault.NoDir path
 
 -- ---- what is ready
 

@@ -18,10 +18,11 @@ ghost use Rattle.lr_run.specs.Runs.{SomeSeen};
 ghost use Rattle.lr_run.specs.Trying.{PlansOn, PlansByOn, TriesOn};
 
 use crate::answer::{Ran, RunStop};
-use crate::directory::{DirStop, dir_fault, look_for_dir};
+use crate::directory::dir_fault;
 use crate::known::known_state;
 use crate::ready::{add_all, bring_up_to};
 use crate::work::add_too_big;
+use lr_family::look_for_dir;
 use lr_host::Host;
 use lr_looks::look_all;
 use lr_plan::{Looks, Plan};
@@ -176,17 +177,13 @@ fn try_run<H: Host>(
     ensures went { WentBy result faults.old.items faults.new.items (H.counts host.old) (H.counts host.new) }
 {
     match look_for_dir(host, &dir) {
-        Ok(()) => read_and_plan(alloc, host, rules, settings, clock, faults),
-        Err(DirStop::Nothing) => {
+        Ok(true) => read_and_plan(alloc, host, rules, settings, clock, faults),
+        Ok(false) => {
             let table = State::new(alloc);
             look_and_plan(alloc, host, rules, settings, clock, table, faults)
         }
-        Err(DirStop::NoDir) => {
-            add_fault(faults, dir_fault(DirStop::NoDir, dir));
-            Ok(None)
-        }
-        Err(DirStop::Call) => {
-            add_fault(faults, dir_fault(DirStop::Call, dir));
+        Err(why) => {
+            add_fault(faults, dir_fault(why, dir));
             Ok(None)
         }
     }

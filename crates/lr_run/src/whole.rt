@@ -17,9 +17,10 @@ ghost use Rattle.lr_run.specs.Ran.{RanSo, run_faults};
 ghost use Rattle.lr_run.specs.State.{IsNewText};
 
 use crate::answer::{Ran, RunStop};
-use crate::directory::{DirStop, dir_fault, look_for_dir};
+use crate::directory::dir_fault;
 use crate::locked::begin_to_end;
 use lr_acts::Progress;
+use lr_family::{DirStop, look_for_dir};
 use lr_host::Host;
 use lr_plan::Plan;
 use lr_rules::{Clock, Fault, Memory, Path, Rules, Settings};
@@ -74,11 +75,15 @@ fn make_run<H: Host>(
     ensures went { WentBy result progress.old.faults.items progress.new.faults.items (H.counts host.old) (H.counts host.new) }
 {
     match look_for_dir(host, &names.dir) {
-        Ok(()) => {
+        Ok(true) => {
             let Names { state, .. } = names;
             begin_to_end(
                 alloc, host, rules, settings, clock, state, reached, progress,
             )
+        }
+        Ok(false) => {
+            add_dir_fault(&mut progress.faults, DirStop::NotDir, names);
+            Ok(())
         }
         Err(why) => {
             add_dir_fault(&mut progress.faults, why, names);
