@@ -15,7 +15,7 @@ use Rattle.lr_host.specs.Opening.{IsJournal}
 use Rattle.lr_host.specs.Told.{Counts, NoneFell, Left, Rose, WhereTold}
 use Rattle.lr_host.proofs.Left.{left_as, left_first, left_then}
 use Rattle.lr_due.specs.declared.tz.Zone.{Zone}
-use Rattle.lr_host.specs.Counted.{AreCounted, IsAround, NoneAround}
+use Rattle.lr_host.specs.Counted.{AreCounted, IsAround, NoneAround, Went, WentBy}
 use Rattle.lr_laws_targets.proofs.Safety.{quiet_call_safe}
 use Rattle.lr_laws_targets.specs.Runs.{IsWholeRunBy}
 use Rattle.lr_laws_targets.proofs.RunSafety.{all_safe}
@@ -37,7 +37,7 @@ use Rattle.lr_command.specs.Words.{asked}
 use Rattle.lr_cli.specs.Called.{Came, CallEnds, CallShows, not_read, read}
 use Rattle.lr_clock.specs.Clock.{ShowsClock, ClockStopped, HasClock, IsClockFault, IsClocked, with_clock, without_clock}
 use Rattle.lr_report.specs.Reported.{IsOut, HasNoOut, AreReported}
-use Rattle.lr_cli.specs.Faults.{answer_of, clock_answer, HasCounted, HasFault}
+use Rattle.lr_cli.specs.Faults.{answer_of, clock_answer, told_faults, HasCounted, HasFault}
 use Rattle.lr_cli.specs.Asked.{AskFor, planned_text}
 use Rattle.lr_cli.specs.Internal.{CameTo, TurnsByClock, only_looked, ran}
 use Rattle.lr_cli.specs.Safe.{HadClock, KeepsSafeByClock, no_clock as safe_without, by_clock}
@@ -80,9 +80,13 @@ clock_shape zone s seconds clock same a b = ran clock
     (left_then a b (λ xs ys p q. record { front = xs; back = ys; joined = refl; first = subst (λ (z : ℤ). ShowsClock zone z clock xs) same p; second = tt }))
     (left_then a b (λ xs ys p q. run_behind clock xs ys (clock_quiet zone s clock xs p) q))
 
-pub clock_clocked : (zone : Zone) (s seconds : ℤ) (clock : Clock) (r : Result Told RunStop) (k l : Counts) → s ≡ seconds → HasClock zone s clock → IfOk r (λ told. AreCounted told.faults.items k l) → IfOk r (λ told. IsClocked zone seconds told.notices told.faults.items)
-clock_clocked zone s seconds clock (Ok told) k l same h c = with_clock clock (subst (λ (z : ℤ). HasClock zone z clock) same h) c.none_around
-clock_clocked zone s seconds clock (Err w) k l same h c = tt
+-- the counts tell of all faults that were told
+counted_told : (told : Told) (k l : Counts) → Went [] told.faults.items k l → AreCounted told.faults.items k l
+counted_told told k l w = subst (λ (fs : List Fault). AreCounted fs k l) (sym w.adds.after_is) w.adds.are_counted
+
+pub clock_clocked : (zone : Zone) (s seconds : ℤ) (clock : Clock) (r : Result Told RunStop) (k l : Counts) → s ≡ seconds → HasClock zone s clock → WentBy r [] (told_faults r) k l → IfOk r (λ told. IsClocked zone seconds told.notices told.faults.items)
+clock_clocked zone s seconds clock (Ok told) k l same h w = with_clock clock (subst (λ (z : ℤ). HasClock zone z clock) same h) (counted_told told k l w).none_around
+clock_clocked zone s seconds clock (Err why) k l same h w = tt
 
 -- none of the output among them
 out_around : (f : Fault) → (IsAround f → ⊥) → IsOut f → ⊥
@@ -94,13 +98,13 @@ no_out_of [] none = tt
 no_out_of (f ∷ fs) none = (out_around f none.0, no_out_of fs none.1)
 
 -- the counts rose as much since a moment before
-pub clock_reported : (r : Result Told RunStop) (j k l : Counts) → NoneFell j k → IfOk r (λ told. AreCounted told.faults.items k l) → IfOk r (λ told. AreReported told.faults.items j l)
-clock_reported (Ok told) j k l le c = record {
+pub clock_reported : (r : Result Told RunStop) (j k l : Counts) → NoneFell j k → WentBy r [] (told_faults r) k l → IfOk r (λ told. AreReported told.faults.items j l)
+clock_reported (Ok told) j k l le w = let c = counted_told told k l w in record {
   calls = (let rose = c.calls in let more : j.faults ≤ k.faults = le.0 in omega (arith, rose, more));
   scripts = (let rose = c.scripts in let more : j.bad_ends ≤ k.bad_ends = le.1 in omega (arith, rose, more));
   no_out = no_out_of told.faults.items c.none_around;
 }
-clock_reported (Err w) j k l le c = tt
+clock_reported (Err why) j k l le w = tt
 
 -- ---- the call
 

@@ -9,13 +9,13 @@ use Rattle.lr_rules.specs.declared.fault.Fault.{Fault}
 use Rattle.lr_rules.specs.declared.fault.Fault.TheVariants as fault
 use Rattle.lr_host.specs.declared.entry.Entry.{Entry}
 use Rattle.lr_host.specs.declared.journal.Journal.{Journal}
-use Rattle.lr_host.specs.Told.{Counts, NoneFell, Left}
+use Rattle.lr_host.specs.Told.{Counts, NoneFell, Onward, Left}
 use Rattle.lr_host.proofs.Left.{left_as, left_then}
 use Rattle.lr_conf.specs.Meaning.{Meaning}
 use Rattle.lr_host.specs.Quiet.{AreQuiet}
 use Rattle.lr_host.proofs.Quiet.{quiet_both}
-use Rattle.lr_host.specs.Counted.{calls_in, scripts_in, NoneAround, RoseBy, AreCounted, AddsFaults}
-use Rattle.lr_host.proofs.Counts.{counted_on}
+use Rattle.lr_host.specs.Counted.{calls_in, scripts_in, NoneAround, RoseBy, AreCounted, Went}
+use Rattle.lr_host.proofs.Counts.{went_on}
 use Rattle.lr_include.specs.Readers.{IsConfOrCall}
 use Rattle.lr_include.specs.Stages.{Reads}
 use Rattle.lr_include.specs.Lacking.{LacksReading}
@@ -49,8 +49,9 @@ reading_counted fs j k only rose le =
       none_around = n.1;
     }
 
-pub both_counted : (earlier faults all : List Fault) (j k l : Counts) → earlier ≡ faults → AreCounted faults j k → AddsFaults earlier all k l → AreCounted all j l
-both_counted earlier faults all j k l e a b = subst (λ (fs : List Fault). AreCounted fs j l) (sym (b.after_is ∙ ap (λ fs. fs ++ b.added) e)) (counted_on faults b.added j k l a b.are_counted)
+-- and then the run went so
+pub both_went : (earlier faults all : List Fault) (j k l : Counts) → earlier ≡ faults → AreCounted faults j k → Onward j k → Went earlier all k l → Went [] all j l
+both_went earlier faults all j k l e a h w = went_on [] earlier all j k l (record { adds = record { added = faults; after_is = e; are_counted = a }; onward = h }) w
 
 is_out : (f : Fault) → f ≡ fault.Out → IsOut f
 is_out f e = subst IsOut (sym e) tt

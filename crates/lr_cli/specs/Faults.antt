@@ -1,5 +1,5 @@
 -- The faults of a call's answer.
-use Rattle.std.specs.Prelude.{Contains, [], ◌∷◌, Option, None, Result, Ok, Err}
+use Rattle.std.specs.Prelude.{Contains, List, [], ◌∷◌, Option, None, Result, Ok, Err}
 use Rattle.lr_rules.specs.declared.fault.Fault.{Fault}
 use Rattle.lr_plan.specs.declared.plan.Plan.{Plan}
 use Rattle.lr_host.specs.Told.{Counts}
@@ -22,6 +22,11 @@ answer_of (Err stop.Memory) = OutOfMemory
 abbrev pub plan_told : Result Told RunStop → Option Plan
 plan_told (Ok told) = told.plan
 plan_told (Err why) = None
+
+-- the faults that it told
+abbrev pub told_faults : Result Told RunStop → List Fault
+told_faults (Ok told) = told.faults.items
+told_faults (Err why) = []
 
 -- the answer where there is no clock
 abbrev pub clock_answer : ClockStop → Outcome

@@ -2,12 +2,12 @@
 ghost use Rattle.std.specs.Prelude.{◌≡◌, ◌≤◌, ◌+◌, [], None, Err, IfOk, vec_len, vec_capacity};
 ghost use Rattle.lr_host.specs.Opening.{IsJournal};
 ghost use Rattle.lr_host.specs.Told.{Left, Onward, Rose, WhereTold};
-ghost use Rattle.lr_host.specs.Counted.{AreCounted};
+ghost use Rattle.lr_host.specs.Counted.{WentBy};
 ghost use Rattle.lr_laws_targets.specs.Runs.{IsWholeRunBy};
 ghost use Rattle.lr_cli.specs.Called.{CallEnds};
 ghost use Rattle.lr_clock.specs.Clock.{IsClocked};
 ghost use Rattle.lr_report.specs.Reported.{AreReported};
-ghost use Rattle.lr_cli.specs.Faults.{answer_of, clock_answer, plan_told};
+ghost use Rattle.lr_cli.specs.Faults.{answer_of, clock_answer, plan_told, told_faults};
 ghost use Rattle.lr_cli.specs.Internal.{CameTo, ConfsEnd, TurnsByClock};
 
 use crate::told::Told;
@@ -31,10 +31,9 @@ pub fn run_confs<H: Host>(
     requires disk { WhereTold (H.told host.old) IsJournal }
     ensures told { CameTo (ConfsEnd request.now clock.entry.now (plan_told result) (answer_of result)) request.now (answer_of result) (H.told host.old) (H.told host.new) }
     ensures shape { Left (IsWholeRunBy clock.entry.now) (H.told host.old) (H.told host.new) }
-    ensures counted { IfOk result (λ told. AreCounted told.faults.items (H.counts host.old) (H.counts host.new)) }
+    ensures went { WentBy result [] (told_faults result) (H.counts host.old) (H.counts host.new) }
     ensures room { IfOk result (λ told. vec_len told.faults + 1 ≤ vec_capacity told.faults) }
     ensures held { result ≡ Err RunStop.Held → Rose (H.counts host.old).held (H.counts host.new).held }
-    ensures counts { Onward (H.counts host.old) (H.counts host.new) }
 {
     let Ok(reading) = read_all(alloc, host, request.confs.as_slice()) else {
         return Err(RunStop::Memory);

@@ -1,4 +1,6 @@
+use Rattle.std.proofs.Common.{[]}
 use Rattle.lr_placed.proofs.Lasting.{disk_on}
+use Rattle.lr_host.proofs.Counts.{onward_on, went_onward}
 use Rattle.lr_host.proofs.Left.{left_first}
 use Rattle.lr_host.specs.Quiet.{AreQuiet}
 use Rattle.lr_cli.specs.Faults.{answer_of, plan_told}
@@ -21,10 +23,13 @@ pub returns-in-Ok-clock_in-clause-told : goal.returns-in-Ok-clock_in-clause-told
 returns-in-Ok-clock_in-clause-told g c = clock_came c.args.request.now c.args.zone.now c.args.seconds c.in-Ok-clock_in.clock (plan_told c.run_confs.result) (answer_of c.run_confs.result) _ (own_seconds c.args.seconds c.ranges.seconds.sfits) c.in-Ok-clock_in.ensures.told c.run_confs.ensures.told
 
 pub returns-in-Ok-clock_in-clause-clock : goal.returns-in-Ok-clock_in-clause-clock
-returns-in-Ok-clock_in-clause-clock g c = clock_clocked c.args.zone.now _ c.args.seconds c.in-Ok-clock_in.clock c.run_confs.result _ _ (own_seconds c.args.seconds c.ranges.seconds.sfits) c.in-Ok-clock_in.ensures.clock c.run_confs.ensures.counted
+returns-in-Ok-clock_in-clause-clock g c = clock_clocked c.args.zone.now _ c.args.seconds c.in-Ok-clock_in.clock c.run_confs.result _ _ (own_seconds c.args.seconds c.ranges.seconds.sfits) c.in-Ok-clock_in.ensures.clock c.run_confs.ensures.went
 
 pub returns-in-Ok-clock_in-clause-counted : goal.returns-in-Ok-clock_in-clause-counted
-returns-in-Ok-clock_in-clause-counted g c = clock_reported c.run_confs.result _ _ _ c.in-Ok-clock_in.ensures.counts.0 c.run_confs.ensures.counted
+returns-in-Ok-clock_in-clause-counted g c = clock_reported c.run_confs.result _ _ _ c.in-Ok-clock_in.ensures.counts.0 c.run_confs.ensures.went
+
+pub returns-in-Ok-clock_in-clause-counts : goal.returns-in-Ok-clock_in-clause-counts
+returns-in-Ok-clock_in-clause-counts g c = onward_on _ _ _ c.in-Ok-clock_in.ensures.counts (went_onward c.run_confs.result [] _ _ _ c.run_confs.ensures.went)
 
 pub returns-in-Ok-clock_in-clause-shape : goal.returns-in-Ok-clock_in-clause-shape
 returns-in-Ok-clock_in-clause-shape g c = clock_shape c.args.zone.now _ c.args.seconds c.in-Ok-clock_in.clock (own_seconds c.args.seconds c.ranges.seconds.sfits) c.in-Ok-clock_in.ensures.told c.run_confs.ensures.shape
