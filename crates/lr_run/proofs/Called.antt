@@ -18,7 +18,6 @@ use Rattle.lr_state.specs.Table.{Entry as Row}
 use Rattle.lr_plan.specs.Asked.{Asked}
 use Rattle.lr_plan.specs.declared.looks.SetLooks.{SetLooks}
 use Rattle.lr_plan.specs.declared.mark.Mark.{Mark}
-use Rattle.lr_plan.specs.declared.step.SetSteps.{SetSteps}
 use Rattle.lr_plan.specs.declared.step.Step.{Step}
 use Rattle.lr_plan.specs.declared.step.Step.TheVariants.{Runs, Removes, MakesDir, Renames, Creates, Takes, Copies, SyncsFile, SyncsDir, Truncates, Rotated}
 use Rattle.lr_host.specs.Counted.{call_in, calls_in, script_in, scripts_in}
@@ -28,15 +27,14 @@ use Rattle.lr_plan.specs.Outcomes.{bytes_fault, Fails, ProgramFailed, badly, not
 use Rattle.lr_plan.specs.Planned.{plan_of}
 use Rattle.lr_plan.specs.Steps.{steps_of_plan}
 use Rattle.lr_host.proofs.Counts.{calls_on, scripts_on}
-use Rattle.lr_acts.specs.Making.{all_of_each, all_of_set, all_of_sets}
+use Rattle.lr_acts.specs.Making.{all_of_sets}
 use Rattle.lr_synced.specs.Synced.{all_to_make_of}
 use Rattle.lr_synced.proofs.Telling.{MakesAmong, EachAmong, plan_among}
-use Rattle.lr_run.specs.Anew.{StopsAnew, StopsEach, StopsSets}
 use Rattle.lr_run.specs.Copied.{IsOfCopy, NoneOfCopy}
 use Rattle.lr_run.specs.Met.{IsNoOther, MetNothing}
 use Rattle.lr_run.specs.Runs.{Worked, plan_in, dirs_in}
 use Rattle.lr_run.proofs.Folded.{Folds, acts_fold}
-use Rattle.lr_run.proofs.Simple.{EachStep, IsSimple, AreSimple, step_both, step_split}
+use Rattle.lr_run.proofs.Simple.{EachStep, IsSimple, AreSimple}
 use Rattle.lr_run.proofs.Works.{steps_simple}
 
 -- ---- failed calls, bad ends and broken copies among faults
@@ -192,49 +190,3 @@ pub worked_met_none : (state : Path) (rules : List Rule) (clock : Clock) (asked 
 worked_met_none state rules clock asked own ts w n =
     acts_met_none rules w.looked.sets w.looked.remembered.table clock asked w.acted.marks w.acted.entries.of_plan w.acted.entries.entries.front w.acted.entries.entries.first
     (met_before _ w.acted.of_acts w.acted.entries.of_plan w.acted.entries.of_state w.acted.entries.faults_are (acts_met state rules clock asked own ts w n))
-
--- ---- what stops the making of a log
-
--- one of such steps fails so
-abbrev OneFails : (Step → Type 0) → Fault → Type 0
-OneFails P f = (s : Step) × P s × ((ts : List Entry) × Fails s f ts)
-
-one_stops : (P : Step → Type 0) (x : Path) (ss : List Step) (f : Fault) → EachStep P ss → StopsAnew x ss f → OneFails P f
-one_stops P x [] f p h = absurd h
-one_stops P x (s ∷ ss) f p (inl h) = (s, p.0, h.1)
-one_stops P x (s ∷ ss) f p (inr h) = one_stops P x ss f p.1 h
-
-each_stops : (P : Step → Type 0) (x : Path) (first : List Step) (each : List (List Step)) (f : Fault) → EachStep P first → EachStep P (all_of_each each) → StopsEach x first each f → OneFails P f
-each_stops P x first [] f p q h = absurd h
-each_stops P x first (ss ∷ each) f p q (inl h) = one_stops P x (first ++ ss) f (step_both P first ss p (step_split P ss (all_of_each each) q).0) h
-each_stops P x first (ss ∷ each) f p q (inr h) = each_stops P x first each f p (step_split P ss (all_of_each each) q).1 h
-
-sets_stop : (P : Step → Type 0) (x : Path) (sets : List SetSteps) (f : Fault) → EachStep P (all_of_sets sets) → StopsSets x sets f → OneFails P f
-sets_stop P x [] f p h = absurd h
-sets_stop P x (s ∷ sets) f p (inl (inl h)) = one_stops P x s.first f (step_split P s.first (all_of_each s.each ++ s.last) (step_split P (all_of_set s) (all_of_sets sets) p).0).0 h
-sets_stop P x (s ∷ sets) f p (inl (inr h)) =
-    let r = step_split P s.first (all_of_each s.each ++ s.last) (step_split P (all_of_set s) (all_of_sets sets) p).0 in
-    each_stops P x s.first s.each f r.0 (step_split P (all_of_each s.each) s.last r.1).0 h
-sets_stop P x (s ∷ sets) f p (inr h) = sets_stop P x sets f (step_split P (all_of_set s) (all_of_sets sets) p).1 h
-
--- none of the faults is of a step, where nothing was met
-no_stop : (dirs : List Path) (fs : List Fault) (f : Fault) → MetNothing dirs fs → IsIn f fs → IsStop dirs f → ⊥
-no_stop dirs [] f n i h = i
-no_stop dirs (g ∷ fs) f n (inl same) h = go (subst (IsStop dirs) (sym same) h)
-  where
-    go : IsStop dirs g → ⊥
-    go (inl one) = let y = n.no_call in let z = n.no_end in omega (arith, one, y, z)
-    go (inr (inl copy)) = n.no_copy.0 copy
-    go (inr (inr other)) = n.no_other other.0 other.1 (inl other.2)
-no_stop dirs (g ∷ fs) f n (inr later) h = no_stop dirs fs f
-    (record { no_call = (let y = n.no_call in omega (arith, y)); no_end = (let z = n.no_end in omega (arith, z)); no_copy = n.no_copy.1; no_other = λ dir i j. n.no_other dir i (inr j) }) later h
-
--- so none of them tells why a log wasn't made anew
-pub nothing_stops : (rules : List Rule) (sets : List SetLooks) (table : List Row) (clock : Clock) (asked : Asked) (fs : List Fault) (f : Fault) (x : Path) → MetNothing (all_to_make_of (plan_of rules sets table clock asked).sets) fs → IsIn f fs → StopsSets x (steps_of_plan (plan_of rules sets table clock asked)) f → ⊥
-nothing_stops rules sets table clock asked fs f x n i h =
-    let one = sets_stop (IsStep dirs) x (steps_of_plan (plan_of rules sets table clock asked)) f
-    (each_step dirs (all_of_sets (steps_of_plan (plan_of rules sets table clock asked))) (steps_simple rules sets table clock asked) (plan_among (plan_of rules sets table clock asked).sets)) h in
-    no_stop dirs fs f n i (step_stopped dirs one.0 f one.2.0 one.1 one.2.1).0
-  where
-    dirs : List Path
-    dirs = all_to_make_of (plan_of rules sets table clock asked).sets

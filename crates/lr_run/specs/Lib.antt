@@ -1,4 +1,3 @@
-pub mod Anew
 pub mod Answers
 pub mod Copied
 pub mod Dry
