@@ -14,7 +14,9 @@ AskFor here words request = asked here words ≡ Some request
 abbrev pub AskForNone : Path → List (List ℕ) → Type 0
 AskForNone here words = asked here words ≡ None
 
--- What is printed of a plan, where the call came to one: what was decided of each log, where that is asked for, and in a dry run the steps too.
+-- What is printed of a plan, where the call came to one: what was decided of each log, where that is asked for, and in a dry run
+-- the steps too.
 abbrev pub planned_text : Request → Option Plan → List ℕ
 planned_text request None = []
-planned_text request (Some plan) = if request.settings.debug || request.settings.verbose then plan_text request.settings.state request.settings.debug plan else []
+planned_text request (Some plan) = if request.settings.debug || request.settings.verbose then plan_text request.settings.state
+    request.settings.debug plan else []

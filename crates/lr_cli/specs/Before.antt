@@ -39,7 +39,8 @@ abbrev pub IsOfZone : Zone → Fault → Type 0
 IsOfZone (File path) f = (f ≡ fault.Call call.Look path) ⊎ (f ≡ fault.Call call.Read path)
 IsOfZone _ f = ⊥
 
--- A look or a read failed of the zone's file or of a path of the state. Made for the zone or the state, it ended the call; made for a configuration or a log there, it ended nothing.
+-- A look or a read failed of the zone's file or of a path of the state. Made for the zone or the state, it ended the call; made for
+-- a configuration or a log there, it ended nothing.
 abbrev pub MayEndCall : Path → Zone → Fault → Type 0
 MayEndCall state zone f = IsOfZone zone f ⊎ MayEnd state f
 
@@ -50,7 +51,8 @@ pub record SaysWhy (state : Path) (zone : Zone) (faults : List Fault) : Type 0 w
   pub faults_are : faults ≡ before ++ last ∷ []
   pub ends : EndsRun state last ⊎ MayEndCall state zone last
 
--- A look or a read failed of the zone's file or of a path of the state, or the state's directory isn't there. Each may be told of a configuration or a log too, and then ended nothing.
+-- A look or a read failed of the zone's file or of a path of the state, or the state's directory isn't there. Each may be told of a
+-- configuration or a log too, and then ended nothing.
 abbrev pub MayEndDry : Path → Zone → Fault → Type 0
 MayEndDry state zone f = IsOfZone zone f ⊎ MayEndTry state f
 
@@ -68,7 +70,11 @@ pub record EndsBefore (here : Path) (words : List (List ℕ)) (zone : Zone) (out
   -- it changed nothing, and started no program
   pub still : AreStill ts
   -- its report says why, by its last fault
-  pub why : (request : Request) → AskFor here words request → request.settings.debug ≡ false → (report : Report) → outcome ≡ Done report → SaysWhy request.settings.state zone report.faults
-  pub dry_why : (request : Request) → AskFor here words request → request.settings.debug ≡ true → (report : Report) → outcome ≡ Done report → SaysWhyDry request.settings.state zone report.faults
+  pub why : (request : Request) → AskFor here words request → request.settings.debug ≡ false → (report : Report)
+      → outcome ≡ Done report → SaysWhy request.settings.state zone report.faults
+  pub dry_why : (request : Request) → AskFor here words request → request.settings.debug ≡ true → (report : Report)
+      → outcome ≡ Done report → SaysWhyDry request.settings.state zone report.faults
   -- where none of its faults ends a run, the entries tell that it didn't see its state
-  pub unseen : (request : Request) → AskFor here words request → request.settings.debug ≡ false → (report : Report) → outcome ≡ Done report → NoneEnds request.settings.state report.faults → SawState request.settings.state (behind_start ts) → ⊥
+  pub unseen : (request : Request) → AskFor here words request → request.settings.debug ≡ false → (report : Report)
+      → outcome ≡ Done report → NoneEnds request.settings.state report.faults → SawState request.settings.state (behind_start ts)
+      → ⊥

@@ -24,6 +24,7 @@ without_out BadWords = BadWords
 without_out Held = Held
 without_out OutOfMemory = OutOfMemory
 
--- What is printed of an answer: the text of the plan, where there is one to print, and then its own text but for the line of `Out`, which only comes where the output failed.
+-- What is printed of an answer: the text of the plan, where there is one to print, and then its own text but for the line of `Out`,
+-- which only comes where the output failed.
 abbrev pub printed_of : List ℕ → Outcome → List ℕ
 printed_of planned outcome = planned ++ text_of (without_out outcome)

@@ -35,7 +35,8 @@ use Rattle.lr_cli.specs.Called.{Came, call_entries, front_entries}
 -- What a call saw, a dry one or another, that came to its plan.
 pub record SawTruly (request : Request) (c : Came) (before after : Journal) : Type 0 where
   -- its looks were true of the disk: they hold all that stood as it began to look, and nothing else but what came meanwhile
-  pub looks : WereTrue c.rules.sets c.work.saw.words c.work.saw.sets (front_entries request c) (c.work.reads ++ c.work.looks) (past before) (past after)
+  pub looks : WereTrue c.rules.sets c.work.saw.words c.work.saw.sets (front_entries request c) (c.work.reads ++ c.work.looks)
+      (past before) (past after)
   -- no directory was listed more often than there are wildcards among the words of the rules, and once more
   pub listed : (dir : Path) → listings_of dir c.work.looks ≤ wildcards_of c.rules.sets + 1
 
@@ -43,38 +44,52 @@ pub record SawTruly (request : Request) (c : Came) (before after : Journal) : Ty
 pub record Makes (request : Request) (c : Came) (report : Report) (counted counts : Counts) (before after : Journal) : Type 0 where
   -- where no step of the logs failed, the family of each log of the plan was turned, by its rename or by its copy, file by file
   pub turned : c.work.acts.of_logs ≡ [] → TurnLogs request.settings.state c.work.plan (past before) (past after)
-  -- where none of the state failed either, it did its plan: its acts are those of the plan, in order, each log that is made anew is named, and the state tells of each log
-  pub fulfilled : act_faults c.work.acts ≡ [] → IsFulfilled request.settings.state c.clock c.work (call_entries request c) (past before) (past after)
+  -- where none of the state failed either, it did its plan: its acts are those of the plan, in order, each log that is made anew is
+  -- named, and the state tells of each log
+  pub fulfilled : act_faults c.work.acts ≡ [] → IsFulfilled request.settings.state c.clock c.work (call_entries request c)
+      (past before) (past after)
   -- none failed where no count of failures rose, and nothing was in the way of its copies and of the directories that it makes
-  pub smooth : NoneRose counted counts → IsSmooth request.settings.state (jobs_of c.work.plan.sets) (dirs_in c.work.plan) (past before) (past after) → act_faults c.work.acts ≡ []
+  pub smooth : NoneRose counted counts → IsSmooth request.settings.state (jobs_of c.work.plan.sets) (dirs_in c.work.plan)
+      (past before) (past after) → act_faults c.work.acts ≡ []
   -- so where besides the configuration, the looks and the plan show no fault, the report has none
-  pub complete : act_faults c.work.acts ≡ [] → c.meaning.faults ≡ [] → c.work.saw.faults ≡ [] → c.work.plan.faults ≡ [] → report.faults ≡ []
-  -- the report tells whether a step of the logs failed, and whether anything did: none did where no fault is of a call that failed, of a program that ended badly, of a copy that broke off, or of what stood where a directory was to be made; nor where besides none tells that the path was named of the file to which a new state is first written
+  pub complete : act_faults c.work.acts ≡ [] → c.meaning.faults ≡ [] → c.work.saw.faults ≡ [] → c.work.plan.faults ≡ []
+      → report.faults ≡ []
+  -- the report tells whether a step of the logs failed, and whether anything did: none did where no fault is of a call that failed,
+  -- of a program that ended badly, of a copy that broke off, or of what stood where a directory was to be made; nor where besides
+  -- none tells that the path was named of the file to which a new state is first written
   pub told_of_logs : MetNothing (dirs_in c.work.plan) report.faults → c.work.acts.of_logs ≡ []
   pub told_of_all : NothingFailed request.settings.state (dirs_in c.work.plan) report.faults → act_faults c.work.acts ≡ []
-  -- what no entry tells: each log that a step made anew is named, whatever failed behind it; and so was each path that is told as taken
+  -- what no entry tells: each log that a step made anew is named, whatever failed behind it; and so was each path that is told as
+  -- taken
   pub names : TellsNamesOf request.settings.state c.clock c.work (Some before) (Some after)
   -- by its report and by its entries too it came to its plan
-  pub reached : NoneEnds request.settings.state report.faults × SawState request.settings.state (behind_start (call_entries request c))
+  pub reached : NoneEnds request.settings.state report.faults
+      × SawState request.settings.state (behind_start (call_entries request c))
 
 -- What is so of a call that came to its plan with this outcome.
-pub record IsCalled (request : Request) (c : Came) (outcome : Outcome) (counted counts : Counts) (before after : Journal) : Type 0 where
+pub record IsCalled (request : Request) (c : Came) (outcome : Outcome) (counted counts : Counts)
+    (before after : Journal) : Type 0 where
   pub saw : SawTruly request c before after
   -- a word of one of its rules gives each log of its plan, and the rule says how it is rotated
   pub given : AreGivenBy c.rules.sets c.work.plan
-  -- one that isn't dry changed paths of these logs and of the state alone, and left all else alone, whatever failed, and however far it came: each other path, and each set of another log
+  -- one that isn't dry changed paths of these logs and of the state alone, and left all else alone, whatever failed, and however
+  -- far it came: each other path, and each set of another log
   pub only : request.settings.debug ≡ false → ChangesOnly request.settings.state (targets_in c.work.plan) c.work.did
-  pub rest : request.settings.debug ≡ false → LeavesRest request.settings.state c.work.saw.kept (targets_in c.work.plan) (past before) (past after)
+  pub rest : request.settings.debug ≡ false → LeavesRest request.settings.state c.work.saw.kept (targets_in c.work.plan)
+      (past before) (past after)
   pub sets : request.settings.debug ≡ false → LeavesSets (targets_in c.work.plan) (past before) (past after)
-  pub made : (report : Report) → request.settings.debug ≡ false → outcome ≡ Done report → Makes request c report counted counts before after
+  pub made : (report : Report) → request.settings.debug ≡ false → outcome ≡ Done report
+      → Makes request c report counted counts before after
   -- a dry one tells of nothing that ends one before its plan
-  pub tried : (report : Report) → request.settings.debug ≡ true → outcome ≡ Done report → NoneEndsTry request.settings.state report.faults
+  pub tried : (report : Report) → request.settings.debug ≡ true → outcome ≡ Done report
+      → NoneEndsTry request.settings.state report.faults
   -- one ran out of memory behind its plan only where a rule has a script or mails
   pub short : outcome ≡ OutOfMemory → RunNothing c.rules.sets → ⊥
 
 -- ---- at each moment of a call
 
--- The text is the new one of the state, by what the call came to: that which it read, brought up to its clock by the logs that its acts rotated.
+-- The text is the new one of the state, by what the call came to: that which it read, brought up to its clock by the logs that its
+-- acts rotated.
 abbrev pub IsTextOf : Option Came → List ℕ → Type 0
 IsTextOf None text = ⊥
 IsTextOf (Some c) text = text ≡ text_by c.work.saw c.clock (rotated_logs c.work.acts.marks)

@@ -18,7 +18,10 @@ Whatever ts = Unit {0}
 abbrev pub HadClock : Zone → ℤ → Clock → Option Journal → Option Journal → Type 0
 HadClock zone seconds clock told later = Left (Then (ShowsClock zone seconds clock) Whatever) told later
 
--- A set that was safe is safe afterwards, where it is steady and none of its stamps had gone ahead of the call's clock, which the first entries show; of a numbered set the clock asks nothing. Where there was no clock, each set that was safe and is steady is safe.
+-- A set that was safe is safe afterwards, where it is steady and none of its stamps had gone ahead of the call's clock, which the
+-- first entries show; of a numbered set the clock asks nothing. Where there was no clock, each set that was safe and is steady is
+-- safe.
 pub data KeepsSafeByClock (zone : Zone) (seconds : ℤ) (told later : Option Journal) : Type 0 where
   no_clock : KeepsSafe told later → KeepsSafeByClock zone seconds told later
-  by_clock : (clock : Clock) → HadClock zone seconds clock told later → KeepsSafeWhere (IsForwardFor clock) told later → KeepsSafeByClock zone seconds told later
+  by_clock : (clock : Clock) → HadClock zone seconds clock told later → KeepsSafeWhere (IsForwardFor clock) told later
+      → KeepsSafeByClock zone seconds told later

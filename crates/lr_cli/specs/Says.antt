@@ -34,22 +34,29 @@ pub record Prints (text : List ℕ) (outcome : Outcome) (before after : Option (
   pub broken_off : (report : Report) → outcome ≡ Done report → Took text before after ⊎ Contains report.faults fault.Out
 
 -- Where the host tells its journals, and the words ask for a request of which the call came to a plan, this holds of it.
-abbrev pub WhereCame : Path → List (List ℕ) → Option Came → Option Journal → Option Journal → (Request → Came → Journal → Journal → Type 0) → Type 0
-WhereCame here words came told later P = (request : Request) (c : Came) (before after : Journal) → AskFor here words request → came ≡ Some c → told ≡ Some before → later ≡ Some after → P request c before after
+abbrev pub WhereCame : Path → List (List ℕ) → Option Came → Option Journal → Option Journal
+    → (Request → Came → Journal → Journal → Type 0) → Type 0
+WhereCame here words came told later P = (request : Request) (c : Came) (before after : Journal) → AskFor here words request
+    → came ≡ Some c → told ≡ Some before → later ≡ Some after → P request c before after
 
--- All that is told of a call with these words, in this zone and at these seconds, by what it came to. Of its outcome the output's own fault, `Out`, is left aside but for what was printed.
-pub record Says (here : Path) (words : List (List ℕ)) (zone : Zone) (seconds : ℤ) (outcome : Outcome) (told later : Option Journal) (counted counts : Counts) (before after : Option (List ℕ)) (low high : ℕ) : Type 0 where
+-- All that is told of a call with these words, in this zone and at these seconds, by what it came to. Of its outcome the output's
+-- own fault, `Out`, is left aside but for what was printed.
+pub record Says (here : Path) (words : List (List ℕ)) (zone : Zone) (seconds : ℤ) (outcome : Outcome) (told later : Option Journal)
+    (counted counts : Counts) (before after : Option (List ℕ)) (low high : ℕ) : Type 0 where
   -- what it came to, where it came to its plan; and the plan, which is known too where the host tells nothing
   pub came : Option Came
   pub plan : Option Plan
-  -- its entries and its answer show it: the zone, what was read, the looks, and in a run that acts the begin, the acts of this plan, and the end; or why there was no plan
+  -- its entries and its answer show it: the zone, what was read, the looks, and in a run that acts the begin, the acts of this
+  -- plan, and the end; or why there was no plan
   pub shown : Left (CallShows here words zone seconds plan (without_out outcome) came) told later
   -- where it came to its plan: what it saw is true of the disk, and what it made of it
   pub called : WhereCame here words came told later (λ request c j k. IsCalled request c (without_out outcome) counted counts j k)
   -- one that ended before its plan left the disk as it was, and says why
   pub ended : came ≡ None → Left (EndsBefore here words zone (without_out outcome)) told later
-  -- the state file that the words ask for is the old one or the new one, whole, at each moment of the call and after each cut that the machine may make then
-  pub state : (request : Request) → AskFor here words request → KeepsWhole request.settings.state (λ ts text. IsTextOf came text) told later
+  -- the state file that the words ask for is the old one or the new one, whole, at each moment of the call and after each cut that
+  -- the machine may make then
+  pub state : (request : Request) → AskFor here words request
+      → KeepsWhole request.settings.state (λ ts text. IsTextOf came text) told later
   -- just before a log is emptied, its copy has the newest member's path, with all bytes that the log had as it was last read
   pub copied : EmptiesWhole (IsCopyIn came) told later
   -- what was printed of the plan, and of the answer

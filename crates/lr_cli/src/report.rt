@@ -1,5 +1,6 @@
 // What a run prints, and the report that it answers.
-ghost use Rattle.std.specs.Prelude.{◌≡◌, ◌≤◌, ◌<◌, ◌+◌, ◌++◌, ◌||◌, [], Contains, IfOk, OnErr, OnOk, vec_len, vec_capacity, if◌then◌else◌};
+ghost use Rattle.std.specs.Prelude.{◌≡◌, ◌≤◌, ◌<◌, ◌+◌, ◌++◌, ◌||◌, [], Contains, IfOk, OnErr, OnOk, vec_len, vec_capacity};
+ghost use Rattle.std.specs.Prelude.{if◌then◌else◌};
 ghost use Rattle.lr_rules.specs.declared.fault.Fault.TheVariants as fault;
 ghost use Rattle.lr_host.specs.Told.{Rose};
 ghost use Rattle.lr_report.specs.Lines.{lines};
@@ -49,7 +50,9 @@ fn report_with_out(notices: Listed<Notice>, faults: Vec<Fault>) -> Outcome
 
 // Puts the text of a plan, so far as the request asks for it.
 fn put_plan<K: Sink>(request: &Request, plan: &Plan, out: &mut K) -> Result<(), SinkFault>
-    ensures { Puts (if request.now.settings.debug || request.now.settings.verbose then plan_text request.now.settings.state request.now.settings.debug plan.now else []) result (K.taken out.old) (K.taken out.new) (K.faults out.old) (K.faults out.new) }
+    ensures { Puts (if request.now.settings.debug || request.now.settings.verbose then plan_text request.now.settings.state
+        request.now.settings.debug plan.now else []) result (K.taken out.old) (K.taken out.new) (K.faults out.old)
+        (K.faults out.new) }
 {
     if request.settings.debug || request.settings.verbose {
         print(plan, &request.settings.state, request.settings.debug, out)
@@ -60,7 +63,8 @@ fn put_plan<K: Sink>(request: &Request, plan: &Plan, out: &mut K) -> Result<(), 
 
 // Puts the text of the plan that a run came to.
 fn put_planned<K: Sink>(request: &Request, told: &Told, out: &mut K) -> Result<(), SinkFault>
-    ensures { Puts (planned_text request.now told.now.plan) result (K.taken out.old) (K.taken out.new) (K.faults out.old) (K.faults out.new) }
+    ensures { Puts (planned_text request.now told.now.plan) result (K.taken out.old) (K.taken out.new) (K.faults out.old)
+        (K.faults out.new) }
 {
     match &told.plan {
         Some(plan) => put_plan(request, plan, out),
@@ -70,14 +74,16 @@ fn put_planned<K: Sink>(request: &Request, told: &Told, out: &mut K) -> Result<(
 
 // Puts the lines of what a run told.
 fn put_said_lines<K: Sink>(told: &Told, out: &mut K) -> Result<(), SinkFault>
-    ensures { Puts (lines told.now.notices told.now.faults.items) result (K.taken out.old) (K.taken out.new) (K.faults out.old) (K.faults out.new) }
+    ensures { Puts (lines told.now.notices told.now.faults.items) result (K.taken out.old) (K.taken out.new) (K.faults out.old)
+        (K.faults out.new) }
 {
     put_lines(told.notices.as_slice(), &told.faults, out)
 }
 
 // Puts all that there is to say of a run that told this: the text of its plan, and then the lines.
 fn put_told<K: Sink>(request: &Request, told: &Told, out: &mut K) -> Result<(), SinkFault>
-    ensures { Puts (planned_text request.now told.now.plan ++ lines told.now.notices told.now.faults.items) result (K.taken out.old) (K.taken out.new) (K.faults out.old) (K.faults out.new) }
+    ensures { Puts (planned_text request.now told.now.plan ++ lines told.now.notices told.now.faults.items) result (K.taken out.old)
+        (K.taken out.new) (K.faults out.old) (K.faults out.new) }
 {
     put_planned(request, told, out)?;
     put_said_lines(told, out)
@@ -108,7 +114,8 @@ fn report<K: Sink>(request: &Request, told: Told, out: &mut K) -> Outcome
     requires room { vec_len told.faults < vec_capacity told.faults }
     requires no_out { Contains told.faults.items fault.Out → ⊥ }
     ensures faults { without_out result ≡ Outcome.Done (record { notices = told.notices; faults = told.faults.items }) }
-    ensures prints { Prints (printed_of (planned_text request.now told.plan) result) result (K.taken out.old) (K.taken out.new) (K.faults out.old) (K.faults out.new) }
+    ensures prints { Prints (printed_of (planned_text request.now told.plan) result) result (K.taken out.old) (K.taken out.new)
+        (K.faults out.old) (K.faults out.new) }
     ensures out { HasFault result fault.Out → Rose (K.faults out.old) (K.faults out.new) }
     ensures counts { K.faults out.old ≤ K.faults out.new }
 {
@@ -122,7 +129,8 @@ pub fn finish<K: Sink>(request: &Request, run: Result<Told, RunStop>, out: &mut 
     requires room { IfOk run (λ told. vec_len told.faults + 1 ≤ vec_capacity told.faults) }
     requires no_out { IfOk run (λ told. Contains told.faults.items fault.Out → ⊥) }
     ensures answer { without_out result ≡ answer_of run }
-    ensures prints { Prints (printed_of (planned_text request.now (plan_told run)) result) result (K.taken out.old) (K.taken out.new) (K.faults out.old) (K.faults out.new) }
+    ensures prints { Prints (printed_of (planned_text request.now (plan_told run)) result) result (K.taken out.old)
+        (K.taken out.new) (K.faults out.old) (K.faults out.new) }
     ensures out { HasFault result fault.Out → Rose (K.faults out.old) (K.faults out.new) }
     ensures counts { K.faults out.old ≤ K.faults out.new }
 {

@@ -29,7 +29,8 @@ pub fn run_confs<H: Host>(
     clock: &Clock,
 ) -> Result<Told, RunStop>
     requires disk { WhereTold (H.told host.old) IsJournal }
-    ensures told { CameTo (ConfsEnd request.now clock.entry.now (plan_told result) (answer_of result)) request.now (answer_of result) (H.told host.old) (H.told host.new) }
+    ensures told { CameTo (ConfsEnd request.now clock.entry.now (plan_told result) (answer_of result)) request.now
+        (answer_of result) (H.told host.old) (H.told host.new) }
     ensures shape { Left (IsWholeRunBy clock.entry.now) (H.told host.old) (H.told host.new) }
     ensures went { WentBy result [] (told_faults result) (H.counts host.old) (H.counts host.new) }
     ensures room { IfOk result (λ told. vec_len told.faults + 1 ≤ vec_capacity told.faults) }
@@ -91,7 +92,8 @@ pub fn run_at<H: Host>(
     seconds: i64,
 ) -> Result<Told, RunStop>
     requires disk { WhereTold (H.told host.old) IsJournal }
-    ensures told { CameTo (CallEnds request.now zone.now seconds (plan_told result) (answer_of result)) request.now (answer_of result) (H.told host.old) (H.told host.new) }
+    ensures told { CameTo (CallEnds request.now zone.now seconds (plan_told result) (answer_of result)) request.now
+        (answer_of result) (H.told host.old) (H.told host.new) }
     ensures clock { IfOk result (λ told. IsClocked zone.now seconds told.notices told.faults.items) }
     ensures shape { TurnsByClock zone.now seconds (H.told host.old) (H.told host.new) }
     ensures counted { IfOk result (λ told. AreReported told.faults.items (H.counts host.old) (H.counts host.new)) }

@@ -52,10 +52,12 @@ pub fn logrotate<H: Host, K: Sink>(
     // failed, each log of the plan was turned, and where nothing failed, the plan was done; none failed where no count rose and
     // nothing was in the way; all else was left alone, whatever failed. The state's file is the old one or the new one, whole,
     // at each moment and after each cut; a log is emptied only just behind its copy. A call that didn't come to its plan says why.
-    ensures told { Says here.now words.now zone.now now result (H.told host.old) (H.told host.new) (H.counts host.old) (H.counts host.new) (K.taken out.old) (K.taken out.new) (K.faults out.old) (K.faults out.new) }
+    ensures told { Says here.now words.now zone.now now result (H.told host.old) (H.told host.new) (H.counts host.old)
+        (H.counts host.new) (K.taken out.old) (K.taken out.new) (K.faults out.old) (K.faults out.new) }
 
     // A dry run only looks, lists and reads: it takes no lock, changes nothing, and starts no program.
-    ensures dry { (request : Request) → AskFor here.now words.now request → request.settings.debug ≡ true → Left AreSights (H.told host.old) (H.told host.new) }
+    ensures dry { (request : Request) → AskFor here.now words.now request → request.settings.debug ≡ true
+        → Left AreSights (H.told host.old) (H.told host.new) }
 
     // `Out` comes only where a put failed.
     ensures out { HasFault result fault.Out → Rose (K.faults out.old) (K.faults out.new) }
@@ -63,7 +65,8 @@ pub fn logrotate<H: Host, K: Sink>(
     // Also where the host tells nothing: the words, the clock, the counts of failed calls and bad ends, the lock.
     ensures bad_words { result ≢ Outcome.OutOfMemory → (result ≡ Outcome.BadWords ↔ AskForNone here.now words.now) }
     ensures words { (report : Report) → result ≡ Outcome.Done report → (request : Request) × AskFor here.now words.now request }
-    ensures clock { (report : Report) → without_out result ≡ Outcome.Done report → IsClocked zone.now now report.notices report.faults }
+    ensures clock { (report : Report) → without_out result ≡ Outcome.Done report
+        → IsClocked zone.now now report.notices report.faults }
     ensures counted { HasCounted (without_out result) (H.counts host.old) (H.counts host.new) }
     ensures held { result ≡ Outcome.Held → Rose (H.counts host.old).held (H.counts host.new).held }
     ensures lock { (H.counts host.new).locked ≡ (H.counts host.old).locked }

@@ -6,7 +6,8 @@ use Rattle.lr_host.specs.declared.entry.Entry.TheVariants as entry
 use Rattle.lr_host.specs.Told.{Then, Maybe}
 use Rattle.lr_scripts.specs.Programs.{runs}
 use Rattle.lr_plan.specs.declared.step.Step.{Step}
-use Rattle.lr_plan.specs.declared.step.Step.TheVariants.{Runs, Removes, MakesDir, Renames, Creates, Takes, SyncsFile, SyncsDir, Truncates}
+use Rattle.lr_plan.specs.declared.step.Step.TheVariants.{Runs, Removes, MakesDir, Renames, Creates, Takes, SyncsFile, SyncsDir}
+use Rattle.lr_plan.specs.declared.step.Step.TheVariants.{Truncates}
 use Rattle.lr_plan.specs.Outcomes.{One}
 
 -- an entry by which the tool changes a name, truncates, syncs, or runs a program: all that it does to a disk but appends
@@ -21,7 +22,8 @@ is_act (entry.SyncsDir x) = true
 is_act (entry.Runs program args input end) = true
 is_act _ = false
 
--- The acts of a step that was made: its one, a program's with the end 0; the making of a log or of a directory may have none, where the path is named. A copy of bytes, an append and a mark have none.
+-- The acts of a step that was made: its one, a program's with the end 0; the making of a log or of a directory may have none, where
+-- the path is named. A copy of bytes, an append and a mark have none.
 abbrev pub ActsBy : Step → List Entry → Type 0
 ActsBy (Runs phase on command) ts = One (runs command (ended.Exit (pos 0))) ts
 ActsBy (Removes path) ts = One (entry.Unlinks path) ts

@@ -14,4 +14,5 @@ pub record IsLeftAlone (before after : Past) (x : Path) : Type 0 where
   -- just what it named, where no writer was attached to it
   pub same : AttachedOnlySince (λ y. y ≢ x) before after → names (world after) x ≡ names (world before) x
   -- a file that it named has its old bytes, and then what writers fed it
-  pub bytes : (g : ℕ) → names (world before) x ≡ thing.File g → ((world after).files g).bytes ≡ ((world before).files g).bytes ++ drop (length (fed before g)) (fed after g)
+  pub bytes : (g : ℕ) → names (world before) x ≡ thing.File g
+      → ((world after).files g).bytes ≡ ((world before).files g).bytes ++ drop (length (fed before g)) (fed after g)

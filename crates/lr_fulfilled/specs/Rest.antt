@@ -27,10 +27,12 @@ pub record IsElsewhere (state : Path) (targets : List Target) (x : Path) : Type 
 abbrev pub HasNone : List Target → Path → Type 0
 HasNone targets log = (t : Target) → IsIn t targets → t.log ≢ log
 
--- A run that rotates these logs, of which it kept those, leaves alone each path elsewhere, and each name of another log that it kept.
+-- A run that rotates these logs, of which it kept those, leaves alone each path elsewhere, and each name of another log that it
+-- kept.
 pub record LeavesRest (state : Path) (kept : List FoundLog) (targets : List Target) (before after : Past) : Type 0 where
   pub paths : (x : Path) → IsElsewhere state targets x → IsLeftAlone before after x
-  pub others : (f : FoundLog) → IsIn f kept → HasNone targets f.log.path → (x : Path) → IsOwnName f.log.path f.log.naming x → IsLeftAlone before after x
+  pub others : (f : FoundLog) → IsIn f kept → HasNone targets f.log.path → (x : Path) → IsOwnName f.log.path f.log.naming x
+      → IsLeftAlone before after x
 
 -- Each safe and steady set of another log names what it named.
 abbrev pub LeavesSets : List Target → Past → Past → Type 0

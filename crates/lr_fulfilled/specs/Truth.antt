@@ -9,8 +9,10 @@ use Rattle.lr_looks.specs.Sights.{WordSight}
 use Rattle.lr_laws_family.specs.Moments.{IsBehind}
 use Rattle.lr_stood.specs.True.{AreTrue}
 
--- Between the two pasts these entries were made, and then those of the looking; and what this came to was true of the disk, from the moment just before it to the one just behind it.
-pub record WereTrue (rules : List Rule) (sights : List WordSight) (sets : List SetLooks) (front looking : List Entry) (before after : Past) : Type 0 where
+-- Between the two pasts these entries were made, and then those of the looking; and what this came to was true of the disk, from
+-- the moment just before it to the one just behind it.
+pub record WereTrue (rules : List Rule) (sights : List WordSight) (sets : List SetLooks) (front looking : List Entry)
+    (before after : Past) : Type 0 where
   pub at : Past
   pub looked : Past
   pub since : Made before (reverse front) at

@@ -66,11 +66,13 @@ pub fn run_leaves_rest()
         → Made p es q → IsJournal p → reverse es ≡ reads ++ run_entries false state clock rules w → AreQuiet reads
         → ShowsWork false state rules.sets clock asked w → CarriesOut state clock w
         → LeavesSets (targets_in w.plan) p q }
-    ensures broken_rest { (state : Path) (asked : Asked) (clock : Clock) (rules : Rules) (w : Work) (p q : Past) (es reads : List Entry)
+    ensures broken_rest { (state : Path) (asked : Asked) (clock : Clock) (rules : Rules) (w : Work) (p q : Past)
+        (es reads : List Entry)
         → Made p es q → IsJournal p → reverse es ≡ reads ++ run_entries false state clock rules w → AreQuiet reads
         → ShowsWork false state rules.sets clock asked w → BreaksOff w
         → LeavesRest state w.saw.kept (targets_in w.plan) p q }
-    ensures broken_sets { (state : Path) (asked : Asked) (clock : Clock) (rules : Rules) (w : Work) (p q : Past) (es reads : List Entry)
+    ensures broken_sets { (state : Path) (asked : Asked) (clock : Clock) (rules : Rules) (w : Work) (p q : Past)
+        (es reads : List Entry)
         → Made p es q → IsJournal p → reverse es ≡ reads ++ run_entries false state clock rules w → AreQuiet reads
         → ShowsWork false state rules.sets clock asked w → BreaksOff w
         → LeavesSets (targets_in w.plan) p q }
@@ -82,10 +84,12 @@ pub fn run_leaves_rest()
 
 /// A run that ended before its plan, or a dry one, leaves all alone: each path, and each steady set.
 pub fn halted_run_leaves_all()
-    ensures paths { (debug : Bool) (state : Path) (asked : Asked) (clock : Clock) (rules : Rules) (halt : Halt) (p q : Past) (es reads ts : List Entry)
+    ensures paths { (debug : Bool) (state : Path) (asked : Asked) (clock : Clock) (rules : Rules) (halt : Halt) (p q : Past)
+        (es reads ts : List Entry)
         → Made p es q → IsJournal p → reverse es ≡ reads ++ ts → AreQuiet reads → Halts debug state rules clock asked halt ts
         → (x : Path) → IsLeftAlone p q x }
-    ensures sets { (debug : Bool) (state : Path) (asked : Asked) (clock : Clock) (rules : Rules) (halt : Halt) (p q : Past) (es reads ts : List Entry)
+    ensures sets { (debug : Bool) (state : Path) (asked : Asked) (clock : Clock) (rules : Rules) (halt : Halt) (p q : Past)
+        (es reads ts : List Entry)
         → Made p es q → IsJournal p → reverse es ≡ reads ++ ts → AreQuiet reads → Halts debug state rules clock asked halt ts
         → LeavesSets [] p q }
 {}
@@ -93,7 +97,8 @@ pub fn halted_run_leaves_all()
 /// Each log of a run's plan is given by a word of one of its rules, as the run's entries show: with its naming, its count and its
 /// age; and it is copied where that rule asks for a copy.
 pub fn logs_are_given()
-    ensures { (debug : Bool) (state : Path) (asked : Asked) (clock : Clock) (rules : Rules) (w : Work) (p q : Past) (es reads : List Entry)
+    ensures { (debug : Bool) (state : Path) (asked : Asked) (clock : Clock) (rules : Rules) (w : Work) (p q : Past)
+        (es reads : List Entry)
         → Made p es q → reverse es ≡ reads ++ run_entries debug state clock rules w
         → ShowsSets state rules.sets w.saw w.looks → IsPlanOf rules.sets w.saw clock asked w.plan
         → AreGivenBy rules.sets w.plan }
@@ -115,7 +120,8 @@ pub fn run_lists_once()
     ensures looks { (debug : Bool) (state : Path) (clock : Clock) (rules : Rules) (w : Work) (p q : Past) (es reads : List Entry)
         → Made p es q → reverse es ≡ reads ++ run_entries debug state clock rules w → ShowsSets state rules.sets w.saw w.looks
         → (dir : Path) → listings_of dir w.looks ≤ wildcards_of rules.sets + 1 }
-    ensures all { (debug : Bool) (state : Path) (asked : Asked) (clock : Clock) (rules : Rules) (earlier : List Fault) (result : Result Ran RunStop) (work : Option Work) (p q : Past) (es : List Entry)
+    ensures all { (debug : Bool) (state : Path) (asked : Asked) (clock : Clock) (rules : Rules) (earlier : List Fault)
+        (result : Result Ran RunStop) (work : Option Work) (p q : Past) (es : List Entry)
         → Made p es q → RunEnds debug state rules clock asked earlier result work (reverse es)
         → (dir : Path) → listings_of dir (reverse es) ≤ wildcards_of rules.sets + 1 }
 {}

@@ -33,7 +33,8 @@ abbrev pub AreTexts : List Word → Type 0
 AreTexts [] = Unit {0}
 AreTexts (w ∷ ws) = IsUtf8 w.text × AreTexts ws
 
--- A log that a word gives: the place of its rule, its path and the names of its members; whether it is passed over silently where a later word finds it again; whether the word is a wildcard.
+-- A log that a word gives: the place of its rule, its path and the names of its members; whether it is passed over silently where a
+-- later word finds it again; whether the word is a wildcard.
 pub record Log : Type 0 where
   pub set : ℕ
   pub path : Path

@@ -79,9 +79,12 @@ kind_fault f = if is_file f.seen.kind then [] else fault.NotFile f.log.path ∷ 
 abbrev pub where_file : FoundLog → List FoundLog
 where_file f = if is_file f.seen.kind then f ∷ [] else []
 
--- The logs that are left are those that are kept and are regular files; the faults of the others are added, those of the choice first.
-pub record Keeps (reserved : List Path) (found : List FoundLog) (faults all_faults : List Fault) (left : List FoundLog) : Type 0 where
+-- The logs that are left are those that are kept and are regular files; the faults of the others are added, those of the choice
+-- first.
+pub record Keeps (reserved : List Path) (found : List FoundLog) (faults all_faults : List Fault)
+    (left : List FoundLog) : Type 0 where
   pub choices : List Choice
   pub chosen : IsChoiceAmong reserved found choices
-  pub faults_are : all_faults ≡ faults ++ (choice_faults reserved found found choices ++ flat_map kind_fault (kept_of found choices))
+  pub faults_are : all_faults ≡ faults ++ (choice_faults reserved found found choices
+      ++ flat_map kind_fault (kept_of found choices))
   pub left_are : left ≡ flat_map where_file (kept_of found choices)

@@ -36,21 +36,27 @@ pub record WasListed (known : List Listing) (dir : Path) (l : Listing) : Type 0 
 abbrev pub WasNotListed : List Listing → Path → Type 0
 WasNotListed known dir = (l : Listing) → WasListed known dir l → ⊥
 
--- what the looks at the members among the names of a listing, and at their part files, showed; there may be no memory before the first
+-- what the looks at the members among the names of a listing, and at their part files, showed; there may be no memory before the
+-- first
 abbrev pub ShowsMembersIn : Naming → Listing → FamilySight → List Entry → Type 0
 ShowsMembersIn n l (Stood stand) ts = ShowsIn n l.there l.parent l.names stand ts
 ShowsMembersIn n l (Stopped why) ts = ((why ≡ stop.Memory) × (ts ≡ [])) ⊎ ShowsNoneIn n l.there l.names why ts
 
--- The looks at one family, behind some listings: its directory was listed before; or it is listed now, and known then; or it couldn't be, and isn't known.
+-- The looks at one family, behind some listings: its directory was listed before; or it is listed now, and known then; or it
+-- couldn't be, and isn't known.
 pub data ShowsFamily (known : List Listing) (n : Naming) (after : List Listing) (s : FamilySight) (ts : List Entry) : Type 0 where
-  behind_listing : (l : Listing) → WasListed known n.dir l → after ≡ known → ShowsMembersIn n l s ts → ShowsFamily known n after s ts
-  with_listing : (l : Listing) → WasNotListed known n.dir → l.dir ≡ n.dir → after ≡ known ++ l ∷ [] → Then (ShowsListing n.dir l.there l.parent l.names) (ShowsMembersIn n l s) ts → ShowsFamily known n after s ts
-  not_listed : (why : StandStop) → WasNotListed known n.dir → after ≡ known → s ≡ Stopped why → NotListed n.dir why ts → ShowsFamily known n after s ts
+  behind_listing : (l : Listing) → WasListed known n.dir l → after ≡ known → ShowsMembersIn n l s ts
+      → ShowsFamily known n after s ts
+  with_listing : (l : Listing) → WasNotListed known n.dir → l.dir ≡ n.dir → after ≡ known ++ l ∷ []
+      → Then (ShowsListing n.dir l.there l.parent l.names) (ShowsMembersIn n l s) ts → ShowsFamily known n after s ts
+  not_listed : (why : StandStop) → WasNotListed known n.dir → after ≡ known → s ≡ Stopped why → NotListed n.dir why ts
+      → ShowsFamily known n after s ts
 
 -- the same for each log, in order
 abbrev pub ShowFamilies : List Listing → List FoundLog → List Listing → List FamilySight → List Entry → Type 0
 ShowFamilies known [] after [] ts = (after ≡ known) × (ts ≡ [])
-ShowFamilies known (f ∷ fs) after (s ∷ ss) ts = (next : List Listing) × Then (ShowsFamily known f.log.naming next s) (ShowFamilies next fs after ss) ts
+ShowFamilies known (f ∷ fs) after (s ∷ ss) ts = (next : List Listing)
+    × Then (ShowsFamily known f.log.naming next s) (ShowFamilies next fs after ss) ts
 ShowFamilies known _ after _ ts = ⊥
 
 -- the fault of a family of which it isn't known what stands
@@ -76,7 +82,8 @@ abbrev pub AllHadMemory : List FamilySight → Type 0
 AllHadMemory [] = Unit {0}
 AllHadMemory (s ∷ ss) = HadMemory s × AllHadMemory ss
 
--- A log that was looked at whole: the place of its definition, its path and the names of its members, what was seen of it, and what stands of its family.
+-- A log that was looked at whole: the place of its definition, its path and the names of its members, what was seen of it, and what
+-- stands of its family.
 pub record LookedLog : Type 0 where
   pub set : ℕ
   pub path : Path
@@ -95,8 +102,10 @@ abbrev pub looked_of : List FoundLog → List FamilySight → List LookedLog
 looked_of (f ∷ fs) (s ∷ ss) = looked_by f s ++ looked_of fs ss
 looked_of _ _ = []
 
--- The looks at the families of these logs came to some sights: the faults that were added and the logs that were looked at whole are theirs.
-pub record LookedAtFamilies (known : List Listing) (logs : List FoundLog) (after : List Listing) (faults all_faults : List Fault) (looked : List LookedLog) (ts : List Entry) : Type 0 where
+-- The looks at the families of these logs came to some sights: the faults that were added and the logs that were looked at whole
+-- are theirs.
+pub record LookedAtFamilies (known : List Listing) (logs : List FoundLog) (after : List Listing) (faults all_faults : List Fault)
+    (looked : List LookedLog) (ts : List Entry) : Type 0 where
   pub sights : List FamilySight
   pub had_memory : AllHadMemory sights
   pub shown : ShowFamilies known logs after sights ts
@@ -104,7 +113,8 @@ pub record LookedAtFamilies (known : List Listing) (logs : List FoundLog) (after
   pub looked_are : looked ≡ looked_of logs sights
 
 -- the same with no directory listed before
-pub record LooksAtFamilies (logs : List FoundLog) (faults all_faults : List Fault) (looked : List LookedLog) (ts : List Entry) : Type 0 where
+pub record LooksAtFamilies (logs : List FoundLog) (faults all_faults : List Fault) (looked : List LookedLog)
+    (ts : List Entry) : Type 0 where
   pub listings : List Listing
   pub families : LookedAtFamilies [] logs listings faults all_faults looked ts
 

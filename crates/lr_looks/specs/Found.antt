@@ -31,7 +31,8 @@ pub record HasBounds (f : FoundLog) : Type 0 where
   pub start : f.log.naming.start ≤ 999999
   pub format : or_none is_format f.log.naming.dated ≡ true
 
--- Its path is one, of 2,048 bytes at most, with a last part of 255 at most; so is the directory of its members, and their format of dates, where they have one, meets its limits.
+-- Its path is one, of 2,048 bytes at most, with a last part of 255 at most; so is the directory of its members, and their format of
+-- dates, where they have one, meets its limits.
 pub record HasLogPath (f : FoundLog) : Type 0 where
   pub path : path_fault f.log.path ≡ None
   pub dir : path_fault f.log.naming.dir ≡ None

@@ -1,4 +1,5 @@
--- For proofs: logs that are found, choices that name logs of the list, the map of listings, and logs that are added to their definitions.
+-- For proofs: logs that are found, choices that name logs of the list, the map of listings, and logs that are added to their
+-- definitions.
 use Rattle.std.specs.Prelude.{◌≡◌, ◌<◌, ℕ, List, [], ◌∷◌, ◌++◌, All, Option, Some, None, length, slice_get}
 use Rattle.lr_kept.specs.declared.choice.Choice.{Choice}
 use Rattle.lr_kept.specs.declared.choice.Choice.TheVariants.{Kept, Again, MemberOf, Reserved, Meets}
@@ -53,11 +54,14 @@ AreListings listings = ArePlaces listings.taken.items (places_in listings)
 
 -- The listing of the directory was taken before, at this place; or it is taken now.
 pub data TakesListing (known : List Listing) (dir : Path) (after : List Listing) (place : ℕ) (ts : List Entry) : Type 0 where
-  before : (l : Listing) → slice_get known place ≡ Some l → l.dir ≡ dir → after ≡ known → ts ≡ [] → TakesListing known dir after place ts
-  taken : (l : Listing) → WasNotListed known dir → l.dir ≡ dir → after ≡ known ++ l ∷ [] → place ≡ length known → ShowsListing dir l.there l.parent l.names ts → TakesListing known dir after place ts
+  before : (l : Listing) → slice_get known place ≡ Some l → l.dir ≡ dir → after ≡ known → ts ≡ []
+      → TakesListing known dir after place ts
+  taken : (l : Listing) → WasNotListed known dir → l.dir ≡ dir → after ≡ known ++ l ∷ [] → place ≡ length known
+      → ShowsListing dir l.there l.parent l.names ts → TakesListing known dir after place ts
 
 -- It couldn't be taken.
-pub record LacksListing (known : List Listing) (dir : Path) (why : StandStop) (after : List Listing) (ts : List Entry) : Type 0 where
+pub record LacksListing (known : List Listing) (dir : Path) (why : StandStop) (after : List Listing)
+    (ts : List Entry) : Type 0 where
   pub not_before : WasNotListed known dir
   pub same : after ≡ known
   pub shown : NotListed dir why ts
@@ -65,7 +69,8 @@ pub record LacksListing (known : List Listing) (dir : Path) (why : StandStop) (a
 -- So it is, or there was no memory to add it.
 pub data NoListing (known : List Listing) (dir : Path) (why : StandStop) (ts : List Entry) : Type 0 where
   lacks : WasNotListed known dir → NotListed dir why ts → NoListing known dir why ts
-  unadded : (l : Listing) → why ≡ stop.Memory → WasNotListed known dir → l.dir ≡ dir → ShowsListing dir l.there l.parent l.names ts → NoListing known dir why ts
+  unadded : (l : Listing) → why ≡ stop.Memory → WasNotListed known dir → l.dir ≡ dir → ShowsListing dir l.there l.parent l.names ts
+      → NoListing known dir why ts
 
 -- the listing of the directory stands at this place
 abbrev pub IsAt : List Listing → ℕ → Path → Type 0
@@ -82,19 +87,22 @@ abbrev pub AddsLooked : List LookedLog → List SetLooks → List SetLooks → T
 AddsLooked added was now = (logs : List LookedLog) → HaveLooks logs was → HaveLooks (logs ++ added) now
 
 -- The family of one log was looked at: a log or a fault was added.
-pub record AddsFamily (known after : List Listing) (f : FoundLog) (faults all_faults : List Fault) (was now : List SetLooks) (told later : Option Journal) : Type 0 where
+pub record AddsFamily (known after : List Listing) (f : FoundLog) (faults all_faults : List Fault) (was now : List SetLooks)
+    (told later : Option Journal) : Type 0 where
   pub looked : List LookedLog
   pub entries : Left (LookedAtFamilies known (f ∷ []) after faults all_faults looked) told later
   pub added : AddsLooked looked was now
 
 -- The families of all logs were.
-pub record AddsFamilies (logs : List FoundLog) (faults all_faults : List Fault) (was now : List SetLooks) (told later : Option Journal) : Type 0 where
+pub record AddsFamilies (logs : List FoundLog) (faults all_faults : List Fault) (was now : List SetLooks)
+    (told later : Option Journal) : Type 0 where
   pub looked : List LookedLog
   pub entries : Left (LooksAtFamilies logs faults all_faults looked) told later
   pub added : AddsLooked looked was now
 
 -- The logs that were looked at whole stand by definitions.
-pub record LooksBySets (logs : List FoundLog) (faults all_faults : List Fault) (sets : List SetLooks) (told later : Option Journal) : Type 0 where
+pub record LooksBySets (logs : List FoundLog) (faults all_faults : List Fault) (sets : List SetLooks)
+    (told later : Option Journal) : Type 0 where
   pub looked : List LookedLog
   pub entries : Left (LooksAtFamilies logs faults all_faults looked) told later
   pub by_sets : HaveLooks looked sets

@@ -14,8 +14,11 @@ use Rattle.lr_looks.specs.Found.{FoundLog, paths_of, HaveLogPaths}
 use Rattle.lr_looks.specs.Sets.{HaveLooks}
 use Rattle.lr_looks.specs.Sights.{LookedAt, LookedAtSome}
 
--- What the words give was looked at, and then the families of the logs that are kept. The words are texts, and what was found has paths that a log can have. The logs that were looked at whole stand by definitions; the faults are those of the words, of the choice, of the kinds and of the families, in this order.
-pub record ShowsLooks (reserved : List Path) (rules : List Rule) (sets : List SetLooks) (faults : List Fault) (ts : List Entry) : Type 0 where
+-- What the words give was looked at, and then the families of the logs that are kept. The words are texts, and what was found has
+-- paths that a log can have. The logs that were looked at whole stand by definitions; the faults are those of the words, of the
+-- choice, of the kinds and of the families, in this order.
+pub record ShowsLooks (reserved : List Path) (rules : List Rule) (sets : List SetLooks) (faults : List Fault)
+    (ts : List Entry) : Type 0 where
   pub found : List FoundLog
   pub of_words : List Fault
   pub kept : List FoundLog
@@ -29,7 +32,8 @@ pub record ShowsLooks (reserved : List Path) (rules : List Rule) (sets : List Se
   pub by_sets : HaveLooks looked sets
 
 -- The answer has the logs that were looked at whole, and the paths of all that are kept; the faults were added.
-pub record LooksAtAll (reserved : List Path) (rules : List Rule) (looks : Looks) (faults all_faults : List Fault) (ts : List Entry) : Type 0 where
+pub record LooksAtAll (reserved : List Path) (rules : List Rule) (looks : Looks) (faults all_faults : List Fault)
+    (ts : List Entry) : Type 0 where
   pub own : List Fault
   pub faults_are : all_faults ≡ faults ++ own
   pub shown : ShowsLooks reserved rules looks.sets own ts
@@ -38,5 +42,6 @@ pub record LooksAtAll (reserved : List Path) (rules : List Rule) (looks : Looks)
 -- Where there was no memory, a first part of these looks was made.
 pub data ShowsSomeLooks (reserved : List Path) (rules : List Rule) (ts : List Entry) : Type 0 where
   at_words : LookedAtSome 0 (asked_by rules) ts → ShowsSomeLooks reserved rules ts
-  at_families : (found : List FoundLog) (of_words : List Fault) (kept : List FoundLog) (of_kept : List Fault) → Keeps reserved found of_words of_kept kept
+  at_families : (found : List FoundLog) (of_words : List Fault) (kept : List FoundLog) (of_kept : List Fault)
+      → Keeps reserved found of_words of_kept kept
       → Then (LookedAt (asked_by rules) [] of_words [] found) (LookedAtSomeFamilies [] kept) ts → ShowsSomeLooks reserved rules ts

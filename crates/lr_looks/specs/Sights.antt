@@ -56,7 +56,8 @@ abbrev pub ShowsWord : Word → ℕ → WordSight → List Entry → Type 0
 ShowsWord w room (Ok found) ts = Comes w.text room (Ok found) ts
 ShowsWord w room (Err why) ts = Stopped w.text room why ts
 
--- The same of each word, in order. A run finds 16,384 logs at most: the room of a word is what those that were found before it leave of this number.
+-- The same of each word, in order. A run finds 16,384 logs at most: the room of a word is what those that were found before it
+-- leave of this number.
 abbrev pub ShowWords : ℕ → List Word → List WordSight → List Entry → Type 0
 ShowWords before [] [] ts = ts ≡ []
 ShowWords before (w ∷ ws) (s ∷ ss) ts = Then (ShowsWord w (16_384 - before) s) (ShowWords (before + length (found_by w s)) ws ss) ts
@@ -77,7 +78,8 @@ pub record AreFoundOf (words : List Word) (found : List FoundLog) : Type 0 where
   pub found_are : found ≡ found_of words sights
 
 -- These words came to some sights, one for each: the faults and the logs that were added are theirs.
-pub record LookedAt (words : List Word) (faults all_faults : List Fault) (found all_found : List FoundLog) (ts : List Entry) : Type 0 where
+pub record LookedAt (words : List Word) (faults all_faults : List Fault) (found all_found : List FoundLog)
+    (ts : List Entry) : Type 0 where
   pub sights : List WordSight
   pub had_memory : WordsHadMemory sights
   pub shown : ShowWords (length found) words sights ts

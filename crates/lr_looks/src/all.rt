@@ -22,7 +22,8 @@ pub fn look_all<H: Host>(
     state: &Path,
     faults: &mut Vec<Fault>,
 ) -> Result<Looks, Memory>
-    ensures told { IfOk result (λ looks. Left (LooksAtAll (reserved_by state.now) rules.now.sets looks faults.old.items faults.new.items) (H.told host.old) (H.told host.new)) }
+    ensures told { IfOk result (λ looks. Left (LooksAtAll (reserved_by state.now) rules.now.sets looks faults.old.items
+        faults.new.items) (H.told host.old) (H.told host.new)) }
     ensures some { OnErr result (Left (ShowsSomeLooks (reserved_by state.now) rules.now.sets) (H.told host.old) (H.told host.new)) }
     ensures planned { IfOk result (λ looks. CanPlanAll rules.now.sets looks.sets) }
     ensures went { WentBy result faults.old.items faults.new.items (H.counts host.old) (H.counts host.new) }

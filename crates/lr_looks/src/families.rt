@@ -31,8 +31,10 @@ fn stand_at<H: Host>(
 ) -> Result<Stand, StandStop>
     requires known { AreListings listings.old }
     requires format { or_none is_format family.now.naming.dated ≡ true }
-    ensures told { result ≢ Err stop.Memory → Left (ShowsFamily listings.old.taken.items family.now.naming listings.new.taken.items (sight_of result)) (H.told host.old) (H.told host.new) }
-    ensures part { Left (FamilyPart listings.old.taken.items family.now.naming (sight_of result)) (H.told host.old) (H.told host.new) }
+    ensures told { result ≢ Err stop.Memory → Left (ShowsFamily listings.old.taken.items family.now.naming listings.new.taken.items
+        (sight_of result)) (H.told host.old) (H.told host.new) }
+    ensures part { Left (FamilyPart listings.old.taken.items family.now.naming (sight_of result)) (H.told host.old)
+        (H.told host.new) }
     ensures known { result ≢ Err stop.Memory → AreListings listings.new }
     ensures named { IfOk result (λ stand. AreMembersOf family.now.naming stand.members) }
     ensures cause { IfErr result (λ why. IsFailedCall why → Rose (H.counts host.old).faults (H.counts host.new).faults) }
@@ -104,8 +106,10 @@ fn look_at_family<H: Host>(
     requires known { AreListings listings.old }
     requires set { found.set < length sets.old.items }
     requires bounds { HasBounds (found_in found) }
-    ensures told { OnOk result (AddsFamily listings.old.taken.items listings.new.taken.items (found_in found) faults.old.items faults.new.items sets.old.items sets.new.items (H.told host.old) (H.told host.new)) }
-    ensures some { OnErr result (Left (LookedAtSomeFamilies listings.old.taken.items (found_in found ∷ [])) (H.told host.old) (H.told host.new)) }
+    ensures told { OnOk result (AddsFamily listings.old.taken.items listings.new.taken.items (found_in found) faults.old.items
+        faults.new.items sets.old.items sets.new.items (H.told host.old) (H.told host.new)) }
+    ensures some { OnErr result (Left (LookedAtSomeFamilies listings.old.taken.items (found_in found ∷ [])) (H.told host.old)
+        (H.told host.new)) }
     ensures known { OnOk result (AreListings listings.new) }
     ensures many { OnOk result (length sets.new.items ≡ length sets.old.items) }
     ensures ready { OnOk result (AreReady sets.old.items → AreReady sets.new.items) }
@@ -142,7 +146,8 @@ fn look_at_each<H: Host>(
 ) -> Result<(), Memory>
     requires sets { AreOf (length sets.old.items) (all_found_in found.items) }
     requires bounds { HaveBounds (all_found_in found.items) }
-    ensures told { OnOk result (AddsFamilies (all_found_in found.items) faults.old.items faults.new.items sets.old.items sets.new.items (H.told host.old) (H.told host.new)) }
+    ensures told { OnOk result (AddsFamilies (all_found_in found.items) faults.old.items faults.new.items sets.old.items
+        sets.new.items (H.told host.old) (H.told host.new)) }
     ensures some { OnErr result (Left (LookedAtSomeFamilies [] (all_found_in found.items)) (H.told host.old) (H.told host.new)) }
     ensures many { OnOk result (length sets.new.items ≡ length sets.old.items) }
     ensures ready { OnOk result (AreReady sets.old.items → AreReady sets.new.items) }
@@ -181,7 +186,8 @@ pub fn look_at_families<H: Host>(
 ) -> Result<Looks, Memory>
     requires sets { AreOf count (all_found_in found.items) }
     requires bounds { HaveBounds (all_found_in found.items) }
-    ensures told { IfOk result (λ looks. LooksBySets (all_found_in found.items) faults.old.items faults.new.items looks.sets (H.told host.old) (H.told host.new)) }
+    ensures told { IfOk result (λ looks. LooksBySets (all_found_in found.items) faults.old.items faults.new.items looks.sets
+        (H.told host.old) (H.told host.new)) }
     ensures some { OnErr result (Left (LookedAtSomeFamilies [] (all_found_in found.items)) (H.told host.old) (H.told host.new)) }
     ensures kept { IfOk result (λ looks. looks.kept ≡ paths_of (all_found_in found.items)) }
     ensures many { IfOk result (λ looks. length looks.sets ≡ count) }

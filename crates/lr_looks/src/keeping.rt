@@ -3,7 +3,8 @@ ghost use Rattle.std.specs.Prelude.{◌≡◌, ◌++◌, OnOk, IfOk, length, map
 ghost use Rattle.lr_rules.specs.declared.fault.Fault.TheVariants as fault;
 ghost use Rattle.std.specs.List.{flat_map};
 ghost use Rattle.lr_looks.specs.Found.{found_in, all_found_in, HaveLogPaths};
-ghost use Rattle.lr_looks.specs.Choices.{names_of, found_names, is_wild, duplicate, overlap, barred, choice_fault, choice_faults, where_kept, kept_of, kind_fault, where_file, IsChoiceAmong, Keeps};
+ghost use Rattle.lr_looks.specs.Choices.{names_of, found_names, is_wild, duplicate, overlap, barred, choice_fault, choice_faults};
+ghost use Rattle.lr_looks.specs.Choices.{where_kept, kept_of, kind_fault, where_file, IsChoiceAmong, Keeps};
 ghost use Rattle.lr_looks.specs.Internal.{IsWithin, AreWithin};
 
 use crate::found::Found;
@@ -101,7 +102,8 @@ fn add_choice(
     choice: Choice,
 ) -> Result<(), Memory>
     requires { IsWithin (length reserved.now) (length found.now) choice }
-    ensures { OnOk result (faults.new.items ≡ faults.old.items ++ choice_fault reserved.now (all_found_in found.now) (found_in item.now) choice) }
+    ensures { OnOk result (faults.new.items ≡ faults.old.items
+        ++ choice_fault reserved.now (all_found_in found.now) (found_in item.now) choice) }
 {
     match choice {
         Choice::Kept => Ok(()),
@@ -122,7 +124,8 @@ fn add_choices(
 ) -> Result<(), Memory>
     requires many { length choices.now ≡ length found.now }
     requires within { AreWithin (length reserved.now) (length found.now) choices.now }
-    ensures { OnOk result (faults.new.items ≡ faults.old.items ++ choice_faults reserved.now (all_found_in found.now) (all_found_in found.now) choices.now) }
+    ensures { OnOk result (faults.new.items ≡ faults.old.items
+        ++ choice_faults reserved.now (all_found_in found.now) (all_found_in found.now) choices.now) }
 {
     for at in 0..found.len() {
         add_choice(alloc, faults, found, reserved, &found[at], choices[at])?;
@@ -169,7 +172,8 @@ fn add_item(
     item: Found,
     choice: Choice,
 ) -> Result<(), Memory>
-    ensures left { OnOk result (all_found_in left.new.items ≡ all_found_in left.old.items ++ flat_map where_file (where_kept (found_in item) choice)) }
+    ensures left { OnOk result (all_found_in left.new.items ≡ all_found_in left.old.items
+        ++ flat_map where_file (where_kept (found_in item) choice)) }
     ensures faults { OnOk result (faults.new.items ≡ faults.old.items ++ flat_map kind_fault (where_kept (found_in item) choice)) }
 {
     match choice {
@@ -189,8 +193,10 @@ fn files_of(
     faults: &mut Vec<Fault>,
 ) -> Result<Vec<Found>, Memory>
     requires { length choices.now ≡ length found.items }
-    ensures left { IfOk result (λ left. all_found_in left.items ≡ flat_map where_file (kept_of (all_found_in found.items) choices.now)) }
-    ensures faults { OnOk result (faults.new.items ≡ faults.old.items ++ flat_map kind_fault (kept_of (all_found_in found.items) choices.now)) }
+    ensures left { IfOk result (λ left. all_found_in left.items
+        ≡ flat_map where_file (kept_of (all_found_in found.items) choices.now)) }
+    ensures faults { OnOk result (faults.new.items ≡ faults.old.items
+        ++ flat_map kind_fault (kept_of (all_found_in found.items) choices.now)) }
 {
     let mut left = Vec::new(alloc);
     let mut at = 0;
@@ -212,7 +218,8 @@ pub fn keep(
     faults: &mut Vec<Fault>,
 ) -> Result<Vec<Found>, Memory>
     requires { HaveLogPaths (all_found_in found.items) }
-    ensures { IfOk result (λ left. Keeps reserved.now (all_found_in found.items) faults.old.items faults.new.items (all_found_in left.items)) }
+    ensures { IfOk result (λ left. Keeps reserved.now (all_found_in found.items) faults.old.items faults.new.items
+        (all_found_in left.items)) }
 {
     let choices = choices_among(alloc, &found, reserved)?;
     add_choices(alloc, faults, &found, reserved, &choices)?;

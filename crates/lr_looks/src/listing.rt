@@ -43,9 +43,11 @@ fn take_listing<H: Host>(
 ) -> Result<usize, StandStop>
     requires known { AreListings listings.old }
     requires new { WasNotListed listings.old.taken.items dir.now }
-    ensures told { IfOk result (λ place. Left (TakesListing listings.old.taken.items dir.now listings.new.taken.items place) (H.told host.old) (H.told host.new)) }
+    ensures told { IfOk result (λ place. Left (TakesListing listings.old.taken.items dir.now listings.new.taken.items place)
+        (H.told host.old) (H.told host.new)) }
     ensures there { IfOk result (λ place. IsAt listings.new.taken.items place dir.now) }
-    ensures stopped { IfErr result (λ why. why ≢ stop.Memory → Left (LacksListing listings.old.taken.items dir.now why listings.new.taken.items) (H.told host.old) (H.told host.new)) }
+    ensures stopped { IfErr result (λ why. why ≢ stop.Memory
+        → Left (LacksListing listings.old.taken.items dir.now why listings.new.taken.items) (H.told host.old) (H.told host.new)) }
     ensures part { IfErr result (λ why. Left (NoListing listings.old.taken.items dir.now why) (H.told host.old) (H.told host.new)) }
     ensures known { OnOk result (AreListings listings.new) }
     ensures same { IfErr result (λ why. why ≢ stop.Memory → AreListings listings.new) }
@@ -69,9 +71,11 @@ pub fn listing_at<H: Host>(
     dir: &Path,
 ) -> Result<usize, StandStop>
     requires { AreListings listings.old }
-    ensures told { IfOk result (λ place. Left (TakesListing listings.old.taken.items dir.now listings.new.taken.items place) (H.told host.old) (H.told host.new)) }
+    ensures told { IfOk result (λ place. Left (TakesListing listings.old.taken.items dir.now listings.new.taken.items place)
+        (H.told host.old) (H.told host.new)) }
     ensures there { IfOk result (λ place. IsAt listings.new.taken.items place dir.now) }
-    ensures stopped { IfErr result (λ why. why ≢ stop.Memory → Left (LacksListing listings.old.taken.items dir.now why listings.new.taken.items) (H.told host.old) (H.told host.new)) }
+    ensures stopped { IfErr result (λ why. why ≢ stop.Memory
+        → Left (LacksListing listings.old.taken.items dir.now why listings.new.taken.items) (H.told host.old) (H.told host.new)) }
     ensures part { IfErr result (λ why. Left (NoListing listings.old.taken.items dir.now why) (H.told host.old) (H.told host.new)) }
     ensures known { OnOk result (AreListings listings.new) }
     ensures same { IfErr result (λ why. why ≢ stop.Memory → AreListings listings.new) }

@@ -25,7 +25,8 @@ pub fn look_at_unreserved<H: Host>(
     faults: &mut Vec<Fault>,
 ) -> Result<Looks, Memory>
     requires { CanAskAll rules.now.sets }
-    ensures told { IfOk result (λ looks. Left (LooksAtAll reserved.now rules.now.sets looks faults.old.items faults.new.items) (H.told host.old) (H.told host.new)) }
+    ensures told { IfOk result (λ looks. Left (LooksAtAll reserved.now rules.now.sets looks faults.old.items faults.new.items)
+        (H.told host.old) (H.told host.new)) }
     ensures some { OnErr result (Left (ShowsSomeLooks reserved.now rules.now.sets) (H.told host.old) (H.told host.new)) }
     ensures many { IfOk result (λ looks. length looks.sets ≡ length rules.now.sets) }
     ensures ready { IfOk result (λ looks. AreReady looks.sets) }

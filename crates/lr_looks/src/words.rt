@@ -121,7 +121,8 @@ fn add_log(
 ) -> Result<(), Memory>
     requires rule { CanAsk rule.now }
     requires short { is_long at ≡ false }
-    ensures found { OnOk result (all_found_in found.new.items ≡ all_found_in found.old.items ++ found_at (word_of set rule.now word.now) at ∷ []) }
+    ensures found { OnOk result (all_found_in found.new.items ≡ all_found_in found.old.items
+        ++ found_at (word_of set rule.now word.now) at ∷ []) }
     ensures path { OnOk result (HasLogPath (found_at (word_of set rule.now word.now) at)) }
 {
     let Match { path, seen } = at;
@@ -147,7 +148,8 @@ fn add_logs(
 ) -> Result<(), Memory>
     requires rule { CanAsk rule.now }
     requires short { list_any is_long matches.items ≡ false }
-    ensures found { OnOk result (all_found_in found.new.items ≡ all_found_in found.old.items ++ map (found_at (word_of set rule.now word.now)) matches.items) }
+    ensures found { OnOk result (all_found_in found.new.items ≡ all_found_in found.old.items
+        ++ map (found_at (word_of set rule.now word.now)) matches.items) }
     ensures paths { OnOk result (HaveLogPaths (all_found_in found.old.items) → HaveLogPaths (all_found_in found.new.items)) }
 {
     for at in matches {
@@ -168,8 +170,10 @@ fn add_matches(
 ) -> Result<(), Memory>
     requires rule { CanAsk rule.now }
     requires short { list_any is_long matches.items ≡ false }
-    ensures faults { OnOk result (faults.new.items ≡ faults.old.items ++ fault_of (word_of set rule.now word.now) (Ok matches.items)) }
-    ensures found { OnOk result (all_found_in found.new.items ≡ all_found_in found.old.items ++ found_by (word_of set rule.now word.now) (Ok matches.items)) }
+    ensures faults { OnOk result (faults.new.items ≡ faults.old.items
+        ++ fault_of (word_of set rule.now word.now) (Ok matches.items)) }
+    ensures found { OnOk result (all_found_in found.new.items ≡ all_found_in found.old.items
+        ++ found_by (word_of set rule.now word.now) (Ok matches.items)) }
     ensures paths { OnOk result (HaveLogPaths (all_found_in found.old.items) → HaveLogPaths (all_found_in found.new.items)) }
 {
     if matches.is_empty() {
@@ -198,9 +202,12 @@ fn look_at_word<H: Host>(
     faults: &mut Vec<Fault>,
 ) -> Result<(), Memory>
     requires { CanAsk rule.now }
-    ensures told { OnOk result (Left (LookedAt (word_of set rule.now word.now ∷ []) faults.old.items faults.new.items (all_found_in found.old.items) (all_found_in found.new.items)) (H.told host.old) (H.told host.new)) }
-    ensures some { OnErr result (Left (LookedAtSome (length (all_found_in found.old.items)) (word_of set rule.now word.now ∷ [])) (H.told host.old) (H.told host.new)) }
-    ensures found { OnOk result (AddsFound (word_of set rule.now word.now ∷ []) (all_found_in found.old.items) (all_found_in found.new.items)) }
+    ensures told { OnOk result (Left (LookedAt (word_of set rule.now word.now ∷ []) faults.old.items faults.new.items
+        (all_found_in found.old.items) (all_found_in found.new.items)) (H.told host.old) (H.told host.new)) }
+    ensures some { OnErr result (Left (LookedAtSome (length (all_found_in found.old.items)) (word_of set rule.now word.now ∷ []))
+        (H.told host.old) (H.told host.new)) }
+    ensures found { OnOk result (AddsFound (word_of set rule.now word.now ∷ []) (all_found_in found.old.items)
+        (all_found_in found.new.items)) }
     ensures paths { OnOk result (HaveLogPaths (all_found_in found.old.items) → HaveLogPaths (all_found_in found.new.items)) }
     ensures text { OnOk result (AreTexts (word_of set rule.now word.now ∷ [])) }
     ensures went { WentBy result faults.old.items faults.new.items (H.counts host.old) (H.counts host.new) }
@@ -223,8 +230,10 @@ fn look_at_rule<H: Host>(
     faults: &mut Vec<Fault>,
 ) -> Result<(), Memory>
     requires { CanAsk rule.now }
-    ensures told { OnOk result (Left (LookedAt (words_of set rule.now) faults.old.items faults.new.items (all_found_in found.old.items) (all_found_in found.new.items)) (H.told host.old) (H.told host.new)) }
-    ensures some { OnErr result (Left (LookedAtSome (length (all_found_in found.old.items)) (words_of set rule.now)) (H.told host.old) (H.told host.new)) }
+    ensures told { OnOk result (Left (LookedAt (words_of set rule.now) faults.old.items faults.new.items
+        (all_found_in found.old.items) (all_found_in found.new.items)) (H.told host.old) (H.told host.new)) }
+    ensures some { OnErr result (Left (LookedAtSome (length (all_found_in found.old.items)) (words_of set rule.now))
+        (H.told host.old) (H.told host.new)) }
     ensures found { OnOk result (AddsFound (words_of set rule.now) (all_found_in found.old.items) (all_found_in found.new.items)) }
     ensures paths { OnOk result (HaveLogPaths (all_found_in found.old.items) → HaveLogPaths (all_found_in found.new.items)) }
     ensures texts { OnOk result (AreTexts (words_of set rule.now)) }
@@ -247,7 +256,8 @@ pub fn look_at_words<H: Host>(
     faults: &mut Vec<Fault>,
 ) -> Result<Vec<Found>, Memory>
     requires { CanAskAll rules.now.sets }
-    ensures told { IfOk result (λ found. Left (LookedAt (asked_by rules.now.sets) faults.old.items faults.new.items [] (all_found_in found.items)) (H.told host.old) (H.told host.new)) }
+    ensures told { IfOk result (λ found. Left (LookedAt (asked_by rules.now.sets) faults.old.items faults.new.items []
+        (all_found_in found.items)) (H.told host.old) (H.told host.new)) }
     ensures some { OnErr result (Left (LookedAtSome 0 (asked_by rules.now.sets)) (H.told host.old) (H.told host.new)) }
     ensures found { IfOk result (λ found. AreFoundOf (asked_by rules.now.sets) (all_found_in found.items)) }
     ensures paths { IfOk result (λ found. HaveLogPaths (all_found_in found.items)) }

@@ -34,7 +34,8 @@ Lacks false state asked clock rules ts = LacksMemory state asked clock rules ts
 
 -- What a run left, by its answer. The faults that were handed in stand before its own.
 abbrev pub Answers : Path → Bool → Asked → Clock → Rules → List Fault → Result Ran RunStop → List Entry → Type 0
-Answers state debug asked clock rules earlier (Ok ran) ts = (own : List Fault) × (ran.faults.items ≡ earlier ++ own) × Leaves debug state asked clock rules ran.plan own ts
+Answers state debug asked clock rules earlier (Ok ran) ts = (own : List Fault) × (ran.faults.items ≡ earlier ++ own)
+    × Leaves debug state asked clock rules ran.plan own ts
 Answers state debug asked clock rules earlier (Err stop.Held) ts = Holds debug state ts
 Answers state debug asked clock rules earlier (Err stop.Memory) ts = Lacks debug state asked clock rules ts
 

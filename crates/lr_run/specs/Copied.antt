@@ -17,7 +17,8 @@ use Rattle.lr_family.specs.Parts.{part_of}
 use Rattle.lr_copy.specs.declared.job.Job.{Job}
 use Rattle.lr_copy.specs.Fits.{ArePaths}
 
--- the path that a log gets, by the format of its dates, where there is one: that of the first number, or of the clock's stamp with some serial number
+-- the path that a log gets, by the format of its dates, where there is one: that of the first number, or of the clock's stamp with
+-- some serial number
 abbrev pub IsNewestBy : Option Format → Naming → Clock → Path → Type 0
 IsNewestBy None n clock x = IsMemberAt n 0 x
 IsNewestBy (Some format) n clock x = (serial : ℕ) × IsDatedAt n (clock_seconds n.dated clock) serial x
@@ -25,7 +26,8 @@ IsNewestBy (Some format) n clock x = (serial : ℕ) × IsDatedAt n (clock_second
 abbrev pub IsNewest : Naming → Clock → Path → Type 0
 IsNewest n clock x = IsNewestBy n.dated n clock x
 
--- One of the rules gives the log, and has `copytruncate`; of the names that it gives the log the copy gets that of the newest member, by that member's part file.
+-- One of the rules gives the log, and has `copytruncate`; of the names that it gives the log the copy gets that of the newest
+-- member, by that member's part file.
 pub record IsCopyBy (rules : List Rule) (clock : Clock) (job : Job) : Type 0 where
   pub rule : Rule
   pub among : Contains rules rule

@@ -1,4 +1,5 @@
--- What a dry run shows: what was known of the state, what its looks came to, and the plan that follows from them, which isn't carried out.
+-- What a dry run shows: what was known of the state, what its looks came to, and the plan that follows from them, which isn't
+-- carried out.
 use Rattle.std.specs.Prelude.{◌≡◌, ◌<◌, ◌≤◌, ℕ, List, [], ◌∷◌, ◌++◌, length, Option, Some, None, Ok, Err}
 use Rattle.lr_rules.specs.declared.path.Path.{Path}
 use Rattle.lr_rules.specs.declared.clock.Clock.{Clock}
@@ -45,13 +46,18 @@ AreSights ts = Each IsSight ts
 abbrev pub measured_by : Plan → List Row → List Path → Clock → List ℕ
 measured_by plan table kept clock = measured_text (logs_in plan) clock.now.civil (after table [] kept clock.now.civil)
 
--- What follows from these looks, where these logs are kept and the state has this table: the plan, with its own faults; or none, where the text of the state could become too big, and that is the fault.
+-- What follows from these looks, where these logs are kept and the state has this table: the plan, with its own faults; or none,
+-- where the text of the state could become too big, and that is the fault.
 abbrev pub Follows : List Rule → List SetLooks → List Path → List Row → Clock → Asked → Option Plan → List Fault → Type 0
-Follows rules sets kept table clock asked (Some plan) faults = (length (measured_by plan table kept clock) ≤ 67_108_864) × (plan ≡ plan_of rules sets table clock asked) × (faults ≡ plan.faults)
-Follows rules sets kept table clock asked None faults = (67_108_864 < length (measured_by (plan_of rules sets table clock asked) table kept clock)) × (faults ≡ fault.State 0 kind.TooBig ∷ [])
+Follows rules sets kept table clock asked (Some plan) faults = (length (measured_by plan table kept clock) ≤ 67_108_864)
+    × (plan ≡ plan_of rules sets table clock asked) × (faults ≡ plan.faults)
+Follows rules sets kept table clock asked None faults = (67_108_864 < length
+    (measured_by (plan_of rules sets table clock asked) table kept clock)) × (faults ≡ fault.State 0 kind.TooBig ∷ [])
 
--- The logs were looked at, and what follows from that and from this table is planned. The faults are those of the looks and of the plan, in this order.
-pub record Plans (state : Path) (rules : List Rule) (table : List Row) (clock : Clock) (asked : Asked) (plan : Option Plan) (faults : List Fault) (ts : List Entry) : Type 0 where
+-- The logs were looked at, and what follows from that and from this table is planned. The faults are those of the looks and of the
+-- plan, in this order.
+pub record Plans (state : Path) (rules : List Rule) (table : List Row) (clock : Clock) (asked : Asked) (plan : Option Plan)
+    (faults : List Fault) (ts : List Entry) : Type 0 where
   pub sets : List SetLooks
   pub of_looks : List Fault
   pub of_plan : List Fault
@@ -61,17 +67,28 @@ pub record Plans (state : Path) (rules : List Rule) (table : List Row) (clock : 
 
 -- ---- the run
 
--- Behind the look at the state's directory: nothing is known of the state, with the one fault of that; or it is planned by the table that was read.
-pub data PlansBy (state : Path) (rules : List Rule) (clock : Clock) (asked : Asked) (plan : Option Plan) (faults : List Fault) (ts : List Entry) : Type 0 where
-  unknown : (sights : StateSights) (f : Fault) → IsKnown state sights (Err f) → plan ≡ None → faults ≡ f ∷ [] → ShowsState state 65_536 sights ts → PlansBy state rules clock asked plan faults ts
-  known : (sights : StateSights) (remembered : Remembered) → IsKnown state sights (Ok remembered) → Then (ShowsState state 65_536 sights) (Plans state rules remembered.table clock asked plan faults) ts → PlansBy state rules clock asked plan faults ts
+-- Behind the look at the state's directory: nothing is known of the state, with the one fault of that; or it is planned by the
+-- table that was read.
+pub data PlansBy (state : Path) (rules : List Rule) (clock : Clock) (asked : Asked) (plan : Option Plan) (faults : List Fault)
+    (ts : List Entry) : Type 0 where
+  unknown : (sights : StateSights) (f : Fault) → IsKnown state sights (Err f) → plan ≡ None → faults ≡ f ∷ []
+      → ShowsState state 65_536 sights ts → PlansBy state rules clock asked plan faults ts
+  known : (sights : StateSights) (remembered : Remembered) → IsKnown state sights (Ok remembered)
+      → Then (ShowsState state 65_536 sights) (Plans state rules remembered.table clock asked plan faults) ts
+      → PlansBy state rules clock asked plan faults ts
 
--- A dry run with these faults of its own, that came to this plan: the look at the state's directory failed, or saw another kind of thing; or it saw nothing, so the table is empty; or it saw the directory.
-pub data Tries (state : Path) (rules : List Rule) (clock : Clock) (asked : Asked) (plan : Option Plan) (faults : List Fault) (ts : List Entry) : Type 0 where
-  unseen : plan ≡ None → faults ≡ fault.Call call.Look (parent_of state) ∷ [] → ts ≡ [] → Tries state rules clock asked plan faults ts
-  not_directory : plan ≡ None → faults ≡ fault.NoDir (parent_of state) ∷ [] → Sees (parent_of state) IsNoDir ts → Tries state rules clock asked plan faults ts
-  by_none : Then (Sees (parent_of state) IsNothing) (Plans state rules [] clock asked plan faults) ts → Tries state rules clock asked plan faults ts
-  by_state : Then (Sees (parent_of state) IsDir) (PlansBy state rules clock asked plan faults) ts → Tries state rules clock asked plan faults ts
+-- A dry run with these faults of its own, that came to this plan: the look at the state's directory failed, or saw another kind of
+-- thing; or it saw nothing, so the table is empty; or it saw the directory.
+pub data Tries (state : Path) (rules : List Rule) (clock : Clock) (asked : Asked) (plan : Option Plan) (faults : List Fault)
+    (ts : List Entry) : Type 0 where
+  unseen : plan ≡ None → faults ≡ fault.Call call.Look (parent_of state) ∷ [] → ts ≡ []
+      → Tries state rules clock asked plan faults ts
+  not_directory : plan ≡ None → faults ≡ fault.NoDir (parent_of state) ∷ [] → Sees (parent_of state) IsNoDir ts
+      → Tries state rules clock asked plan faults ts
+  by_none : Then (Sees (parent_of state) IsNothing) (Plans state rules [] clock asked plan faults) ts
+      → Tries state rules clock asked plan faults ts
+  by_state : Then (Sees (parent_of state) IsDir) (PlansBy state rules clock asked plan faults) ts
+      → Tries state rules clock asked plan faults ts
 
 -- There was no memory: before the first call, or behind a first part of what is seen.
 pub data LacksTry (state : Path) (rules : List Rule) (ts : List Entry) : Type 0 where

@@ -46,7 +46,8 @@ pub record LacksState (state : Path) (f : Fault) (ts : List Entry) : Type 0 wher
   pub shown : ShowsState state 65_536 sights ts
 
 -- This was seen, and the text of the state could become too big by the plan that follows.
-pub record Outgrows (debug : Bool) (state : Path) (rules : Rules) (clock : Clock) (asked : Asked) (saw : Saw) (ts : List Entry) : Type 0 where
+pub record Outgrows (debug : Bool) (state : Path) (rules : Rules) (clock : Clock) (asked : Asked) (saw : Saw)
+    (ts : List Entry) : Type 0 where
   pub dir : List Entry
   pub reads : List Entry
   pub looks : List Entry
@@ -54,14 +55,23 @@ pub record Outgrows (debug : Bool) (state : Path) (rules : Rules) (clock : Clock
   pub seen : ShowsSaw debug state rules.sets saw dir reads looks
   pub big : 67_108_864 < length (measured_by saw (plan_by rules.sets saw clock asked) clock)
 
--- A run ended so before its plan: the look at the state's directory failed, or saw none; another held the lock; the begin failed, with its entry or without; nothing is known of the state; its text could become too big; or there was no memory, before the first call, or behind a first part of what is seen.
-pub data Halts (debug : Bool) (state : Path) (rules : Rules) (clock : Clock) (asked : Asked) (halt : Halt) (ts : List Entry) : Type 0 where
+-- A run ended so before its plan: the look at the state's directory failed, or saw none; another held the lock; the begin failed,
+-- with its entry or without; nothing is known of the state; its text could become too big; or there was no memory, before the first
+-- call, or behind a first part of what is seen.
+pub data Halts (debug : Bool) (state : Path) (rules : Rules) (clock : Clock) (asked : Asked) (halt : Halt)
+    (ts : List Entry) : Type 0 where
   not_seen : halt ≡ OfFaults (fault.Call call.Look (parent_of state) ∷ []) → ts ≡ [] → Halts debug state rules clock asked halt ts
-  no_directory : halt ≡ OfFaults (fault.NoDir (parent_of state) ∷ []) → Sees (parent_of state) (Bars debug) ts → Halts debug state rules clock asked halt ts
+  no_directory : halt ≡ OfFaults (fault.NoDir (parent_of state) ∷ []) → Sees (parent_of state) (Bars debug) ts
+      → Halts debug state rules clock asked halt ts
   held : debug ≡ false → halt ≡ OfLock → Sees (parent_of state) IsDir ts → Halts debug state rules clock asked halt ts
-  not_begun : debug ≡ false → halt ≡ OfFaults (fault.Call call.Begin state ∷ []) → Then (Sees (parent_of state) IsDir) (Maybe (Starts state clock.now rules)) ts → Halts debug state rules clock asked halt ts
-  unknown : (f : Fault) → halt ≡ OfFaults (f ∷ []) → Within debug state clock rules (LacksState state f) ts → Halts debug state rules clock asked halt ts
-  too_big : (saw : Saw) → halt ≡ OfFaults (saw.faults ++ fault.State 0 kind.TooBig ∷ []) → Outgrows debug state rules clock asked saw ts → Halts debug state rules clock asked halt ts
+  not_begun : debug ≡ false → halt ≡ OfFaults (fault.Call call.Begin state ∷ [])
+      → Then (Sees (parent_of state) IsDir) (Maybe (Starts state clock.now rules)) ts → Halts debug state rules clock asked halt ts
+  unknown : (f : Fault) → halt ≡ OfFaults (f ∷ []) → Within debug state clock rules (LacksState state f) ts
+      → Halts debug state rules clock asked halt ts
+  too_big : (saw : Saw) → halt ≡ OfFaults (saw.faults ++ fault.State 0 kind.TooBig ∷ [])
+      → Outgrows debug state rules clock asked saw ts → Halts debug state rules clock asked halt ts
   no_memory : halt ≡ OfMemory → ts ≡ [] → Halts debug state rules clock asked halt ts
-  short : halt ≡ OfMemory → Within debug state clock rules (SomeSeen state rules.sets) ts → Halts debug state rules clock asked halt ts
-  short_anew : debug ≡ true → halt ≡ OfMemory → Then (Sees (parent_of state) IsNothing) (ShowsSomeLooks (reserved_by state) rules.sets) ts → Halts debug state rules clock asked halt ts
+  short : halt ≡ OfMemory → Within debug state clock rules (SomeSeen state rules.sets) ts
+      → Halts debug state rules clock asked halt ts
+  short_anew : debug ≡ true → halt ≡ OfMemory → Then (Sees (parent_of state) IsNothing)
+      (ShowsSomeLooks (reserved_by state) rules.sets) ts → Halts debug state rules clock asked halt ts

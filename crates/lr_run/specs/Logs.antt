@@ -9,7 +9,8 @@ use Rattle.lr_plan.specs.declared.plan.Plan.{Plan}
 use Rattle.lr_laws_targets.specs.Target.{Target}
 use Rattle.lr_seen.specs.Planned.{targets_in}
 
--- A word of one of the rules gives the log, with this naming, count and age; it is copied where the rule's way is another than the rename.
+-- A word of one of the rules gives the log, with this naming, count and age; it is copied where the rule's way is another than the
+-- rename.
 pub record IsGivenBy (rules : List Rule) (t : Target) : Type 0 where
   pub rule : Rule
   pub word : List ℕ

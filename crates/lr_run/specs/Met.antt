@@ -11,7 +11,9 @@ use Rattle.lr_run.specs.Copied.{NoneOfCopy}
 abbrev pub IsNoOther : List Path → List Fault → Type 0
 IsNoOther dirs faults = (dir : Path) → IsIn dir dirs → IsIn (fault.NotFile dir) faults → ⊥
 
--- By these faults of its own, a run whose plan makes these directories met nothing that stopped its acts: none tells of a call that failed, of a program that ended badly, of a copy that broke off, or that a directory couldn't be made since something else had its path.
+-- By these faults of its own, a run whose plan makes these directories met nothing that stopped its acts: none tells of a call that
+-- failed, of a program that ended badly, of a copy that broke off, or that a directory couldn't be made since something else had
+-- its path.
 pub record MetNothing (dirs : List Path) (faults : List Fault) : Type 0 where
   pub no_call : calls_in faults ≡ 0
   pub no_end : scripts_in faults ≡ 0

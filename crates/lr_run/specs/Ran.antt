@@ -50,21 +50,29 @@ AnswersWork debug state clock earlier w _ = ⊥
 -- ---- all of it
 
 -- The run halted before its plan; or it came to it, and this is what it came to.
-pub data RunEnds (debug : Bool) (state : Path) (rules : Rules) (clock : Clock) (asked : Asked) (earlier : List Fault) (result : Result Ran RunStop) (work : Option Work) (ts : List Entry) : Type 0 where
-  halted : (halt : Halt) → work ≡ None → Halts debug state rules clock asked halt ts → AnswersHalt earlier halt result → RunEnds debug state rules clock asked earlier result work ts
-  came : (w : Work) → work ≡ Some w → ShowsWork debug state rules.sets clock asked w → AnswersWork debug state clock earlier w result → ts ≡ run_entries debug state clock rules w → RunEnds debug state rules clock asked earlier result work ts
+pub data RunEnds (debug : Bool) (state : Path) (rules : Rules) (clock : Clock) (asked : Asked) (earlier : List Fault)
+    (result : Result Ran RunStop) (work : Option Work) (ts : List Entry) : Type 0 where
+  halted : (halt : Halt) → work ≡ None → Halts debug state rules clock asked halt ts → AnswersHalt earlier halt result
+      → RunEnds debug state rules clock asked earlier result work ts
+  came : (w : Work) → work ≡ Some w → ShowsWork debug state rules.sets clock asked w
+      → AnswersWork debug state clock earlier w result → ts ≡ run_entries debug state clock rules w
+      → RunEnds debug state rules clock asked earlier result work ts
 
--- What the entries don't tell of acts with these marks, steps and faults, as a make that finds its path named leaves none: a log that a step made anew is named at the end; and so was a path that is told as taken, from a moment on, where no step behind the one that needs it unlinks it.
+-- What the entries don't tell of acts with these marks, steps and faults, as a make that finds its path named leaves none: a log
+-- that a step made anew is named at the end; and so was a path that is told as taken, from a moment on, where no step behind the
+-- one that needs it unlinks it.
 pub record TellsNames (marks : List Mark) (steps : List Step) (faults : List Fault) (told later : Option Journal) : Type 0 where
   pub named : (x : Path) → IsIn (mark.Created x) marks → IsNamed x later
   pub taken : (x : Path) → LastTaken x steps → IsIn (fault.Taken x) faults → WasTaken x told later
 
 -- of what a run came to
 abbrev pub TellsNamesOf : Path → Clock → Work → Option Journal → Option Journal → Type 0
-TellsNamesOf state clock w told later = TellsNames w.acts.marks (steps_in state clock w) (w.plan.faults ++ act_faults w.acts) told later
+TellsNamesOf state clock w told later = TellsNames w.acts.marks (steps_in state clock w) (w.plan.faults ++ act_faults w.acts) told
+    later
 
 -- What a run left and answered, by what it came to, if it came to a plan.
-pub record RanSo (debug : Bool) (state : Path) (rules : Rules) (clock : Clock) (asked : Asked) (earlier : List Fault) (result : Result Ran RunStop) (told later : Option Journal) : Type 0 where
+pub record RanSo (debug : Bool) (state : Path) (rules : Rules) (clock : Clock) (asked : Asked) (earlier : List Fault)
+    (result : Result Ran RunStop) (told later : Option Journal) : Type 0 where
   pub work : Option Work
   pub shows : Left (RunEnds debug state rules clock asked earlier result work) told later
   pub names : (w : Work) (ran : Ran) → work ≡ Some w → result ≡ Ok ran → debug ≡ false → TellsNamesOf state clock w told later

@@ -29,10 +29,14 @@ rotated_logs rules table clock asked sets = all_targets clock (decision table cl
 abbrev pub rotated_in : (state : Path) (rules : List Rule) (ts : List Entry) → Looked state rules ts → Clock → Asked → List Target
 rotated_in state rules ts l clock asked = rotated_logs rules l.remembered.table clock asked l.sets
 
--- Between the two pasts the log was rotated whole, by its rename or by a copy, where no writer was attached to a member, nor to anything at the part file's path: the members that were seen are those that stood, and each file is where the rotation of its plan takes it, by identity and with its bytes, while the tool's other changes were on the paths of the other logs and of the state, and made the log's own directory, where that was missing.
+-- Between the two pasts the log was rotated whole, by its rename or by a copy, where no writer was attached to a member, nor to
+-- anything at the part file's path: the members that were seen are those that stood, and each file is where the rotation of its
+-- plan takes it, by identity and with its bytes, while the tool's other changes were on the paths of the other logs and of the
+-- state, and made the log's own directory, where that was missing.
 abbrev pub IsTurnedAmong : Path → List Target → Past → Past → Target → Type 0
 IsTurnedAmong state targets before after t =
-    NoneAttached t.naming (rotation_by t) before after → AreThere t.naming (names (world before)) t.stand.members × IsTurned (paths_beside state t targets) t.naming (rotation_by t) before after
+    NoneAttached t.naming (rotation_by t) before after → AreThere t.naming (names (world before)) t.stand.members
+    × IsTurned (paths_beside state t targets) t.naming (rotation_by t) before after
 
 -- So was each log of this plan.
 abbrev pub TurnLogs : Path → Plan → Past → Past → Type 0

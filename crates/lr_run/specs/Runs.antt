@@ -1,4 +1,5 @@
--- What a run shows: how it began, what was known of its state, what its looks came to, and the acts of the plan that follows from them.
+-- What a run shows: how it began, what was known of its state, what its looks came to, and the acts of the plan that follows from
+-- them.
 use Rattle.std.specs.Prelude.{◌≡◌, ◌<◌, ◌≤◌, ℕ, List, [], ◌∷◌, ◌++◌, length, map, Option, Some, None, Ok, Err}
 use Rattle.std.specs.List.{flat_map}
 use Rattle.lr_rules.specs.declared.path.Path.{Path}
@@ -79,7 +80,8 @@ kept_in state rules ts l = paths_of l.shown.kept
 
 -- the text of the state that is measured before the first act
 abbrev pub measured_in : (state : Path) (rules : List Rule) (ts : List Entry) → Looked state rules ts → Clock → Asked → List ℕ
-measured_in state rules ts l clock asked = measured_text (logs_in (plan_in state rules ts l clock asked)) clock.now.civil (after l.remembered.table [] (kept_in state rules ts l) clock.now.civil)
+measured_in state rules ts l clock asked = measured_text (logs_in (plan_in state rules ts l clock asked)) clock.now.civil
+    (after l.remembered.table [] (kept_in state rules ts l) clock.now.civil)
 
 -- the text that is written, by the logs that were rotated
 abbrev pub state_text : (state : Path) (rules : List Rule) (ts : List Entry) → Looked state rules ts → Clock → List Path → List ℕ
@@ -87,32 +89,48 @@ state_text state rules ts l clock rotated = text_of (after l.remembered.table ro
 
 -- ---- what was done
 
--- The acts of the plan, and then the writing of the state. Before the rename that gives the state its new text, the directories are synced in which the plan changes names, without those that were to be made and weren't. The faults are those of the looks, of the plan and of the acts, in this order.
-pub record Acted (state : Path) (rules : List Rule) (clock : Clock) (asked : Asked) (ts : List Entry) (l : Looked state rules ts) (faults : List Fault) : Type 0 where
+-- The acts of the plan, and then the writing of the state. Before the rename that gives the state its new text, the directories are
+-- synced in which the plan changes names, without those that were to be made and weren't. The faults are those of the looks, of the
+-- plan and of the acts, in this order.
+pub record Acted (state : Path) (rules : List Rule) (clock : Clock) (asked : Asked) (ts : List Entry) (l : Looked state rules ts)
+    (faults : List Fault) : Type 0 where
   pub small : length (measured_in state rules ts l clock asked) ≤ 67_108_864
   pub dirs : List Path
   pub marks : List Mark
   pub dirs_are : AreSynced (plan_in state rules ts l clock asked).sets marks dirs
   pub of_acts : List Fault
   pub faults_are : faults ≡ l.of_looks ++ ((plan_in state rules ts l clock asked).faults ++ of_acts)
-  pub entries : ActsDone (plan_in state rules ts l clock asked) state l.remembered.stale (λ made. dirs) (state_text state rules ts l clock) marks of_acts l.acts
+  pub entries : ActsDone (plan_in state rules ts l clock asked) state l.remembered.stale (λ made. dirs)
+      (state_text state rules ts l clock) marks of_acts l.acts
 
 -- The run came to its plan, and carried it out.
-pub record Worked (state : Path) (rules : List Rule) (clock : Clock) (asked : Asked) (faults : List Fault) (ts : List Entry) : Type 0 where
+pub record Worked (state : Path) (rules : List Rule) (clock : Clock) (asked : Asked) (faults : List Fault)
+    (ts : List Entry) : Type 0 where
   pub looked : Looked state rules ts
   pub acted : Acted state rules clock asked ts looked faults
 
--- Between its begin and its end a run has these faults, and comes to this plan: nothing is known of the state, with the one fault of that, and there is no plan; or its text could become too big, and then nothing is done behind the looks, and there is none; or it worked, and the plan is the one that follows from what it saw.
-pub data Works (state : Path) (rules : List Rule) (clock : Clock) (asked : Asked) (plan : Option Plan) (faults : List Fault) (ts : List Entry) : Type 0 where
-  not_known : (sights : StateSights) (f : Fault) → IsKnown state sights (Err f) → plan ≡ None → faults ≡ f ∷ [] → ShowsState state 65_536 sights ts → Works state rules clock asked plan faults ts
-  too_big : (l : Looked state rules ts) → 67_108_864 < length (measured_in state rules ts l clock asked) → plan ≡ None → faults ≡ l.of_looks ++ fault.State 0 kind.TooBig ∷ [] → l.acts ≡ [] → Works state rules clock asked plan faults ts
-  worked : (w : Worked state rules clock asked faults ts) → plan ≡ Some (plan_in state rules ts w.looked clock asked) → Works state rules clock asked plan faults ts
+-- Between its begin and its end a run has these faults, and comes to this plan: nothing is known of the state, with the one fault
+-- of that, and there is no plan; or its text could become too big, and then nothing is done behind the looks, and there is none; or
+-- it worked, and the plan is the one that follows from what it saw.
+pub data Works (state : Path) (rules : List Rule) (clock : Clock) (asked : Asked) (plan : Option Plan) (faults : List Fault)
+    (ts : List Entry) : Type 0 where
+  not_known : (sights : StateSights) (f : Fault) → IsKnown state sights (Err f) → plan ≡ None → faults ≡ f ∷ []
+      → ShowsState state 65_536 sights ts → Works state rules clock asked plan faults ts
+  too_big : (l : Looked state rules ts) → 67_108_864 < length (measured_in state rules ts l clock asked) → plan ≡ None
+      → faults ≡ l.of_looks ++ fault.State 0 kind.TooBig ∷ [] → l.acts ≡ [] → Works state rules clock asked plan faults ts
+  worked : (w : Worked state rules clock asked faults ts) → plan ≡ Some (plan_in state rules ts w.looked clock asked)
+      → Works state rules clock asked plan faults ts
 
--- A run with these faults of its own, that came to this plan: the state's directory isn't there, or the look at it failed; the begin failed, with its entry or without; or it began, and ended.
-pub data Runs (state : Path) (asked : Asked) (clock : Clock) (rules : Rules) (plan : Option Plan) (faults : List Fault) (ts : List Entry) : Type 0 where
-  no_directory : plan ≡ None → faults ≡ fault.NoDir (parent_of state) ∷ [] → Sees (parent_of state) IsNotDir ts → Runs state asked clock rules plan faults ts
-  not_seen : plan ≡ None → faults ≡ fault.Call call.Look (parent_of state) ∷ [] → ts ≡ [] → Runs state asked clock rules plan faults ts
-  not_begun : plan ≡ None → faults ≡ fault.Call call.Begin state ∷ [] → Then (Sees (parent_of state) IsDir) (Maybe (Starts state clock.now rules)) ts → Runs state asked clock rules plan faults ts
+-- A run with these faults of its own, that came to this plan: the state's directory isn't there, or the look at it failed; the
+-- begin failed, with its entry or without; or it began, and ended.
+pub data Runs (state : Path) (asked : Asked) (clock : Clock) (rules : Rules) (plan : Option Plan) (faults : List Fault)
+    (ts : List Entry) : Type 0 where
+  no_directory : plan ≡ None → faults ≡ fault.NoDir (parent_of state) ∷ [] → Sees (parent_of state) IsNotDir ts
+      → Runs state asked clock rules plan faults ts
+  not_seen : plan ≡ None → faults ≡ fault.Call call.Look (parent_of state) ∷ [] → ts ≡ []
+      → Runs state asked clock rules plan faults ts
+  not_begun : plan ≡ None → faults ≡ fault.Call call.Begin state ∷ []
+      → Then (Sees (parent_of state) IsDir) (Maybe (Starts state clock.now rules)) ts → Runs state asked clock rules plan faults ts
   began : Inside state clock rules (Works state rules.sets clock asked plan faults) ts → Runs state asked clock rules plan faults ts
 
 -- ---- without memory
@@ -120,9 +138,11 @@ pub data Runs (state : Path) (asked : Asked) (clock : Clock) (rules : Rules) (pl
 -- A first part of what is read of the state, or all of it and a first part of the looks.
 pub data SomeSeen (state : Path) (rules : List Rule) (ts : List Entry) : Type 0 where
   of_state : (sights : StateSights) → ShowsState state 65_536 sights ts → SomeSeen state rules ts
-  of_looks : (sights : StateSights) (remembered : Remembered) → IsKnown state sights (Ok remembered) → Then (ShowsState state 65_536 sights) (ShowsSomeLooks (reserved_by state) rules) ts → SomeSeen state rules ts
+  of_looks : (sights : StateSights) (remembered : Remembered) → IsKnown state sights (Ok remembered)
+      → Then (ShowsState state 65_536 sights) (ShowsSomeLooks (reserved_by state) rules) ts → SomeSeen state rules ts
 
--- The state was read and the logs were looked at, and of the acts of the plan, among which there is a program, a first part was done, up to a step that would run one. For that there was no memory, and the state was not written.
+-- The state was read and the logs were looked at, and of the acts of the plan, among which there is a program, a first part was
+-- done, up to a step that would run one. For that there was no memory, and the state was not written.
 pub record BrokeOff (state : Path) (rules : List Rule) (clock : Clock) (asked : Asked) (ts : List Entry) : Type 0 where
   pub looked : Looked state rules ts
   pub small : length (measured_in state rules ts looked clock asked) ≤ 67_108_864
@@ -131,7 +151,8 @@ pub record BrokeOff (state : Path) (rules : List Rule) (clock : Clock) (asked : 
   pub of_acts : List Fault
   pub part : SetsCut (steps_of_plan (plan_in state rules ts looked clock asked)) marks of_acts looked.acts
 
--- There was no memory: before the first call; behind a first part of what is seen, where the run ended with no change; or for a program, amid the acts.
+-- There was no memory: before the first call; behind a first part of what is seen, where the run ended with no change; or for a
+-- program, amid the acts.
 pub data LacksMemory (state : Path) (asked : Asked) (clock : Clock) (rules : Rules) (ts : List Entry) : Type 0 where
   at_first : ts ≡ [] → LacksMemory state asked clock rules ts
   in_looks : Inside state clock rules (SomeSeen state rules.sets) ts → LacksMemory state asked clock rules ts

@@ -25,7 +25,9 @@ use Rattle.lr_run.specs.Runs.{logs_in}
 
 -- ---- the value
 
--- What a run saw: the text of its state, the table that this says, and whether an old part file stood; what each word of the rules came to; the logs that are kept, and, definition by definition, those of them that were looked at whole; and the faults of its looks.
+-- What a run saw: the text of its state, the table that this says, and whether an old part file stood; what each word of the rules
+-- came to; the logs that are kept, and, definition by definition, those of them that were looked at whole; and the faults of its
+-- looks.
 pub record Saw : Type 0 where
   pub text : List ℕ
   pub table : List Row
@@ -49,7 +51,8 @@ measured_by saw plan clock = measured_text (logs_in plan) clock.now.civil (after
 
 -- ---- how entries show it
 
--- The state's file was read whole, or nothing stood at its path, and then the text is empty; and at the path of its part file an old one stood, or nothing did.
+-- The state's file was read whole, or nothing stood at its path, and then the text is empty; and at the path of its part file an
+-- old one stood, or nothing did.
 pub record ShowsStateText (state : Path) (text : List ℕ) (stale : Bool) (ts : List Entry) : Type 0 where
   pub sights : StateSights
   pub there : Bool
@@ -58,10 +61,13 @@ pub record ShowsStateText (state : Path) (text : List ℕ) (stale : Bool) (ts : 
   pub read : read_of state there sights.reading ≡ Ok text
   pub shown : ShowsState state 65_536 sights ts
 
--- The state's directory was seen, and then its text; or, of a dry run, nothing stood at the directory's path, and the text is empty.
+-- The state's directory was seen, and then its text; or, of a dry run, nothing stood at the directory's path, and the text is
+-- empty.
 pub data ShowsStateFile (debug : Bool) (state : Path) (text : List ℕ) (stale : Bool) (dir reads : List Entry) : Type 0 where
-  by_dir : Sees (parent_of state) IsDir dir → ShowsStateText state text stale reads → ShowsStateFile debug state text stale dir reads
-  by_none : debug ≡ true → Sees (parent_of state) IsNothing dir → text ≡ [] → reads ≡ [] → ShowsStateFile debug state text stale dir reads
+  by_dir : Sees (parent_of state) IsDir dir → ShowsStateText state text stale reads
+      → ShowsStateFile debug state text stale dir reads
+  by_none : debug ≡ true → Sees (parent_of state) IsNothing dir → text ≡ [] → reads ≡ []
+      → ShowsStateFile debug state text stale dir reads
 
 -- The words, the logs and the faults are those that these looks show.
 pub record ShowsSets (state : Path) (rules : List Rule) (saw : Saw) (ts : List Entry) : Type 0 where
@@ -69,7 +75,8 @@ pub record ShowsSets (state : Path) (rules : List Rule) (saw : Saw) (ts : List E
   pub words_are : saw.words ≡ shown.entries.first.sights
   pub kept_are : saw.kept ≡ shown.kept
 
--- The run saw this: by the look at the state's directory and the reads of its text, which says the table, and nothing else; and by its looks.
+-- The run saw this: by the look at the state's directory and the reads of its text, which says the table, and nothing else; and by
+-- its looks.
 pub record ShowsSaw (debug : Bool) (state : Path) (rules : List Rule) (saw : Saw) (dir reads looks : List Entry) : Type 0 where
   pub file : ShowsStateFile debug state saw.text saw.stale dir reads
   pub says : TextSaysOnly saw.text (Ok saw.table)

@@ -11,7 +11,8 @@ use Rattle.lr_plan.specs.Done.{rotated_logs}
 use Rattle.lr_looks.specs.Inside.{Inside}
 use Rattle.lr_run.specs.Runs.{Worked, state_text}
 
--- The run came to its plan, and this is the text of what it read of the state, brought up to its moment by the logs that its acts rotated.
+-- The run came to its plan, and this is the text of what it read of the state, brought up to its moment by the logs that its acts
+-- rotated.
 pub record Tells (state : Path) (rules : List Rule) (clock : Clock) (asked : Asked) (text : List ℕ) (ts : List Entry) : Type 0 where
   pub own : List Fault
   pub worked : Worked state rules clock asked own ts

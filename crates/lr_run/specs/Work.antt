@@ -22,7 +22,8 @@ use Rattle.lr_run.specs.Saw.{Saw, ShowsSaw, plan_by, text_by, measured_by}
 
 -- ---- the value
 
--- What the acts came to: the marks of the steps that were made, the directories that are synced behind them, the faults of the logs' steps, and those of the state's writing.
+-- What the acts came to: the marks of the steps that were made, the directories that are synced behind them, the faults of the
+-- logs' steps, and those of the state's writing.
 pub record Acts : Type 0 where
   pub marks : List Mark
   pub dirs : List Path
@@ -36,7 +37,8 @@ act_faults acts = acts.of_logs ++ acts.of_state
 abbrev pub no_acts : Acts
 no_acts = record { marks = []; dirs = []; of_logs = []; of_state = [] }
 
--- What a run came to: what it saw, its plan, what the acts came to, and its entries: those of the look at the state's directory, of the reads of the state, of the looks, and of the acts.
+-- What a run came to: what it saw, its plan, what the acts came to, and its entries: those of the look at the state's directory, of
+-- the reads of the state, of the looks, and of the acts.
 pub record Work : Type 0 where
   pub saw : Saw
   pub plan : Plan
@@ -54,7 +56,8 @@ plan_reached (Some w) = Some w.plan
 -- all entries of a run by its parts, in order: a dry run takes no lock, and does nothing
 abbrev pub entries_of : Bool → Path → Clock → Rules → (dir reads looks did : List Entry) → List Entry
 entries_of true state clock rules dir reads looks did = dir ++ (reads ++ looks)
-entries_of false state clock rules dir reads looks did = dir ++ (Starts state clock.now rules ∷ (reads ++ (looks ++ (did ++ Ends ∷ []))))
+entries_of false state clock rules dir reads looks did = dir
+    ++ (Starts state clock.now rules ∷ (reads ++ (looks ++ (did ++ Ends ∷ []))))
 
 abbrev pub run_entries : Bool → Path → Clock → Rules → Work → List Entry
 run_entries debug state clock rules w = entries_of debug state clock rules w.dir w.reads w.looks w.did
@@ -84,12 +87,15 @@ pub record ShowsWork (debug : Bool) (state : Path) (rules : List Rule) (clock : 
   pub seen : ShowsSaw debug state rules w.saw w.dir w.reads w.looks
   pub plan : IsPlanOf rules w.saw clock asked w.plan
 
--- The plan was carried out, whatever failed, and then the state was written. Before the rename that gives the state its new text, the directories are synced in which the plan changes names, without those that were to be made and weren't.
+-- The plan was carried out, whatever failed, and then the state was written. Before the rename that gives the state its new text,
+-- the directories are synced in which the plan changes names, without those that were to be made and weren't.
 pub record CarriesOut (state : Path) (clock : Clock) (w : Work) : Type 0 where
   pub dirs : AreSynced w.plan.sets w.acts.marks w.acts.dirs
-  pub entries : Then (Every SetDone (steps_of_plan w.plan) w.acts.marks w.acts.of_logs) (Course (state_steps_of state clock w) [] w.acts.of_state) w.did
+  pub entries : Then (Every SetDone (steps_of_plan w.plan) w.acts.marks w.acts.of_logs)
+      (Course (state_steps_of state clock w) [] w.acts.of_state) w.did
 
--- Of the acts of the plan, among which there is a program, a first part was done, up to a step that would run one, for which there was no memory. The state was not written.
+-- Of the acts of the plan, among which there is a program, a first part was done, up to a step that would run one, for which there
+-- was no memory. The state was not written.
 pub record BreaksOff (w : Work) : Type 0 where
   pub program : HasProgram (all_of_sets (steps_of_plan w.plan))
   pub part : SetsCut (steps_of_plan w.plan) w.acts.marks w.acts.of_logs w.did

@@ -56,7 +56,9 @@ fn save<H: Host>(
     requires fits { (text : List ℕ) → CanMake (H.told host.old) (state_steps writing.state writing.stale dirs text) }
     requires within { before ≤ vec_len progress.old.marks }
     requires room { vec_len progress.old.faults + 1 ≤ vec_capacity progress.old.faults }
-    ensures told { AddsCourse (state_steps writing.state writing.stale dirs (text_of (map (stamped (rotated_logs (drop before progress.old.marks.items)) now) table))) progress.old.faults.items progress.new.faults.items (H.told host.old) (H.told host.new) (H.counts host.old) (H.counts host.new) }
+    ensures told { AddsCourse (state_steps writing.state writing.stale dirs
+        (text_of (map (stamped (rotated_logs (drop before progress.old.marks.items)) now) table))) progress.old.faults.items
+        progress.new.faults.items (H.told host.old) (H.told host.new) (H.counts host.old) (H.counts host.new) }
     ensures few { vec_len progress.new.faults ≤ vec_len progress.old.faults + 1 }
     ensures room { vec_capacity progress.old.faults ≤ vec_capacity progress.new.faults }
 {
@@ -78,7 +80,8 @@ pub fn carry_out<H: Host>(
     requires fits_state { CanWrite ready (H.told host.old) }
     requires room { HasRoom (length (all_of_sets ready.steps)) progress.old }
     requires two_more { vec_len progress.old.faults + length (all_of_sets ready.steps) + 2 ≤ vec_capacity progress.old.faults }
-    ensures told { OnOk result (ActsAndWrites ready now.now progress.old progress.new (H.told host.old) (H.told host.new) (H.counts host.old) (H.counts host.new)) }
+    ensures told { OnOk result (ActsAndWrites ready now.now progress.old progress.new (H.told host.old) (H.told host.new)
+        (H.counts host.old) (H.counts host.new)) }
     ensures memory { OnErr result (HasProgram (all_of_sets ready.steps)) }
     ensures some { OnErr result (Left (SomeActs ready.steps) (H.told host.old) (H.told host.new)) }
     ensures room { OnOk result (vec_len progress.new.faults + 1 ≤ vec_capacity progress.new.faults) }

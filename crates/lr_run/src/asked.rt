@@ -40,9 +40,11 @@ pub fn run<H: Host>(
 ) -> Result<Ran, RunStop>
     requires disk { WhereTold (H.told host.old) IsJournal }
     ensures safe { KeepsSafeWhere (IsForwardFor clock.entry.now) (H.told host.old) (H.told host.new) }
-    ensures state { KeepsWhole settings.now.state (IsNewText settings.now.state clock.entry.now (asking settings.now.force settings.now.mailer) rules.now) (H.told host.old) (H.told host.new) }
+    ensures state { KeepsWhole settings.now.state (IsNewText settings.now.state clock.entry.now
+        (asking settings.now.force settings.now.mailer) rules.now) (H.told host.old) (H.told host.new) }
     ensures copied { EmptiesWhole (IsCopyBy rules.now.sets clock.entry.now) (H.told host.old) (H.told host.new) }
-    ensures told { RanSo settings.now.debug settings.now.state rules.now clock.entry.now (asking settings.now.force settings.now.mailer) earlier.items result (H.told host.old) (H.told host.new) }
+    ensures told { RanSo settings.now.debug settings.now.state rules.now clock.entry.now
+        (asking settings.now.force settings.now.mailer) earlier.items result (H.told host.old) (H.told host.new) }
     ensures shape { Left (IsWholeRunBy clock.entry.now) (H.told host.old) (H.told host.new) }
     ensures went { WentBy result earlier.items (run_faults result) (H.counts host.old) (H.counts host.new) }
     ensures held { result ≡ Err RunStop.Held → Rose (H.counts host.old).held (H.counts host.new).held }

@@ -1,5 +1,6 @@
 // A dry run: it looks, and plans, and leaves all as it is.
-ghost use Rattle.std.specs.Prelude.{◌≡◌, ◌≢◌, ◌+◌, ◌≤◌, ◌++◌, ◌∷◌, [], List, true, Ok, Err, IfOk, OnOk, OnErr, length, nat_le, vec_len};
+ghost use Rattle.std.specs.Prelude.{◌≡◌, ◌≢◌, ◌+◌, ◌≤◌, ◌++◌, ◌∷◌, [], List, true, Ok, Err, IfOk, OnOk, OnErr, length, nat_le};
+ghost use Rattle.std.specs.Prelude.{vec_len};
 ghost use Rattle.std.specs.Vec.{vec_capacity};
 ghost use Rattle.lr_rules.specs.declared.clock.Clock.{Clock};
 ghost use Rattle.lr_rules.specs.declared.fault.Fault.{Fault};
@@ -49,7 +50,8 @@ fn is_small(
     plan: &Plan,
     now: &Civil,
 ) -> Result<bool, Memory>
-    ensures { (at : Clock) → at.now.civil ≡ now.now → IfOk result (λ b. b ≡ nat_le (length (measured_by plan.now table kept.now at)) 67_108_864) }
+    ensures { (at : Clock) → at.now.civil ≡ now.now → IfOk result
+        (λ b. b ≡ nat_le (length (measured_by plan.now table kept.now at)) 67_108_864) }
 {
     let mut table = table;
     bring_up_to(alloc, &mut table, kept, plan, now)
@@ -96,7 +98,9 @@ fn plan_dry(
     faults: &mut Vec<Fault>,
 ) -> Result<Option<Plan>, Memory>
     requires { CanPlanAll rules.now.sets looks.now.sets }
-    ensures follows { IfOk result (λ plan. (own : List Fault) × (faults.new.items ≡ faults.old.items ++ own) × Follows rules.now.sets looks.now.sets looks.now.kept table clock.entry.now (asking settings.now.force settings.now.mailer) plan own) }
+    ensures follows { IfOk result (λ plan. (own : List Fault) × (faults.new.items ≡ faults.old.items ++ own)
+        × Follows rules.now.sets looks.now.sets looks.now.kept table clock.entry.now (asking settings.now.force settings.now.mailer)
+        plan own) }
     ensures room { OnOk result (vec_len faults.new + 1 ≤ vec_capacity faults.new) }
 {
     let plan = plan(alloc, rules, looks, &table, clock, settings)?;
@@ -115,8 +119,11 @@ fn look_and_plan<H: Host>(
     table: State,
     faults: &mut Vec<Fault>,
 ) -> Result<Option<Plan>, Memory>
-    ensures told { IfOk result (λ plan. Left (PlansOn settings.now.state rules.now.sets table clock.entry.now (asking settings.now.force settings.now.mailer) plan faults.old.items faults.new.items) (H.told host.old) (H.told host.new)) }
-    ensures some { OnErr result (Left (ShowsSomeLooks (reserved_by settings.now.state) rules.now.sets) (H.told host.old) (H.told host.new)) }
+    ensures told { IfOk result (λ plan. Left (PlansOn settings.now.state rules.now.sets table clock.entry.now
+        (asking settings.now.force settings.now.mailer) plan faults.old.items faults.new.items) (H.told host.old)
+        (H.told host.new)) }
+    ensures some { OnErr result (Left (ShowsSomeLooks (reserved_by settings.now.state) rules.now.sets) (H.told host.old)
+        (H.told host.new)) }
     ensures room { OnOk result (vec_len faults.new + 1 ≤ vec_capacity faults.new) }
     ensures went { WentBy result faults.old.items faults.new.items (H.counts host.old) (H.counts host.new) }
 {
@@ -134,7 +141,9 @@ fn read_and_plan<H: Host>(
     faults: &mut Vec<Fault>,
 ) -> Result<Option<Plan>, Memory>
     requires room { vec_len faults.old + 2 ≤ vec_capacity faults.old }
-    ensures told { IfOk result (λ plan. Left (PlansByOn settings.now.state rules.now.sets clock.entry.now (asking settings.now.force settings.now.mailer) plan faults.old.items faults.new.items) (H.told host.old) (H.told host.new)) }
+    ensures told { IfOk result (λ plan. Left (PlansByOn settings.now.state rules.now.sets clock.entry.now
+        (asking settings.now.force settings.now.mailer) plan faults.old.items faults.new.items) (H.told host.old)
+        (H.told host.new)) }
     ensures some { OnErr result (Left (SomeSeen settings.now.state rules.now.sets) (H.told host.old) (H.told host.new)) }
     ensures room { OnOk result (vec_len faults.new + 1 ≤ vec_capacity faults.new) }
     ensures went { WentBy result faults.old.items faults.new.items (H.counts host.old) (H.counts host.new) }
@@ -171,8 +180,11 @@ fn try_run<H: Host>(
 ) -> Result<Option<Plan>, Memory>
     requires dir { dir ≡ parent_of settings.now.state }
     requires room { vec_len faults.old + 2 ≤ vec_capacity faults.old }
-    ensures told { IfOk result (λ plan. Left (TriesOn settings.now.state rules.now clock.entry.now (asking settings.now.force settings.now.mailer) faults.old.items (Ok (record { plan = plan; faults = faults.new }))) (H.told host.old) (H.told host.new)) }
-    ensures some { OnErr result (Left (Halts true settings.now.state rules.now clock.entry.now (asking settings.now.force settings.now.mailer) OfMemory) (H.told host.old) (H.told host.new)) }
+    ensures told { IfOk result (λ plan. Left (TriesOn settings.now.state rules.now clock.entry.now
+        (asking settings.now.force settings.now.mailer) faults.old.items (Ok (record { plan = plan; faults = faults.new })))
+        (H.told host.old) (H.told host.new)) }
+    ensures some { OnErr result (Left (Halts true settings.now.state rules.now clock.entry.now
+        (asking settings.now.force settings.now.mailer) OfMemory) (H.told host.old) (H.told host.new)) }
     ensures room { OnOk result (vec_len faults.new + 1 ≤ vec_capacity faults.new) }
     ensures went { WentBy result faults.old.items faults.new.items (H.counts host.old) (H.counts host.new) }
 {
@@ -198,7 +210,8 @@ pub fn dry_run<H: Host>(
     earlier: Vec<Fault>,
     host: &mut H,
 ) -> Result<Ran, RunStop>
-    ensures told { RanSo true settings.now.state rules.now clock.entry.now (asking settings.now.force settings.now.mailer) earlier.items result (H.told host.old) (H.told host.new) }
+    ensures told { RanSo true settings.now.state rules.now clock.entry.now (asking settings.now.force settings.now.mailer)
+        earlier.items result (H.told host.old) (H.told host.new) }
     ensures went { WentBy result earlier.items (run_faults result) (H.counts host.old) (H.counts host.new) }
     ensures held { result ≢ Err RunStop.Held }
     ensures room { IfOk result (λ ran. vec_len ran.faults + 1 ≤ vec_capacity ran.faults) }

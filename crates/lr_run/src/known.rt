@@ -23,7 +23,8 @@ pub fn known_state<H: Host>(
 ) -> Result<Result<Remembered, Fault>, Memory>
     requires { part.now ≡ state_part state.now }
     ensures told { Left (ReadsState state.now 65_536 result) (H.told host.old) (H.told host.new) }
-    ensures counted { (kind : CallKind) (path : Path) → result ≡ Ok (Err (fault.Call kind path)) → Rose (H.counts host.old).faults (H.counts host.new).faults }
+    ensures counted { (kind : CallKind) (path : Path) → result ≡ Ok (Err (fault.Call kind path))
+        → Rose (H.counts host.old).faults (H.counts host.new).faults }
     ensures only { (f : Fault) → result ≡ Ok (Err f) → IsStateFault state.now f }
     ensures counts { Onward (H.counts host.old) (H.counts host.new) }
 {

@@ -35,10 +35,14 @@ fn work_to_end<H: Host>(
     requires dir { Can (H.told host.old) (entry.List (parent_of settings.now.state) []) }
     requires room { vec_len progress.old.faults + 2 ≤ vec_capacity progress.old.faults }
     requires on { WhereTold (H.told host.old) (λ p. (world p).running ≡ true) }
-    ensures told { OnOk result (CameTo (EndsWork settings.now.state rules.now.sets clock.entry.now (asking settings.now.force settings.now.mailer) reached.new progress.old.faults.items progress.new.faults.items) settings.now.state clock.entry.now (H.told host.old) (H.told host.new)) }
-    ensures some { OnErr result (Left (Then (SomeWork settings.now.state rules.now.sets clock.entry.now (asking settings.now.force settings.now.mailer)) (Are (entry.Ends ∷ []))) (H.told host.old) (H.told host.new)) }
+    ensures told { OnOk result (CameTo (EndsWork settings.now.state rules.now.sets clock.entry.now
+        (asking settings.now.force settings.now.mailer) reached.new progress.old.faults.items progress.new.faults.items)
+        settings.now.state clock.entry.now (H.told host.old) (H.told host.new)) }
+    ensures some { OnErr result (Left (Then (SomeWork settings.now.state rules.now.sets clock.entry.now
+        (asking settings.now.force settings.now.mailer)) (Are (entry.Ends ∷ []))) (H.told host.old) (H.told host.new)) }
     ensures room { OnOk result (vec_len progress.new.faults + 1 ≤ vec_capacity progress.new.faults) }
-    ensures counted { OnOk result (AddsFaults progress.old.faults.items progress.new.faults.items (H.counts host.old) (H.counts host.new)) }
+    ensures counted { OnOk result (AddsFaults progress.old.faults.items progress.new.faults.items (H.counts host.old)
+        (H.counts host.new)) }
     ensures lock { (H.counts host.new).locked ≡ false }
     ensures counts { NoneFell (H.counts host.old) (H.counts host.new) }
 {
@@ -72,8 +76,11 @@ pub fn begin_to_end<H: Host>(
     requires there { Can (H.told host.old) (entry.Starts settings.now.state clock.now.now rules.now) }
     requires name { name ≡ settings.now.state }
     requires room { vec_len progress.old.faults + 2 ≤ vec_capacity progress.old.faults }
-    ensures told { OnOk result (CameTo (Goes settings.now.state (asking settings.now.force settings.now.mailer) clock.entry.now rules.now reached.new progress.old.faults.items progress.new.faults.items) settings.now.state clock.entry.now (H.told host.old) (H.told host.new)) }
-    ensures stopped { IfErr result (λ why. Left (Stopped settings.now.state (asking settings.now.force settings.now.mailer) clock.entry.now rules.now why) (H.told host.old) (H.told host.new)) }
+    ensures told { OnOk result (CameTo (Goes settings.now.state (asking settings.now.force settings.now.mailer) clock.entry.now
+        rules.now reached.new progress.old.faults.items progress.new.faults.items) settings.now.state clock.entry.now
+        (H.told host.old) (H.told host.new)) }
+    ensures stopped { IfErr result (λ why. Left (Stopped settings.now.state (asking settings.now.force settings.now.mailer)
+        clock.entry.now rules.now why) (H.told host.old) (H.told host.new)) }
     ensures held { result ≡ Err RunStop.Held → Rose (H.counts host.old).held (H.counts host.new).held }
     ensures room { OnOk result (vec_len progress.new.faults + 1 ≤ vec_capacity progress.new.faults) }
     ensures went { WentBy result progress.old.faults.items progress.new.faults.items (H.counts host.old) (H.counts host.new) }

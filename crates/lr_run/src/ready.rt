@@ -41,7 +41,8 @@ pub fn bring_up_to(
     now: &Civil,
 ) -> Result<bool, Memory>
     ensures table { OnOk result (table.new ≡ after table.old [] kept.now now.now) }
-    ensures small { IfOk result (λ b. b ≡ nat_le (length (measured_text (logs_in plan.now) now.now (after table.old [] kept.now now.now))) 67_108_864) }
+    ensures small { IfOk result (λ b. b ≡ nat_le (length (measured_text (logs_in plan.now) now.now
+        (after table.old [] kept.now now.now))) 67_108_864) }
 {
     bring_up(alloc, table, kept, now)?;
     let due = logs_of_plan(alloc, plan.sets.as_slice())?;
@@ -68,7 +69,8 @@ fn steps_ready(
     ensures faults { OnOk result (progress.new.faults.items ≡ progress.old.faults.items ++ plan.now.faults) }
     ensures marks { progress.new.marks.items ≡ progress.old.marks.items }
     ensures room { IfOk result (λ sets. HasRoom (length (all_of_sets sets)) progress.new) }
-    ensures two_more { IfOk result (λ sets. vec_len progress.new.faults + length (all_of_sets sets) + 2 ≤ vec_capacity progress.new.faults) }
+    ensures two_more { IfOk result (λ sets. vec_len progress.new.faults + length (all_of_sets sets) + 2 ≤ vec_capacity
+        progress.new.faults) }
 {
     add_all(alloc, &mut progress.faults, plan.faults.as_slice())?;
     let steps = steps_of(alloc, plan.sets.as_slice())?;

@@ -68,8 +68,11 @@ fn make_run<H: Host>(
     requires dir { names.dir ≡ parent_of settings.now.state }
     requires state { names.state ≡ settings.now.state }
     requires room { vec_len progress.old.faults + 2 ≤ vec_capacity progress.old.faults }
-    ensures told { OnOk result (RanSo false settings.now.state rules.now clock.entry.now (asking settings.now.force settings.now.mailer) progress.old.faults.items (Ok (record { plan = reached.new; faults = progress.new.faults })) (H.told host.old) (H.told host.new)) }
-    ensures stopped { IfErr result (λ why. Left (StopsSo settings.now.state (asking settings.now.force settings.now.mailer) clock.entry.now rules.now why) (H.told host.old) (H.told host.new)) }
+    ensures told { OnOk result (RanSo false settings.now.state rules.now clock.entry.now
+        (asking settings.now.force settings.now.mailer) progress.old.faults.items
+        (Ok (record { plan = reached.new; faults = progress.new.faults })) (H.told host.old) (H.told host.new)) }
+    ensures stopped { IfErr result (λ why. Left (StopsSo settings.now.state (asking settings.now.force settings.now.mailer)
+        clock.entry.now rules.now why) (H.told host.old) (H.told host.new)) }
     ensures held { result ≡ Err RunStop.Held → Rose (H.counts host.old).held (H.counts host.new).held }
     ensures room { OnOk result (vec_len progress.new.faults + 1 ≤ vec_capacity progress.new.faults) }
     ensures went { WentBy result progress.old.faults.items progress.new.faults.items (H.counts host.old) (H.counts host.new) }
@@ -129,9 +132,11 @@ pub fn real_run<H: Host>(
 ) -> Result<Ran, RunStop>
     requires disk { WhereTold (H.told host.old) IsJournal }
     ensures safe { KeepsSafeWhere (IsForwardFor clock.entry.now) (H.told host.old) (H.told host.new) }
-    ensures state { KeepsWhole settings.now.state (IsNewText settings.now.state clock.entry.now (asking settings.now.force settings.now.mailer) rules.now) (H.told host.old) (H.told host.new) }
+    ensures state { KeepsWhole settings.now.state (IsNewText settings.now.state clock.entry.now
+        (asking settings.now.force settings.now.mailer) rules.now) (H.told host.old) (H.told host.new) }
     ensures copied { EmptiesWhole (IsCopyBy rules.now.sets clock.entry.now) (H.told host.old) (H.told host.new) }
-    ensures told { RanSo false settings.now.state rules.now clock.entry.now (asking settings.now.force settings.now.mailer) earlier.items result (H.told host.old) (H.told host.new) }
+    ensures told { RanSo false settings.now.state rules.now clock.entry.now (asking settings.now.force settings.now.mailer)
+        earlier.items result (H.told host.old) (H.told host.new) }
     ensures shape { Left (IsWholeRunBy clock.entry.now) (H.told host.old) (H.told host.new) }
     ensures went { WentBy result earlier.items (run_faults result) (H.counts host.old) (H.counts host.new) }
     ensures held { result ≡ Err RunStop.Held → Rose (H.counts host.old).held (H.counts host.new).held }

@@ -11,7 +11,8 @@ ghost use Rattle.lr_host.specs.Told.{Left, Can, WhereTold};
 ghost use Rattle.lr_host.specs.Counted.{WentBy};
 ghost use Rattle.lr_plan.specs.Asked.{asking};
 ghost use Rattle.lr_plan.specs.Planned.{CanPlanAll};
-ghost use Rattle.lr_run.specs.Internal.{CameTo, Carries, EndsBehindLooks, EndsBehindState, IsBehind, KnownBefore, LooksAndActs, SeenBefore, SomeWork, WorksOn};
+ghost use Rattle.lr_run.specs.Internal.{CameTo, Carries, EndsBehindLooks, EndsBehindState, IsBehind, KnownBefore, LooksAndActs};
+ghost use Rattle.lr_run.specs.Internal.{SeenBefore, SomeWork, WorksOn};
 
 use crate::acting::carry_out;
 use crate::known::known_state;
@@ -63,8 +64,11 @@ fn plan_and_act<H: Host>(
     requires rules { CanPlanAll rules.now.sets looks.now.sets }
     requires part { part ≡ state_part settings.now.state }
     requires seen { SeenBefore settings.now.state rules.now looks.now remembered (H.told host.old) }
-    ensures told { OnOk result (Carries settings.now.state rules.now looks.now remembered clock.entry.now (asking settings.now.force settings.now.mailer) reached.new progress.old.faults.items progress.new.faults.items (H.told host.old) (H.told host.new)) }
-    ensures some { OnErr result (Left (EndsBehindLooks rules.now looks.now settings.now.state remembered clock.entry.now (asking settings.now.force settings.now.mailer)) (H.told host.old) (H.told host.new)) }
+    ensures told { OnOk result (Carries settings.now.state rules.now looks.now remembered clock.entry.now
+        (asking settings.now.force settings.now.mailer) reached.new progress.old.faults.items progress.new.faults.items
+        (H.told host.old) (H.told host.new)) }
+    ensures some { OnErr result (Left (EndsBehindLooks rules.now looks.now settings.now.state remembered clock.entry.now
+        (asking settings.now.force settings.now.mailer)) (H.told host.old) (H.told host.new)) }
     ensures room { OnOk result (vec_len progress.new.faults + 1 ≤ vec_capacity progress.new.faults) }
     ensures went { WentBy result progress.old.faults.items progress.new.faults.items (H.counts host.old) (H.counts host.new) }
 {
@@ -103,8 +107,11 @@ fn look_and_act<H: Host>(
     requires none { reached.old ≡ None }
     requires part { part ≡ state_part settings.now.state }
     requires known { KnownBefore settings.now.state remembered (H.told host.old) }
-    ensures told { OnOk result (CameTo (LooksAndActs (IsBehind remembered) settings.now.state rules.now.sets clock.entry.now (asking settings.now.force settings.now.mailer) reached.new progress.old.faults.items progress.new.faults.items) settings.now.state clock.entry.now (H.told host.old) (H.told host.new)) }
-    ensures some { OnErr result (Left (EndsBehindState settings.now.state rules.now.sets clock.entry.now (asking settings.now.force settings.now.mailer) remembered) (H.told host.old) (H.told host.new)) }
+    ensures told { OnOk result (CameTo (LooksAndActs (IsBehind remembered) settings.now.state rules.now.sets clock.entry.now
+        (asking settings.now.force settings.now.mailer) reached.new progress.old.faults.items progress.new.faults.items)
+        settings.now.state clock.entry.now (H.told host.old) (H.told host.new)) }
+    ensures some { OnErr result (Left (EndsBehindState settings.now.state rules.now.sets clock.entry.now
+        (asking settings.now.force settings.now.mailer) remembered) (H.told host.old) (H.told host.new)) }
     ensures room { OnOk result (vec_len progress.new.faults + 1 ≤ vec_capacity progress.new.faults) }
     ensures went { WentBy result progress.old.faults.items progress.new.faults.items (H.counts host.old) (H.counts host.new) }
 {
@@ -138,8 +145,11 @@ pub fn work<H: Host>(
     requires disk { WhereTold (H.told host.old) IsJournal }
     requires dir { Can (H.told host.old) (entry.List (parent_of settings.now.state) []) }
     requires room { vec_len progress.old.faults + 2 ≤ vec_capacity progress.old.faults }
-    ensures told { OnOk result (CameTo (WorksOn settings.now.state rules.now.sets clock.entry.now (asking settings.now.force settings.now.mailer) reached.new progress.old.faults.items progress.new.faults.items) settings.now.state clock.entry.now (H.told host.old) (H.told host.new)) }
-    ensures some { OnErr result (Left (SomeWork settings.now.state rules.now.sets clock.entry.now (asking settings.now.force settings.now.mailer)) (H.told host.old) (H.told host.new)) }
+    ensures told { OnOk result (CameTo (WorksOn settings.now.state rules.now.sets clock.entry.now
+        (asking settings.now.force settings.now.mailer) reached.new progress.old.faults.items progress.new.faults.items)
+        settings.now.state clock.entry.now (H.told host.old) (H.told host.new)) }
+    ensures some { OnErr result (Left (SomeWork settings.now.state rules.now.sets clock.entry.now
+        (asking settings.now.force settings.now.mailer)) (H.told host.old) (H.told host.new)) }
     ensures room { OnOk result (vec_len progress.new.faults + 1 ≤ vec_capacity progress.new.faults) }
     ensures went { WentBy result progress.old.faults.items progress.new.faults.items (H.counts host.old) (H.counts host.new) }
 {

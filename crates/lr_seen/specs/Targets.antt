@@ -10,7 +10,8 @@ use Rattle.lr_plan.specs.declared.looks.SetLooks.{SetLooks}
 use Rattle.lr_plan.specs.Planned.{standing, stand_for, ready_for, job_by, hindrances, where_due}
 use Rattle.lr_laws_targets.specs.Target.{Target}
 
--- A log with the count and the age of its rule, what stands of its family as its rotation begins (a directory that this makes is there, and empty), its rotation, and its copy where the rule asks for one.
+-- A log with the count and the age of its rule, what stands of its family as its rotation begins (a directory that this makes is
+-- there, and empty), its rotation, and its copy where the rule asks for one.
 abbrev pub target_of : Clock → Rule → LogLook → Target
 target_of clock rule look = record {
   log = look.path;
@@ -29,10 +30,12 @@ where_free (f ∷ fs) t = []
 
 -- those of one definition
 abbrev pub targets_of : Clock → Rule → (LogLook → Due) → List LogLook → List Target
-targets_of clock rule decide looks = flat_map (λ look. where_due (decide look) (where_free (hindrances clock rule look) (target_of clock rule look))) looks
+targets_of clock rule decide looks = flat_map (λ look. where_due (decide look)
+    (where_free (hindrances clock rule look) (target_of clock rule look))) looks
 
 abbrev pub groups_of : Clock → (Rule → LogLook → Due) → List Rule → List SetLooks → List (List Target)
-groups_of clock decide (rule ∷ rules) (set ∷ sets) = targets_of clock rule (decide rule) set.logs ∷ groups_of clock decide rules sets
+groups_of clock decide (rule ∷ rules) (set ∷ sets) = targets_of clock rule (decide rule) set.logs ∷ groups_of clock decide rules
+    sets
 groups_of clock decide _ _ = []
 
 -- those of all

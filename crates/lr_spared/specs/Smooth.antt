@@ -17,9 +17,13 @@ NoneRose before now = (Rose before.faults now.faults → ⊥) × (Rose before.ba
 
 -- Between the two pasts nothing is in the way of a run with this state, whose plan has these copies and makes these directories.
 pub record IsSmooth (state : Path) (jobs : List Job) (dirs : List Path) (before after : Past) : Type 0 where
-  -- no writer was attached to the path of a file that gets its name by a rename once it is whole, of a new state or of a copy, nor to that of such a directory, where the writer's file would stand in the way of its making
-  pub spared : AttachedOnlySince (λ x. (x ≢ state_part state) × (((job : Job) → IsIn job jobs → job.part ≢ x) × (IsIn x dirs → ⊥))) before after
+  -- no writer was attached to the path of a file that gets its name by a rename once it is whole, of a new state or of a copy, nor
+  -- to that of such a directory, where the writer's file would stand in the way of its making
+  pub spared : AttachedOnlySince (λ x. (x ≢ state_part state) × (((job : Job) → IsIn job jobs → job.part ≢ x) × (IsIn x dirs → ⊥)))
+      before after
   -- at first nothing stood at the path of a copy's part file, or a regular file did
-  pub free : (job : Job) → IsIn job jobs → (names (world before) job.part ≡ thing.Nothing) ⊎ IsFileAt (names (world before)) job.part
+  pub free : (job : Job) → IsIn job jobs → (names (world before) job.part ≡ thing.Nothing)
+      ⊎ IsFileAt (names (world before)) job.part
   -- no file was ever a log of these with more bytes than its copy may have
-  pub short : (job : Job) → IsIn job jobs → (m : Past) → IsBehind before m → IsBehind m after → (g : ℕ) → names (world m) job.from ≡ thing.File g → length ((world m).files g).bytes ≤ job.limit
+  pub short : (job : Job) → IsIn job jobs → (m : Past) → IsBehind before m → IsBehind m after → (g : ℕ)
+      → names (world m) job.from ≡ thing.File g → length ((world m).files g).bytes ≤ job.limit

@@ -23,7 +23,8 @@ ghost use Rattle.lr_spared.specs.Smooth.{IsSmooth};
 /// a moment, as the run's contract says.
 pub fn smooth_run_fails_nothing()
     ensures { (state : Path) (asked : Asked) (clock : Clock) (rules : Rules) (w : Work) (j k : Journal) (es reads : List Entry)
-        → Made (past j) es (past k) → IsJournal (past j) → reverse es ≡ reads ++ run_entries false state clock rules w → AreQuiet reads
+        → Made (past j) es (past k) → IsJournal (past j) → reverse es ≡ reads ++ run_entries false state clock rules w
+        → AreQuiet reads
         → ShowsWork false state rules.sets clock asked w → CarriesOut state clock w → TellsNamesOf state clock w (Some j) (Some k)
         → IsSmooth state (jobs_of w.plan.sets) (dirs_in w.plan) (past j) (past k)
         → calls_in (act_faults w.acts) ≡ 0 → scripts_in (act_faults w.acts) ≡ 0 → act_faults w.acts ≡ [] }
