@@ -1,11 +1,12 @@
-// Standard output as a sink. It tells nothing: what a terminal or a file takes is the system's word.
+// Standard output, or standard error, as a sink. It tells nothing: what a terminal or a file takes is the system's word.
 ghost use Rattle.std.specs.Prelude.{◌≡◌};
 
 use crate::real::raise;
 use lr_host::{Sink, SinkFault};
 use std::io::{self, Write};
 
-/// Standard output, with a count of the writes that failed. A piece is written at once, without a buffer.
+/// Standard output, with a count of the writes that failed; over `rt.stderr()` it is standard error. A piece is written at once,
+/// without a buffer.
 #[derive(Drop)]
 pub struct RealSink<R> {
     rt: R,
