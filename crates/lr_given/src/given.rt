@@ -1,5 +1,5 @@
 // The words, the directory and the time of a call.
-ghost use Rattle.std.specs.Prelude.{◌≡◌, IfOk};
+ghost use Rattle.std.specs.Prelude.{◌≡◌, ◌↔◌, [], ◌∷◌, true, IfOk};
 
 use crate::stop::{GivenStop, stop_of};
 use lr_rules::{Path, PathFault, Text, TextFault};
@@ -52,7 +52,9 @@ fn add_word(alloc: Global, words: &mut Vec<Text>, arg: &[u8]) -> Result<(), Give
 }
 
 /// Whether this is the one word.
-pub fn is_alone(words: &[Text], wanted: &[u8]) -> bool {
+pub fn is_alone(words: &[Text], wanted: &[u8]) -> bool
+    ensures { result ≡ true ↔ words.now ≡ wanted.now ∷ [] }
+{
     match words {
         [word] => word.bytes() == wanted,
         _ => false,
