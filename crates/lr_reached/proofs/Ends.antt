@@ -1,11 +1,10 @@
 -- Faults of which none ends a run.
-use Rattle.std.proofs.Common.{◌≡◌, inl, inr, List, [], ◌∷◌, ◌++◌, refl, sym, subst}
+use Rattle.std.proofs.Common.{◌≡◌, List, [], ◌∷◌, ◌++◌, subst}
 use Rattle.lr_rules.specs.declared.fault.CallKind.{CallKind}
 use Rattle.lr_rules.specs.declared.fault.CallKind.TheVariants as call
 use Rattle.lr_rules.specs.declared.fault.Fault.{Fault}
 use Rattle.lr_rules.specs.declared.fault.Fault.TheVariants as fault
 use Rattle.lr_rules.specs.declared.path.Path.{Path}
-use Rattle.lr_host.specs.Lists.{IsIn}
 use Rattle.lr_reached.specs.Ending.{EndsRun, NoneEnds}
 
 pub none_both : (state : Path) (xs ys : List Fault) → NoneEnds state xs → NoneEnds state ys → NoneEnds state (xs ++ ys)
@@ -16,14 +15,6 @@ none_both state (x ∷ xs) ys a b = (a.0, none_both state xs ys a.1 b)
 pub last_ends : (state : Path) (xs : List Fault) (f : Fault) → NoneEnds state (xs ++ f ∷ []) → EndsRun state f → ⊥
 last_ends state [] f a e = a.0 e
 last_ends state (x ∷ xs) f a e = last_ends state xs f a.1 e
-
--- the last of them is one of them
-pub last_in : (before : List Fault) (f : Fault) (own : List Fault) → own ≡ before ++ f ∷ [] → IsIn f own
-last_in before f own is = subst (IsIn f) (sym is) (go before)
-  where
-    go : (xs : List Fault) → IsIn f (xs ++ f ∷ [])
-    go [] = inl refl
-    go (x ∷ xs) = inr (go xs)
 
 -- a fault that is this one ends no run where that doesn't
 pub is_none : (state : Path) (f g : Fault) → f ≡ g → (EndsRun state g → ⊥) → NoneEnds state (f ∷ [])

@@ -1,5 +1,5 @@
 -- What the choice among logs is told of ends no run: those that are kept have no name that the run reserves for itself.
-use Rattle.std.proofs.Common.{◌≡◌, inl, inr, ℕ, suc, Bool, true, false, cond, List, [], ◌∷◌, ◌++◌, Option, Some, None, slice_get, refl, sym, ap, ◌∙◌, subst}
+use Rattle.std.proofs.Common.{◌≡◌, inl, inr, Bool, true, false, cond, List, [], ◌∷◌, ◌++◌, Option, Some, None, slice_get, refl, sym, ap, ◌∙◌, subst}
 use Rattle.std.specs.Borrow.{Bor}
 use Rattle.std.specs.List.{flat_map, AllByRecursion}
 use Rattle.lr_rules.specs.declared.fault.Fault.TheVariants as fault
@@ -15,6 +15,7 @@ use Rattle.lr_looks.specs.Found.{FoundLog, Hold}
 use Rattle.lr_looks.specs.Reserved.{reserved_by}
 use Rattle.lr_seen.proofs.Apart.{kept_each}
 use Rattle.lr_seen.proofs.Elements.{map_at, unmap_at}
+use Rattle.lr_seen.proofs.Free.{place_in}
 use Rattle.lr_reached.specs.Ending.{EndsRun, NoneEnds}
 use Rattle.lr_reached.proofs.Ends.{none_both}
 
@@ -24,18 +25,13 @@ use Rattle.lr_reached.proofs.Ends.{none_both}
 abbrev pub IsFreeLog : List Path → FoundLog → Type 0
 IsFreeLog reserved f = (path : Path) → IsIn path reserved → IsName f.log.path f.log.naming path → ⊥
 
-place_of : (xs : List Path) (x : Path) → IsIn x xs → (k : ℕ) × (slice_get xs k ≡ Some x)
-place_of [] x h = absurd h
-place_of (y ∷ ys) x (inl e) = (0, ap (λ z. Some z) e)
-place_of (y ∷ ys) x (inr i) = let r = place_of ys x i in (suc r.0, r.1)
-
 abbrev HasPath : Path → (Path × Naming) → Type 0
 HasPath path n = IsName n.0 n.1 path
 
 pub kept_free : (reserved : List Path) (found : List FoundLog) (choices : List Choice) → IsChoiceAmong reserved found choices → AllByRecursion (IsFreeLog reserved) (kept_of found choices)
 kept_free reserved found choices c = kept_each (IsFreeLog reserved) found choices (λ k f at kept path i named.
     let b : (b : Bor Family) × (slice_get c.logs k ≡ Some b) × (names_of b ≡ found_names f) = unmap_at names_of c.logs k (found_names f) (ap (λ (xs : List (Path × Naming)). slice_get xs k) c.same ∙ map_at found_names found k f at) in
-    let p = place_of reserved path i in
+    let p = place_in reserved path i in
     (c.chosen.each k Kept kept).free p.0 (record { log = b.0; path = path; at_log = b.1; at_path = p.1; named = subst (HasPath path) (sym b.2) named }))
 
 where_files : (P : FoundLog → Type 0) (f : FoundLog) (fs : List FoundLog) → P f → Hold P fs → Hold P (where_file f ++ fs)

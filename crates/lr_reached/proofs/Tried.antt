@@ -1,6 +1,5 @@
--- A dry run came to its plan exactly where none of its faults ends such a run.
+-- A dry run that came to its plan has no fault that ends such a run; the last fault of one that didn't says why.
 use Rattle.std.proofs.Common.{◌≡◌, ◌⊎◌, inl, inr, ⊎_elim, List, [], ◌∷◌, ◌++◌, Option, Some, None, refl, sym, ap, ◌∙◌, subst}
-use Rattle.std.specs.Prelude.{◌↔◌}
 use Rattle.lr_rules.specs.declared.clock.Clock.{Clock}
 use Rattle.lr_rules.specs.declared.fault.CallKind.TheVariants as call
 use Rattle.lr_rules.specs.declared.fault.Fault.{Fault}
@@ -13,7 +12,6 @@ use Rattle.lr_rules.specs.Path.{parent_of}
 use Rattle.lr_due.specs.declared.answer.Due.{Due}
 use Rattle.lr_due.specs.declared.answer.Due.TheVariants as due
 use Rattle.lr_host.specs.declared.entry.Entry.{Entry}
-use Rattle.lr_host.specs.Lists.{IsIn}
 use Rattle.lr_state.specs.Table.{Entry as Row}
 use Rattle.lr_looks.specs.Found.{paths_of}
 use Rattle.lr_plan.specs.Asked.{Asked}
@@ -24,7 +22,6 @@ use Rattle.lr_plan.specs.Planned.{hindrances, where_due, log_faults, all_faults,
 use Rattle.lr_run.specs.Dry.{Follows, Plans, PlansBy, unknown, known, Tries, unseen, not_directory, by_none, by_state}
 use Rattle.lr_reached.specs.Ending.{EndsRun, NoneEnds}
 use Rattle.lr_reached.specs.Tried.{EndsTry, NoneEndsTry, MayEndTry, SaysWhyTry}
-use Rattle.lr_reached.proofs.Ends.{last_in}
 use Rattle.lr_reached.proofs.Known.{state_why}
 use Rattle.lr_reached.proofs.Looked.{looks_none}
 use Rattle.lr_reached.proofs.Planned.{hindered_by}
@@ -80,11 +77,6 @@ none_try state (f ∷ fs) h = ((λ e. h.0 (try_run state f e)), none_try state f
 pub try_both : (state : Path) (xs ys : List Fault) → NoneEndsTry state xs → NoneEndsTry state ys → NoneEndsTry state (xs ++ ys)
 try_both state [] ys a b = b
 try_both state (x ∷ xs) ys a b = (a.0, try_both state xs ys a.1 b)
-
--- the last of them doesn't
-pub last_tries : (state : Path) (xs : List Fault) (f : Fault) → NoneEndsTry state (xs ++ f ∷ []) → EndsTry state f → ⊥
-last_tries state [] f a e = a.0 e
-last_tries state (x ∷ xs) f a e = last_tries state xs f a.1 e
 
 -- ---- those of a plan
 
@@ -147,13 +139,3 @@ ended_try state clock asked rules plan own ts (by_state t) h = go t.second
     go : PlansBy state rules.sets clock asked plan own t.back → SaysWhyTry state own
     go (unknown sights f k lost is s) = record { before = []; last = f; own_are = is; ends = ⊎_elim (λ ends. run_try state f ends) (λ may. inr (inl may.0)) (state_why state 65_536 sights f t.back k s) }
     go (known sights remembered k u) = plans_why state rules.sets remembered.table clock asked plan own u.back u.second h
-
--- ---- the law
-
-pub told_try : (state : Path) (clock : Clock) (asked : Asked) (rules : Rules) (plan : Option Plan) (own : List Fault) (ts : List Entry) → Tries state rules.sets clock asked plan own ts → ((f : Fault) → IsIn f own → MayEndTry state f → ⊥)
-    → (IsNone plan → ⊥) ↔ NoneEndsTry state own
-told_try state clock asked rules plan own ts t plain = (
-  λ some. reached_try state clock asked rules plan own ts t some,
-  λ none lost. (let w = ended_try state clock asked rules plan own ts t lost in
-      ⊎_elim (λ ends. last_tries state w.before w.last (subst (NoneEndsTry state) w.own_are none) ends) (λ may. plain w.last (last_in w.before w.last own w.own_are) may) w.ends),
-)

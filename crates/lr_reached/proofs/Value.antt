@@ -1,6 +1,5 @@
 -- By what a run came to, or why it halted: what its faults and its entries tell of its plan.
 use Rattle.std.proofs.Common.{⊎_elim, inl, inr, true, false, refl, List, reverse, Some, None, subst}
-use Rattle.std.proofs.lemmas.Option.{none-some}
 use Rattle.lr_rules.specs.declared.clock.Clock.{Clock}
 use Rattle.lr_rules.specs.declared.fault.Fault.{Fault}
 use Rattle.lr_rules.specs.declared.path.Path.{Path}
@@ -18,7 +17,7 @@ use Rattle.lr_reached.specs.Ending.{EndsRun, NoneEnds, SaysWhy}
 use Rattle.lr_reached.specs.Looked.{behind_start, SawState}
 use Rattle.lr_reached.specs.Tried.{NoneEndsTry, SaysWhyTry}
 use Rattle.lr_reached.proofs.Ends.{last_ends}
-use Rattle.lr_reached.proofs.Reached.{Unreached, came_to, reached_saw, reached_none}
+use Rattle.lr_reached.proofs.Reached.{Unreached, unreached, reached_saw, reached_none}
 use Rattle.lr_reached.proofs.Tried.{reached_try, ended_try}
 
 module _ (state : Path) (asked : Asked) (clock : Clock) (rules : Rules) where
@@ -31,7 +30,8 @@ module _ (state : Path) (asked : Asked) (clock : Clock) (rules : Rules) where
 
   -- one that halted with these faults
   pub halt_unreached : (own : List Fault) (ts : List Entry) → Halts false state rules clock asked (OfFaults own) ts → Unreached state own (behind_start ts)
-  halt_unreached own ts h = ⊎_elim (λ i. absurd (none-some _ i.1)) (λ u. u) (came_to state asked clock rules None own ts (halt_left state rules clock asked None refl ts false (OfFaults own) h))
+  halt_unreached own ts h =
+      unreached state asked clock rules own ts (halt_left state rules clock asked None refl ts false (OfFaults own) h)
 
   pub halt_why : (own : List Fault) (ts : List Entry) → Halts false state rules clock asked (OfFaults own) ts → SaysWhy state own
   halt_why own ts h = let u = halt_unreached own ts h in record { before = u.before; last = u.last; own_are = u.own_are; ends = ⊎_elim (λ ends. inl ends) (λ may. inr (may.0, may.1)) u.ends }

@@ -1,4 +1,3 @@
 pub mod Ending
 pub mod Looked
-pub mod Reached
 pub mod Tried
