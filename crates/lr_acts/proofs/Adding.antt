@@ -11,19 +11,13 @@ use Rattle.lr_plan.specs.declared.step.Step.{Step}
 use Rattle.lr_plan.specs.Outcomes.{Succeeds, Fails, marks_of}
 use Rattle.lr_host.specs.Counted.{AreCounted}
 use Rattle.lr_plan.specs.Course.{Part, Nothing, StepFails}
-use Rattle.lr_host.proofs.Counts.{free_none, counted_on, counted_none, counted_free, counted_call, counted_script}
+use Rattle.lr_host.proofs.Counts.{free_none, counted_on, counted_none, counted_free, counted_call, counted_script, onward_same, onward_on}
 use Rattle.lr_acts.specs.declared.progress.Progress.{Progress}
 use Rattle.lr_acts.specs.Adding.{Adds, HasRoom, Fills}
 use Rattle.lr_acts.specs.Making.{FaultCause, StepNames, WasMade, list_of}
 use Rattle.lr_acts.specs.Named.{KeepsNames}
 use Rattle.lr_acts.proofs.Naming.{made_names, failed_names, nothing_names, same_names, names_of_more, names_on}
 use Rattle.lr_acts.proofs.Taking.{made_taken, failed_taken, nothing_taken, same_taken, taken_of_more, taken_on}
-
-pub onward_on : (a b c : Counts) → Onward a b → Onward b c → Onward a c
-onward_on a b c p q = ((omega (arith, p.0.0, q.0.0), omega (arith, p.0.1, q.0.1), omega (arith, p.0.2, q.0.2)), q.1 ∙ p.1)
-
-pub onward_same : (a : Counts) → Onward a a
-onward_same a = ((omega arith, omega arith, omega arith), refl)
 
 pub adds_as : {P Q : Part} {ss : List Step} {a b : Progress} {o n : Option Journal} {c d : Counts} → Adds P ss a b o n c d → ((ms : List Mark) (f : List Fault) (ts : List Entry) → P ms f ts → Q ms f ts) → Adds Q ss a b o n c d
 adds_as h f = record {

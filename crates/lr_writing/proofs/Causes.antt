@@ -1,5 +1,5 @@
 -- The causes of faults, over more calls.
-use Rattle.std.proofs.Common.{refl, ◌∙◌, arith, List, [], ◌∷◌, Option}
+use Rattle.std.proofs.Common.{refl, arith, List, [], ◌∷◌, Option}
 use Rattle.lr_rules.specs.declared.fault.Fault.{Fault}
 use Rattle.lr_rules.specs.declared.fault.Fault.TheVariants as fault
 use Rattle.lr_host.specs.declared.entry.Entry.{Entry}
@@ -10,12 +10,6 @@ use Rattle.lr_host.proofs.Counts.{counted_free, counted_call, counted_script}
 use Rattle.lr_acts.specs.Making.{FaultCause}
 use Rattle.lr_acts.proofs.Taking.{taken_later}
 use Rattle.lr_writing.specs.Writes.{AreCaused}
-
-pub onward_on : (a b c : Counts) → Onward a b → Onward b c → Onward a c
-onward_on a b c p q = ((omega (arith, p.0.0, q.0.0), omega (arith, p.0.1, q.0.1), omega (arith, p.0.2, q.0.2)), q.1 ∙ p.1)
-
-pub onward_same : (a : Counts) → Onward a a
-onward_same a = ((omega arith, omega arith, omega arith), refl)
 
 cause_later : {P : List Entry → Type 0} {o m : Option Journal} (n : Option Journal) (f : Fault) (a b c : Counts) → Left P o m → Onward a b → FaultCause f b c m n → FaultCause f a c o n
 cause_later n (fault.Call kind path) a b c before p h = omega (arith, p.0.0, h)

@@ -15,14 +15,14 @@ use Rattle.lr_plan.specs.Steps.{state_steps}
 use Rattle.lr_plan.specs.Course.{Course, StepThen}
 use Rattle.lr_plan.specs.Asking.{CanMake}
 use Rattle.lr_plan.specs.Outcomes.{Succeeds, Fails, marks_of}
-use Rattle.lr_host.proofs.Counts.{counted_free, free_none}
+use Rattle.lr_host.proofs.Counts.{counted_free, free_none, onward_same, onward_on}
 use Rattle.lr_plan.proofs.Courses.{course_then}
 use Rattle.lr_acts.specs.Making.{FaultCause}
 use Rattle.lr_acts.proofs.Taking.{made_taken, failed_taken, same_taken, taken_of_more, taken_on}
 use Rattle.lr_writing.specs.Target.{Target}
 use Rattle.lr_writing.specs.Writes.{IsShort, Writes, ComesTo, AddsCourse, part_steps, name_steps}
 use Rattle.lr_writing.proofs.Buffers.{short_on}
-use Rattle.lr_writing.proofs.Causes.{onward_on, onward_same, caused_later, counted_one}
+use Rattle.lr_writing.proofs.Causes.{caused_later, counted_one}
 
 -- ---- one step
 
