@@ -5,7 +5,7 @@ use Rattle.lr_rules.specs.declared.path.Path.{Path}
 use Rattle.lr_rules.specs.declared.fault.Fault.{Fault}
 use Rattle.lr_host.specs.declared.thing.Thing.TheVariants as thing
 use Rattle.lr_host.specs.declared.entry.Entry.{Entry}
-use Rattle.lr_host.specs.declared.entry.Entry.TheVariants.{Renames, Makes, Unlinks, MakesDir}
+use Rattle.lr_host.specs.declared.entry.Entry.TheVariants.{Renames, Makes, Unlinks}
 use Rattle.lr_host.specs.declared.journal.Journal.{Journal}
 use Rattle.lr_host.specs.World.{Past, ◌▸◌, past, world, names, put}
 use Rattle.lr_host.specs.Told.{Each, Made, at_first, by_writer, by_tool, Left, not_told, is_told}

@@ -7,7 +7,8 @@ use Rattle.lr_rules.specs.declared.path.Path.{Path}
 use Rattle.lr_rules.specs.Path.{parent_of}
 use Rattle.lr_host.specs.Lists.{IsIn}
 
--- A fault that ends a run, wherever it is told: no clock, or no zone; a text of the state that isn't right or could become too big; no directory for the state; another thing than a file at its path or at that of its part file; a begin that failed.
+-- A fault that ends a run, wherever it is told: no clock, or no zone; a text of the state that isn't right or could become too big;
+-- no directory for the state; another thing than a file at its path or at that of its part file; a begin that failed.
 abbrev pub EndsRun : Path → Fault → Type 0
 EndsRun state fault.Clock = Unit {0}
 EndsRun state (fault.Zone why) = Unit {0}
@@ -22,9 +23,11 @@ abbrev pub NoneEnds : Path → List Fault → Type 0
 NoneEnds state [] = Unit {0}
 NoneEnds state (f ∷ fs) = (EndsRun state f → ⊥) × NoneEnds state fs
 
--- A look failed at the state's directory, at its path or at that of its part file, or a read of its text. Made for the state, it ends a run; made for a log that is asked for by such a path, or for a configuration there, it ends none.
+-- A look failed at the state's directory, at its path or at that of its part file, or a read of its text. Made for the state, it
+-- ends a run; made for a log that is asked for by such a path, or for a configuration there, it ends none.
 abbrev pub MayEnd : Path → Fault → Type 0
-MayEnd state f = ((path : Path) × IsIn path (parent_of state ∷ state ∷ (state ++ codes ".tmp") ∷ []) × (f ≡ fault.Call call.Look path)) ⊎ (f ≡ fault.Call call.Read state)
+MayEnd state f = ((path : Path) × IsIn path (parent_of state ∷ state ∷ (state ++ codes ".tmp") ∷ [])
+    × (f ≡ fault.Call call.Look path)) ⊎ (f ≡ fault.Call call.Read state)
 
 -- The last of the faults is why the run ended: it is one that ends a run, or the one fault is such a look or read.
 pub record SaysWhy (state : Path) (own : List Fault) : Type 0 where

@@ -20,7 +20,8 @@ WasLookedAt path ts = (seen : Option Seen) × IsIn (entry.Look path seen) ts
 abbrev pub WasReadToEnd : Path → List Entry → Type 0
 WasReadToEnd path ts = (place : ℕ) × IsIn (entry.Reads path place []) ts
 
--- The state was seen: a look at the file that a new state is first written to answered, and nothing stood at the state's path, or what stood there was read to its end.
+-- The state was seen: a look at the file that a new state is first written to answered, and nothing stood at the state's path, or
+-- what stood there was read to its end.
 pub record SawState (state : Path) (ts : List Entry) : Type 0 where
   pub part : WasLookedAt (state ++ codes ".tmp") ts
   pub text : IsIn (entry.Look state None) ts ⊎ WasReadToEnd state ts

@@ -16,7 +16,9 @@ abbrev pub NoneEndsTry : Path → List Fault → Type 0
 NoneEndsTry state [] = Unit {0}
 NoneEndsTry state (f ∷ fs) = (EndsTry state f → ⊥) × NoneEndsTry state fs
 
--- A look or a read failed that may have been made for the state; or the state's directory isn't there. Where a look saw another thing there than a directory, that ends a dry run; where it saw nothing, it ends none, and neither does it where a log's family is to stand there.
+-- A look or a read failed that may have been made for the state; or the state's directory isn't there. Where a look saw another
+-- thing there than a directory, that ends a dry run; where it saw nothing, it ends none, and neither does it where a log's family
+-- is to stand there.
 abbrev pub MayEndTry : Path → Fault → Type 0
 MayEndTry state f = MayEnd state f ⊎ (f ≡ fault.NoDir (parent_of state))
 

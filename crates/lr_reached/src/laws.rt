@@ -19,10 +19,13 @@ ghost use Rattle.lr_reached.specs.Tried.{NoneEndsTry, SaysWhyTry};
 /// at the state's directory, at its path or at that of its part file, or a failed read of it; and where none of them ends a
 /// run, the entries tell that it didn't see its state.
 pub fn plan_is_reached()
-    ensures none_ends { (state : Path) (asked : Asked) (clock : Clock) (rules : Rules) (w : Work) (p q : Past) → Made p (reverse (run_entries false state clock rules w)) q
-        → ShowsWork false state rules.sets clock asked w → CarriesOut state clock w → NoneEnds state (w.saw.faults ++ (w.plan.faults ++ act_faults w.acts)) }
+    ensures none_ends { (state : Path) (asked : Asked) (clock : Clock) (rules : Rules) (w : Work) (p q : Past)
+        → Made p (reverse (run_entries false state clock rules w)) q
+        → ShowsWork false state rules.sets clock asked w → CarriesOut state clock w
+        → NoneEnds state (w.saw.faults ++ (w.plan.faults ++ act_faults w.acts)) }
     ensures saw { (state : Path) (asked : Asked) (clock : Clock) (rules : Rules) (w : Work)
-        → ShowsWork false state rules.sets clock asked w → CarriesOut state clock w → SawState state (behind_start (run_entries false state clock rules w)) }
+        → ShowsWork false state rules.sets clock asked w → CarriesOut state clock w
+        → SawState state (behind_start (run_entries false state clock rules w)) }
     ensures why { (state : Path) (asked : Asked) (clock : Clock) (rules : Rules) (own : List Fault) (ts : List Entry)
         → Halts false state rules clock asked (OfFaults own) ts → SaysWhy state own }
     ensures unseen { (state : Path) (asked : Asked) (clock : Clock) (rules : Rules) (own : List Fault) (ts : List Entry)
@@ -32,7 +35,8 @@ pub fn plan_is_reached()
 /// A dry run that came to its plan has no fault of its own that ends such a run; the last fault of one that halted says why.
 pub fn try_is_reached()
     ensures none_ends { (state : Path) (asked : Asked) (clock : Clock) (rules : Rules) (w : Work)
-        → ShowsWork true state rules.sets clock asked w → DidNothing w → NoneEndsTry state (w.saw.faults ++ (w.plan.faults ++ act_faults w.acts)) }
+        → ShowsWork true state rules.sets clock asked w → DidNothing w
+        → NoneEndsTry state (w.saw.faults ++ (w.plan.faults ++ act_faults w.acts)) }
     ensures why { (state : Path) (asked : Asked) (clock : Clock) (rules : Rules) (own : List Fault) (ts : List Entry)
         → Halts true state rules clock asked (OfFaults own) ts → SaysWhyTry state own }
 {}
