@@ -1,5 +1,6 @@
 -- The work of a run, and its end.
-use Rattle.std.proofs.Common.{◌≡◌, ◌≤◌, List, [], ◌∷◌, ◌++◌, Option, Result, Ok, Err, OnOk, OnErr, refl, arith}
+use Rattle.std.proofs.Common.{◌≡◌, ◌≤◌, List, [], ◌∷◌, ◌++◌, Option, Result, Ok, Err, OnOk, OnErr, false, refl, sym, ◌∙◌, arith}
+use Rattle.std.proofs.lemmas.List.{append-nil}
 use Rattle.lr_rules.specs.declared.clock.Clock.{Clock}
 use Rattle.lr_rules.specs.declared.fault.CallKind.TheVariants as call
 use Rattle.lr_rules.specs.declared.fault.Fault.{Fault}
@@ -13,7 +14,7 @@ use Rattle.lr_host.proofs.Left.{left_both}
 use Rattle.lr_host.specs.Counted.{AreCounted, AddsFaults, Went, WentBy}
 use Rattle.lr_plan.specs.Asked.{Asked}
 use Rattle.lr_plan.specs.declared.plan.Plan.{Plan}
-use Rattle.lr_host.proofs.Counts.{went_free, went_call}
+use Rattle.lr_host.proofs.Counts.{free_none, adds_free, adds_on, went_free, went_call}
 use Rattle.lr_family.specs.declared.directory.DirStop.{DirStop}
 use Rattle.lr_family.specs.declared.directory.DirStop.TheVariants as dir
 use Rattle.lr_run.specs.Internal.{dir_fault_of, CameTo, WorksOn, SomeWork}
@@ -44,6 +45,13 @@ counted_wider fs k l m le c = record {
 pub adds_wider : {T E : Type 0} (r : Result T E) (a b : List Fault) (k l m : Counts) → NoneFell l m → WentBy r a b k l → OnOk r (AddsFaults a b k m)
 adds_wider (Ok x) a b k l m le h = record { added = h.adds.added; after_is = h.adds.after_is; are_counted = counted_wider h.adds.added k l m le h.adds.are_counted }
 adds_wider (Err x) a b k l m le h = tt
+
+-- the lock was free, and was given back
+pub went_locked : (a b : List Fault) (j k l : Counts) → NoneFell j k → j.locked ≡ false → AddsFaults a b k l → NoneFell k l → l.locked ≡ false → Went a b j l
+went_locked a b j k l f free h g back = record {
+  adds = adds_on a a b j k l (adds_free a a [] j k (sym (append-nil a)) free_none f) h;
+  onward = ((omega (arith, f.0, g.0), omega (arith, f.1, g.1), omega (arith, f.2, g.2)), back ∙ sym free);
+}
 
 -- the fault of the state's directory
 pub dir_went : (why : DirStop) (x : Path) (a b : List Fault) (k l : Counts) → b ≡ a ++ dir_fault_of why x ∷ [] → (why ≡ dir.Call → Rose k.faults l.faults) → Onward k l → Went a b k l

@@ -25,8 +25,8 @@ returns-in-Ok-false-clause-some g c = lacks_looks c.look_and_plan.result c.args.
 pub returns-in-Ok-false-clause-went : goal.returns-in-Ok-false-clause-went
 returns-in-Ok-false-clause-went g c = went_behind c.look_and_plan.result c.args.faults.now.items c.look_and_plan.new.faults.items _ _ _ c.in-Ok-false.ensures.counts c.look_and_plan.ensures.went
 
-pub returns-in-Err-clause-told : goal.returns-in-Err-clause-told
-returns-in-Err-clause-told g c = not_tried c.args.settings.now.state c.args.rules.now c.args.clock.now (asking c.args.settings.now.force c.args.settings.now.mailer) c.in-Err.why c.args.dir c.args.faults.now.items c.add_fault.new.faults c.requires.dir (c.add_fault.ensures.faults ∙ ap (λ (f : Fault). c.args.faults.now.items ++ f ∷ []) c.dir_fault.ensures) c.in-Err.ensures.stopped
+pub returns-clause-told : goal.returns-clause-told
+returns-clause-told g c = not_tried c.args.settings.now.state c.args.rules.now c.args.clock.now (asking c.args.settings.now.force c.args.settings.now.mailer) c.in-Err.why c.args.dir c.args.faults.now.items c.add_fault.new.faults c.requires.dir (c.add_fault.ensures.faults ∙ ap (λ (f : Fault). c.args.faults.now.items ++ f ∷ []) c.dir_fault.ensures) c.in-Err.ensures.stopped
 
-pub returns-in-Err-clause-went : goal.returns-in-Err-clause-went
-returns-in-Err-clause-went g c = dir_went c.in-Err.why c.args.dir c.args.faults.now.items c.add_fault.new.faults.items _ _ (c.add_fault.ensures.faults ∙ ap (λ (f : Fault). c.args.faults.now.items ++ f ∷ []) c.dir_fault.ensures) (λ e. c.look_for_dir.ensures.cause (c.in-Err.is ∙ ap Err e)) c.in-Err.ensures.counts
+pub returns-clause-went : goal.returns-clause-went
+returns-clause-went g c = dir_went c.in-Err.why c.args.dir c.args.faults.now.items c.add_fault.new.faults.items _ _ (c.add_fault.ensures.faults ∙ ap (λ (f : Fault). c.args.faults.now.items ++ f ∷ []) c.dir_fault.ensures) (λ e. c.look_for_dir.ensures.cause (c.in-Err.is ∙ ap Err e)) c.in-Err.ensures.counts

@@ -1,9 +1,10 @@
 use Rattle.lr_placed.proofs.Lasting.{disk_on}
 use Rattle.lr_plan.specs.Asked.{asking}
 use Rattle.lr_run.proofs.Coming.{goes}
+use Rattle.lr_run.proofs.Ending.{went_locked}
 use Rattle.lr_run.proofs.Parts.{began, locked, lacks, goes_not}
 use Rattle.lr_run.proofs.Working.{is_on}
-use Rattle.std.proofs.Common.{ap}
+use Rattle.std.proofs.Common.{Ok, ap, ◌∙◌}
 use Rattle.std.specs.Prelude.{filter}
 use Rattle.lr_host.specs.Steps.{is_naming}
 use Rattle.lr_host.proofs.Left.{can_as, can_stay}
@@ -31,3 +32,6 @@ returns-in-Ok-false-clause-stopped g c = locked c.args.settings.now.state (askin
 
 pub returns-clause-told : goal.returns-clause-told
 returns-clause-told g c = goes_not c.args.settings.now.state (asking c.args.settings.now.force c.args.settings.now.mailer) c.args.clock.now c.args.rules.now c.args.reached.now c.args.name c.args.progress.now.faults.items c.add_not_begun.new.faults.items c.requires.none c.requires.name c.add_not_begun.ensures.faults c.in-Err.ensures.told
+
+pub returns-in-Ok-clause-went : goal.returns-in-Ok-clause-went
+returns-in-Ok-clause-went g c = went_locked c.args.progress.now.faults.items c.work_to_end.new.progress.faults.items _ _ _ c.begin.ensures.counts (c.begin.ensures.lock (c.in-Ok-true.is ∙ ap Ok c.in-Ok-true.field-0-test)).0 c.in-Ok.ensures.counted c.in-Ok.ensures.counts c.in-Ok.ensures.lock
