@@ -1,0 +1,14 @@
+pub mod Answering
+pub mod Calling
+pub mod FailedCalls
+pub mod Giving
+pub mod Keeping
+pub mod Lasting
+pub mod Pieces
+pub mod Putting
+pub mod Sighted
+pub mod Standing
+pub mod Still
+pub mod Stood
+pub mod Whole
+pub mod Working

@@ -1,0 +1,44 @@
+-- For proofs: the looks, one by one.
+use Rattle.std.specs.Prelude.{◌≡◌, List, [], reverse, Option}
+use Rattle.lr_rules.specs.declared.path.Path.{Path}
+use Rattle.lr_rules.specs.declared.rule.Naming.{Naming}
+use Rattle.lr_rules.specs.declared.fault.CallKind.TheVariants as call
+use Rattle.lr_rules.specs.declared.fault.Fault.{Fault}
+use Rattle.lr_rules.specs.declared.fault.Fault.TheVariants as fault
+use Rattle.lr_host.specs.declared.entry.Entry.{Entry}
+use Rattle.lr_host.specs.declared.journal.Journal.{Journal}
+use Rattle.lr_host.specs.Looks.{Sees, IsNoFile}
+use Rattle.lr_cat.specs.Sights.{AreSights}
+use Rattle.lr_host.specs.Told.{Left}
+use Rattle.lr_family.specs.declared.stand.StandStop.{StandStop}
+use Rattle.lr_family.specs.declared.stand.StandStop.TheVariants as stands
+use Rattle.lr_cat.specs.declared.seeing.LogStop.{LogStop}
+use Rattle.lr_cat.specs.declared.seeing.LogStop.TheVariants as logs
+use Rattle.lr_cat.specs.declared.stop.CatStop.{CatStop}
+use Rattle.lr_cat.specs.declared.stop.CatStop.TheVariants as stop
+use Rattle.lr_cat.specs.Saw.{Saw, ShowsSaw, SeesNone, files_of}
+
+abbrev pub FindsNone : Path → LogStop → List Entry → Type 0
+FindsNone log logs.Call ts = ts ≡ []
+FindsNone log logs.NotFile ts = Sees log IsNoFile ts
+
+abbrev pub log_fault : LogStop → Path → Fault
+log_fault logs.Call log = fault.Call call.Look log
+log_fault logs.NotFile log = fault.NotFile log
+
+abbrev pub stand_stop : StandStop → CatStop
+stand_stop (stands.Call kind path) = stop.Fault (fault.Call kind path)
+stand_stop (stands.NotFile path) = stop.Fault (fault.NotFile path)
+stand_stop stands.Memory = stop.Memory
+
+-- what stands was seen, and these are its files, of which the last is the oldest
+pub record SeesAll (n : Naming) (log : Path) (files : List Path) (told later : Option Journal) : Type 0 where
+  pub saw : Saw
+  pub shows : Left (ShowsSaw n log saw) told later
+  pub files_are : reverse files ≡ files_of log saw
+
+-- it wasn't, for this cause
+abbrev pub SeesNot : Naming → Path → CatStop → Option Journal → Option Journal → Type 0
+SeesNot n log (stop.Fault f) told later = Left (SeesNone n log f) told later
+SeesNot n log stop.Held told later = ⊥
+SeesNot n log stop.Memory told later = Left AreSights told later

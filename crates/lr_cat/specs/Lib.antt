@@ -1,0 +1,15 @@
+pub mod Came
+pub mod Cats
+pub mod First
+pub mod History
+pub mod Internal
+pub mod InternalCats
+pub mod InternalSaw
+pub mod InternalTexts
+pub mod Outcome
+pub mod Saw
+pub mod Says
+pub mod Sights
+pub mod Stops
+pub mod Texts
+pub mod Words

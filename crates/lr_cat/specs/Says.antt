@@ -1,0 +1,60 @@
+-- All that is told of a call, by what it came to.
+use Rattle.std.specs.Prelude.{◌≡◌, ◌⊎◌, ℕ, ℤ, List, [], ◌∷◌, Option, Some, None, Contains}
+use Rattle.lr_rules.specs.declared.fault.Fault.{Fault}
+use Rattle.lr_rules.specs.declared.fault.Fault.TheVariants as fault
+use Rattle.lr_rules.specs.declared.path.Path.{Path}
+use Rattle.lr_host.specs.declared.journal.Journal.{Journal}
+use Rattle.lr_host.specs.Counted.{calls_in, RoseBy}
+use Rattle.lr_host.specs.Quiet.{ChangeNothing}
+use Rattle.lr_host.specs.Safe.{KeepsSafe}
+use Rattle.lr_host.specs.Told.{Counts, Left, Rose}
+use Rattle.lr_host.specs.World.{past}
+use Rattle.lr_report.specs.Puts.{Took, TookPart}
+use Rattle.lr_cat.specs.declared.outcome.CatOutcome.{CatOutcome}
+use Rattle.lr_cat.specs.declared.outcome.CatOutcome.TheVariants.{Done, Held}
+use Rattle.lr_cat.specs.declared.words.Wanted.{Wanted}
+use Rattle.lr_cat.specs.Came.{Came, CatShows}
+use Rattle.lr_cat.specs.History.{IsHistory}
+use Rattle.lr_cat.specs.Texts.{TookBy, joined}
+use Rattle.lr_cat.specs.Words.{wanted}
+
+-- What the output took of a call that came to this: the texts that were read, one behind another, and of those only a first part
+-- where its own fault ended the call; else nothing.
+abbrev pub TookOf : Option Came → Option (List ℕ) → Option (List ℕ) → Type 0
+TookOf None before after = after ≡ before
+TookOf (Some c) before after = TookBy c.own (joined c.texts) before after
+
+-- All that is told of a call with these words, at these seconds, by what it came to.
+pub record CatSays (here : Path) (words : List (List ℕ)) (seconds : ℤ) (outcome : CatOutcome) (told later : Option Journal)
+    (before after : Option (List ℕ)) : Type 0 where
+  -- what it came to, where it came to the files of its log
+  pub came : Option Came
+  -- its entries and its answer show it: the clock, what was read of the configuration, which rule gives the log, the lock, what
+  -- stands, and each read, from the oldest file's first byte on; or why it came to none
+  pub shown : Left (CatShows here words seconds outcome came) told later
+  -- the output took those texts, in that order
+  pub took : TookOf came before after
+  -- no name and no byte was changed; so each set that was safe in the journal before is safe in that after, where it is steady there
+  pub still : Left ChangeNothing told later
+  pub safe : KeepsSafe told later
+  -- where no fault of its own ended it, the files are those that stood as it began, and the texts are theirs
+  pub whole : (w : Wanted) (c : Came) (j k : Journal) → wanted here words ≡ Some w → came ≡ Some c → c.own ≡ None → told ≡ Some j
+      → later ≡ Some k → IsHistory w c (past j) (past k)
+
+-- ---- by the counts
+
+-- the report has the fault
+abbrev pub HasFault : CatOutcome → Fault → Type 0
+HasFault (Done report) f = Contains report.faults f
+HasFault _ f = ⊥
+
+-- No more failed calls are told than the count rose by; and another run had the lock only where that was counted.
+abbrev pub HasCounted : CatOutcome → Counts → Counts → Type 0
+HasCounted (Done report) counted counts = RoseBy (calls_in report.faults) counted.faults counts.faults
+HasCounted Held counted counts = Rose counted.held counts.held
+HasCounted _ counted counts = Unit {0}
+
+-- All of the text came, or a first part, where a put failed.
+pub record Noted (text : List ℕ) (before after : Option (List ℕ)) (low high : ℕ) : Type 0 where
+  pub part : TookPart text before after
+  pub whole : Took text before after ⊎ Rose low high
