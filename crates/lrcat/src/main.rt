@@ -1,0 +1,81 @@
+//! The program: prints a log with all its history, the oldest line first, as `lrcat CONF LOG | grep ERROR`.
+//!
+//! Standard output gets the bytes of the log's rotated files and of the log, and nothing else. Standard error gets a line for each
+//! notice and each fault, or one line that says why nothing was read; a line for each call that failed, with the system's
+//! reason; and the usage behind other words. It ends with 0 where there was no fault, with 1 where there was one (what came is a
+//! first part then, unless the fault is of the configuration), with 2 for other words, with 3 where another run holds the lock,
+//! with 4 for want of memory, and with 5 where no definition gives the log. `--help` and `--version`, each alone, are answered
+//! here.
+//! The contract above it is that of `lr_cat::lrcat`; begin there.
+#![tactic(auto)]
+
+mod said;
+
+use crate::said::USAGE;
+use lr_adapt::{RealHost, RealSink};
+use lr_cat::{CatOutcome, cat_status, lrcat};
+use lr_given::{GivenStop, here_given, is_alone, put_version, seconds, words_given};
+use lr_host::Sink;
+use lr_report::{Outcome, printed, status};
+use lr_rules::Text;
+use std::process::ExitCode;
+
+// The status of a call for which there is nothing to read, which is told.
+fn nothing<N: Sink>(outcome: Outcome, notes: &mut N) -> u8 {
+    status(&printed(outcome, notes))
+}
+
+// The same of what the machine doesn't give.
+fn not_given<N: Sink>(stop: GivenStop, notes: &mut N) -> u8 {
+    match stop {
+        GivenStop::BadWords => nothing(Outcome::BadWords, notes),
+        GivenStop::Memory => nothing(Outcome::OutOfMemory, notes),
+    }
+}
+
+// The status of a call. Behind bad words the usage is told, on standard error.
+fn ended(rt: &HostRuntime, outcome: &CatOutcome) -> u8 {
+    if let CatOutcome::BadWords = outcome {
+        let _ = eprint!(rt; "{USAGE}");
+    }
+    cat_status(outcome)
+}
+
+fn run<N: Sink>(rt: &HostRuntime, words: &[Text], notes: &mut N) -> u8 {
+    let here = match here_given(rt, rt.alloc()) {
+        Ok(here) => here,
+        Err(stop) => return not_given(stop, notes),
+    };
+    let Ok(files) = rt.clone() else {
+        return nothing(Outcome::OutOfMemory, notes);
+    };
+    let mut host = RealHost::new(files);
+    let mut out = RealSink::new(rt.stdout());
+    let outcome = lrcat(
+        rt.alloc(),
+        words,
+        &here,
+        seconds(rt),
+        &mut host,
+        &mut out,
+        notes,
+    );
+    ended(rt, &outcome)
+}
+
+fn main(rt: HostRuntime) -> ExitCode {
+    let mut notes = RealSink::new(rt.stderr());
+    let words = match words_given(&rt, rt.alloc()) {
+        Ok(words) => words,
+        Err(stop) => return ExitCode::from(not_given(stop, &mut notes)),
+    };
+    if is_alone(&words, b"--help".as_slice()) {
+        let _ = print!(rt; "{USAGE}");
+        return ExitCode::from(0);
+    }
+    if is_alone(&words, b"--version".as_slice()) {
+        put_version(&rt, "lrcat");
+        return ExitCode::from(0);
+    }
+    ExitCode::from(run(&rt, &words, &mut notes))
+}
