@@ -8,6 +8,7 @@
 //! Behind the word `-machine` each word is a call on the machine, for which a line is printed.
 #![tactic(auto)]
 
+mod cat;
 mod machine;
 mod rows;
 mod tables;

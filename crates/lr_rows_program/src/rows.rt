@@ -2,7 +2,8 @@
 // host that is such a disk.
 //
 // A call of the program whose first word is `TZ=VALUE` is made in the zone that this value of the variable asks for, as in
-// a shell, and any other in UTC.
+// a shell, and any other in UTC. Where `lrcat` is the next word, that program is called in place of `logrotate`.
+use crate::cat::make_cat;
 use anyhow::{Result, anyhow};
 use lr_cli::{Outcome, Zone, logrotate, status};
 use lr_due::zone_of;
@@ -45,7 +46,15 @@ fn tells_out(outcome: &Outcome) -> bool {
     }
 }
 
-// Calls the program from the directory `/h`.
+// The words behind a program's name, where it is the first of them.
+fn words_behind<'a>(words: &'a [Text], name: &[u8]) -> Option<&'a [Text]> {
+    match words {
+        [first, ..] if first.bytes() == name => words.get(1..),
+        _ => None,
+    }
+}
+
+// Calls the program that the words name from the directory `/h`.
 fn make_call(
     alloc: Global,
     host: &mut MemHost,
@@ -54,6 +63,9 @@ fn make_call(
 ) -> Result<Made, Trouble> {
     let here = Path::new(alloc, b"/h")?;
     let (zone, words) = zone_and_words(alloc, &call.words)?;
+    if let Some(words) = words_behind(words, b"lrcat") {
+        return make_cat(alloc, host, words, &here, call.now, out);
+    }
     // What a disk in memory tells is the history of a disk.
     let _disk = host.journal();
     let outcome = logrotate(alloc, words, &here, &zone, call.now, host, out);
