@@ -1,14 +1,14 @@
 #!/bin/sh
-# Installs the program, its manual page, a systemd service with its daily timer, completion for bash, pages for administrators,
-# /etc/logrotate.conf, an empty /etc/logrotate.d and /var/lib/logrotate; or takes away again what it installed.
+# Installs the program and the one beside it, lrcat, their manual pages, a systemd service with its daily timer, completion for
+# bash, pages for administrators, /etc/logrotate.conf, an empty /etc/logrotate.d and /var/lib/logrotate; or takes it all away.
 #
 #     install.sh [--trial] [--as NAME] [PREFIX]       below PREFIX, which is /usr/local where none is given
 #     install.sh --uninstall [PREFIX]
 #
-# The program is that of the release which this script is part of. In the sources there is none: it is proved and built then,
-# or with --trial built without its proof, for a look. PROGRAM names another in place of these. `--as ninethread` gives it
-# another name than `logrotate`, so that it stands beside the distribution's. DESTDIR is put before each path, for a scratch
-# root or a package.
+# The programs are those of the release which this script is part of. In the sources there are none: they are proved and built
+# then, or with --trial built without their proofs, for a look. PROGRAM and CAT name others in place of these; where PROGRAM alone
+# does, lrcat is left out. `--as ninethread` gives the program another name than `logrotate`, so that it stands beside the
+# distribution's. DESTDIR is put before each path, for a scratch root or a package.
 #
 # No file that stands is overwritten, but one that this script installed and that is unchanged since. One that stands with
 # other bytes is left, and the new one is put beside it with `.new` behind its name. Each path is told in a line. What is
@@ -172,9 +172,9 @@ file() {
     fi
 }
 
-# ---- the program
+# ---- the programs
 
-# Without words it ends with 2.
+# Without words each ends with 2.
 runs_here() {
     status=0
     "$1" >/dev/null 2>&1 </dev/null || status=$?
@@ -185,31 +185,61 @@ need_toolchain() {
     command -v rt >/dev/null || fail "there is no program here, and no Rattle toolchain (rt) to build it: take a release, or name a program (PROGRAM=..)"
 }
 
-# Sets `program` to what is installed.
+# Proves and builds the program of this crate. Each other status than the program's own is that of a build that failed.
+prove() {
+    status=0
+    (cd "$here/crates/$1" && rt run -- >"$scratch/proved" 2>&1 </dev/null) || status=$?
+    [ "$status" = 2 ] || {
+        cat "$scratch/proved" >&2
+        fail "$1 was not built"
+    }
+}
+
+# Sets `program` to the one of this crate that is installed: the second word, where it names one; else that of the release; else
+# one that is built.
 choose_program() {
-    if [ -n "${PROGRAM:-}" ]; then
-        program=$(realpath "$PROGRAM")
+    if [ -n "$2" ]; then
+        program=$(realpath "$2")
     elif [ -n "$trial" ]; then
         need_toolchain
-        echo 'a trial build: not proved, with AddressSanitizer, 30 to 100 times slower, and without much memory it ends: for a look, not for a server'
-        program=$scratch/program
-        "$here/demo/build" "$program"
-    elif [ -f "$here/logrotate" ]; then
-        program=$here/logrotate
+        program=$scratch/$1
+        "$here/demo/build" "$program" "$1"
+    elif [ -f "$here/$1" ]; then
+        program=$here/$1
         if ! runs_here "$program" && [ -f "$program-static" ]; then
-            echo "the program needs a newer libc than this machine's, so the one that brings its own is taken"
+            echo "$1 needs a newer libc than this machine's, so the one that brings its own is taken"
             program=$program-static
         fi
     else
         need_toolchain
-        echo 'the program is proved and built: some seconds where this tree has passed the gate on this machine, else about an hour of four processors'
-        # Each other status than the program's own is that of a build that failed; demo/logrotate says why.
-        status=0
-        "$here/demo/logrotate" >/dev/null || status=$?
-        [ "$status" = 2 ] || fail 'the program was not built'
-        program=$here/crates/logrotate/out/logrotate
+        prove "$1"
+        program=$here/crates/$1/out/$1
     fi
     runs_here "$program" || fail "$program does not run on this machine"
+}
+
+# What a build is worth, or takes, where there has to be one.
+tell_build() {
+    if [ -n "${PROGRAM:-}" ]; then
+        :
+    elif [ -n "$trial" ]; then
+        echo 'a trial build: not proved, with AddressSanitizer, 30 to 100 times slower, and without much memory it ends: for a look, not for a server'
+    elif [ ! -f "$here/logrotate" ]; then
+        echo 'the programs are proved and built: some seconds where this tree has passed the gate on this machine, else about an hour of four processors'
+    fi
+}
+
+# Installs a program beside it, by the name of its crate, with its page and its completion; the other words are the one that is
+# named, its folder and its section. It is left out where PROGRAM is named and it isn't.
+install_other() {
+    if [ -n "${PROGRAM:-}" ] && [ -z "$2" ] && [ ! -f "$here/$1" ]; then
+        echo "left out $1, since only PROGRAM is named"
+        return
+    fi
+    choose_program "$1" "$2"
+    file "$program" "$prefix/$3/$1" 755
+    file "$here/man/$1.$4" "$prefix/share/man/man$4/$1.$4" 644
+    file "$here/completions/$1" "$prefix/share/bash-completion/completions/$1" 644
 }
 
 # The texts that have the program's name in them, under the one that it gets. Its messages begin with `logrotate` all the same.
@@ -253,7 +283,8 @@ install_all() {
     scratch=$(mktemp -d)
     trap 'rm -rf "$scratch"' EXIT
     trap 'exit 130' INT TERM HUP
-    choose_program
+    tell_build
+    choose_program logrotate "${PROGRAM:-}"
     name_texts
 
     [ -z "$root" ] || mkdir -p "$root"
@@ -262,6 +293,7 @@ install_all() {
     file "$program" "$prefix/sbin/$name" 755
     file "$scratch/page" "$prefix/share/man/man8/$name.8" 644
     file "$scratch/completion" "$prefix/share/bash-completion/completions/$name" 644
+    install_other lrcat "${CAT:-}" bin 1
     file "$scratch/service" "$prefix/lib/systemd/system/ninethread.service" 644
     file "$scratch/timer" "$prefix/lib/systemd/system/ninethread.timer" 644
     for page in docs/FAULTS.md docs/MOVING.md SECURITY.md CHANGELOG.md PROVED-BY; do
