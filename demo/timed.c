@@ -1,5 +1,5 @@
-// Runs a command, and adds a line to a file with its processor time and its time by the clock, in microseconds:
-// `timed FILE COMMAND..`. It ends with the command's status, or with 127.
+// Runs a command, and adds a line to a file with its processor time and its time by the clock, in microseconds, and the most memory
+// that it had at once, in kilobytes: `timed FILE COMMAND..`. It ends with the command's status, or with 127.
 #include <stdio.h>
 #include <sys/resource.h>
 #include <sys/wait.h>
@@ -26,6 +26,7 @@ int main(int count, char **words) {
     if (child < 0 || wait4(child, &status, 0, &used) != child) return 127;
     long took = clock_now() - before;
     FILE *file = fopen(words[1], "a");
-    if (!file || fprintf(file, "%ld %ld\n", spent(used.ru_utime) + spent(used.ru_stime), took) < 0 || fclose(file)) return 127;
+    long worked = spent(used.ru_utime) + spent(used.ru_stime);
+    if (!file || fprintf(file, "%ld %ld %ld\n", worked, took, used.ru_maxrss) < 0 || fclose(file)) return 127;
     return WIFEXITED(status) ? WEXITSTATUS(status) : 127;
 }
