@@ -1,0 +1,90 @@
+// The directories of logs and of their families.
+ghost use Rattle.std.specs.Prelude.{◌≡◌, ◌++◌, ◌∷◌, [], bytes_eq, map, IfOk, OnOk};
+ghost use Rattle.std.specs.Ordering.{nat_cmp};
+ghost use Rattle.std.specs.Cmp.Lexicographic.{slice_cmp};
+ghost use Rattle.std.specs.List.{flat_map};
+ghost use Rattle.std.specs.List.Sorted.{IsPermutation, IsSortedByKey};
+ghost use Rattle.lr_rules.specs.Path.{parent_of};
+ghost use Rattle.lr_audit.specs.Dirs.{family_dir, set_dirs, asked_dirs, AreDirs};
+
+use lr_plan::{LogLook, Looks, SetLooks};
+use lr_rules::{Memory, Path};
+use std::alloc::Global;
+use std::cmp::Ordering;
+
+fn by_bytes(a: &Path, b: &Path) -> Ordering
+    ensures { result ≡ slice_cmp nat_cmp a.now b.now }
+{
+    a.bytes().cmp(b.bytes())
+}
+
+/// Puts the paths in order of bytes.
+pub fn put_in_order(paths: &mut Vec<Path>)
+    ensures same { IsPermutation paths.old.items paths.new.items }
+    ensures rising { IsSortedByKey (λ path. path) (slice_cmp nat_cmp) paths.new.items }
+{
+    paths.sort_unstable_by(|a, b| by_bytes(a, b));
+}
+
+// Adds the directories of these logs.
+fn add_parents(alloc: Global, dirs: &mut Vec<Path>, logs: &[Path]) -> Result<(), Memory>
+    ensures { OnOk result (dirs.new.items ≡ dirs.old.items ++ map parent_of logs.now) }
+{
+    for log in logs {
+        dirs.push(log.parent(alloc)?)?;
+    }
+    Ok(())
+}
+
+// Adds the directory of a log's family, where that is there.
+fn add_family_dir(alloc: Global, dirs: &mut Vec<Path>, look: &LogLook) -> Result<(), Memory>
+    ensures { OnOk result (dirs.new.items ≡ dirs.old.items ++ family_dir look.now) }
+{
+    if look.stand.there {
+        dirs.push(look.family.naming().dir.copy(alloc)?)?;
+    }
+    Ok(())
+}
+
+fn add_set_dirs(alloc: Global, dirs: &mut Vec<Path>, looks: &[LogLook]) -> Result<(), Memory>
+    ensures { OnOk result (dirs.new.items ≡ dirs.old.items ++ flat_map family_dir looks.now) }
+{
+    for look in looks {
+        add_family_dir(alloc, dirs, look)?;
+    }
+    Ok(())
+}
+
+fn add_sets_dirs(alloc: Global, dirs: &mut Vec<Path>, sets: &[SetLooks]) -> Result<(), Memory>
+    ensures { OnOk result (dirs.new.items ≡ dirs.old.items ++ flat_map set_dirs sets.now) }
+{
+    for set in sets {
+        add_set_dirs(alloc, dirs, set.logs.as_slice())?;
+    }
+    Ok(())
+}
+
+fn are_same(a: &Path, b: &Path) -> bool
+    ensures { result ≡ bytes_eq a.now b.now }
+{
+    a.bytes() == b.bytes()
+}
+
+// The same, each once.
+fn each_once(dirs: &mut Vec<Path>)
+    ensures { AreDirs dirs.old.items dirs.new.items }
+{
+    put_in_order(dirs);
+    dirs.dedup_by(|a, b| are_same(a, b));
+}
+
+/// The directories of the logs that are kept, and of their families that were seen: each once, in order of bytes.
+pub fn dirs_of(alloc: Global, looks: &Looks) -> Result<Vec<Path>, Memory>
+    ensures { IfOk result (λ dirs. AreDirs (asked_dirs looks.now) dirs.items) }
+{
+    let mut dirs = Vec::new(alloc);
+    add_parents(alloc, &mut dirs, looks.kept.as_slice())?;
+    add_sets_dirs(alloc, &mut dirs, looks.sets.as_slice())?;
+    each_once(&mut dirs);
+    Ok(dirs)
+}

@@ -1,0 +1,36 @@
+//! What stands beside logs, and what the next forced run removes: an audit, which changes nothing.
+//!
+//! The contract above it: each regular file beside the logs is told as what the looks at these made of it, and what is told as
+//! going is what the plan of a forced run removes; what was seen is true of the disk. Begin with `lraudit`:
+//!
+//! ```text
+//! let outcome = lraudit(alloc, &words, &here, &Zone::Utc, now, &mut host, &mut out);
+//! let code = status(&outcome);   // 0 where the report has no fault
+//! ```
+#![tactic(auto)]
+
+mod auditing;
+mod dirs;
+mod files;
+mod gaps;
+mod knowing;
+mod known;
+mod laws;
+mod line;
+mod lines;
+mod removed;
+mod report;
+mod run;
+mod text;
+mod told;
+mod top;
+mod words;
+
+pub use auditing::audit_of;
+pub use laws::removals_are_foretold;
+pub use line::{Audit, Line, What, Why};
+pub use lr_due::{Zone, zone_of};
+pub use lr_report::{Outcome, Report, status};
+pub use told::Told;
+pub use top::lraudit;
+pub use words::{Wanted, wanted_of};

@@ -1,0 +1,102 @@
+// What a call prints, and the report that it answers.
+ghost use Rattle.std.specs.Prelude.{◌≡◌, ◌≤◌, ◌<◌, ◌+◌, ◌++◌, ◌∷◌, [], Ok, IfOk, OnErr, OnOk, vec_len, vec_capacity};
+ghost use Rattle.lr_rules.specs.declared.fault.Fault.TheVariants as fault;
+ghost use Rattle.lr_report.specs.Lines.{lines};
+ghost use Rattle.lr_shown.specs.Puts.{Puts};
+ghost use Rattle.lr_audit.specs.Came.{answer_of, audit_told};
+ghost use Rattle.lr_audit.specs.Says.{with_out, text_told, said_text, Answers};
+
+use crate::line::Audit;
+use crate::text::put_audit;
+use crate::told::Told;
+use lr_host::{Sink, SinkFault};
+use lr_report::{Outcome, Report, printed, put_lines};
+use lr_rules::{Fault, Listed, Memory, Notice};
+
+// Puts the text of an audit, where there is one.
+fn put_told_audit<K: Sink>(audit: &Option<Audit>, out: &mut K) -> Result<(), SinkFault>
+    ensures { Puts (text_told audit.now) result (K.taken out.old) (K.taken out.new) (K.faults out.old) (K.faults out.new) }
+{
+    match audit {
+        Some(audit) => put_audit(audit, out),
+        None => Ok(()),
+    }
+}
+
+// Puts the lines of what else there is to say.
+fn put_said_lines<K: Sink>(told: &Told, out: &mut K) -> Result<(), SinkFault>
+    ensures { Puts (lines told.now.notices told.now.faults.items) result (K.taken out.old) (K.taken out.new) (K.faults out.old)
+        (K.faults out.new) }
+{
+    put_lines(told.notices.as_slice(), &told.faults, out)
+}
+
+// Puts all of it.
+fn put_told<K: Sink>(told: &Told, out: &mut K) -> Result<(), SinkFault>
+    ensures { Puts (text_told told.now.audit ++ lines told.now.notices told.now.faults.items) result (K.taken out.old)
+        (K.taken out.new) (K.faults out.old) (K.faults out.new) }
+{
+    put_told_audit(&told.audit, out)?;
+    put_said_lines(told, out)
+}
+
+fn report_of(notices: Listed<Notice>, faults: Vec<Fault>) -> Outcome
+    ensures { result ≡ Outcome.Done (record { notices = notices; faults = faults.items }) }
+{
+    Outcome::Done(Report {
+        notices,
+        faults: Listed::from_vec(faults),
+    })
+}
+
+// The report with `Out` behind these faults, for which there is room.
+fn report_with_out(notices: Listed<Notice>, faults: Vec<Fault>) -> Outcome
+    requires { vec_len faults < vec_capacity faults }
+    ensures { result ≡ Outcome.Done (record { notices = notices; faults = faults.items ++ fault.Out ∷ [] }) }
+{
+    let mut faults = faults;
+    faults.push_reserved(Fault::Out);
+    report_of(notices, faults)
+}
+
+// The report of what was told, of which all was put, or a first part, where the output failed.
+fn report_after(put: Result<(), SinkFault>, told: Told) -> Outcome
+    requires { vec_len told.faults < vec_capacity told.faults }
+    ensures whole { OnOk put (result ≡ answer_of (Ok told)) }
+    ensures out { OnErr put (result ≡ with_out (answer_of (Ok told))) }
+{
+    let Told {
+        notices,
+        faults,
+        ..
+    } = told;
+    match put {
+        Ok(()) => report_of(notices, faults),
+        Err(_) => report_with_out(notices, faults),
+    }
+}
+
+// The report of what was told, all of which is put.
+fn report<K: Sink>(told: Told, out: &mut K) -> Outcome
+    requires { vec_len told.faults < vec_capacity told.faults }
+    ensures answers { Answers (said_text told.audit (answer_of (Ok told))) (answer_of (Ok told)) result (K.taken out.old)
+        (K.taken out.new) (K.faults out.old) (K.faults out.new) }
+    ensures counts { K.faults out.old ≤ K.faults out.new }
+{
+    let put = put_told(&told, out);
+    report_after(put, told)
+}
+
+/// The answer of a call that told this, or found no memory, printed with the text of its audit. There is room for `Out`, so
+/// no memory is taken here.
+pub fn finish<K: Sink>(run: Result<Told, Memory>, out: &mut K) -> Outcome
+    requires { IfOk run (λ told. vec_len told.faults + 1 ≤ vec_capacity told.faults) }
+    ensures answers { Answers (said_text (audit_told run) (answer_of run)) (answer_of run) result (K.taken out.old)
+        (K.taken out.new) (K.faults out.old) (K.faults out.new) }
+    ensures counts { K.faults out.old ≤ K.faults out.new }
+{
+    match run {
+        Ok(told) => report(told, out),
+        Err(_) => printed(Outcome::OutOfMemory, out),
+    }
+}

@@ -1,0 +1,11 @@
+// What an audit by a configuration came to.
+use crate::line::Audit;
+use lr_rules::{Fault, Listed, Notice};
+
+/// The audit, None where there was no clock; and what there is to say besides.
+#[derive(Drop)]
+pub struct Told {
+    pub audit: Option<Audit>,
+    pub notices: Listed<Notice>,
+    pub faults: Vec<Fault>,
+}
