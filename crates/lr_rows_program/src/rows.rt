@@ -2,9 +2,10 @@
 // host that is such a disk.
 //
 // A call of the program whose first word is `TZ=VALUE` is made in the zone that this value of the variable asks for, as in
-// a shell, and any other in UTC. Where `lrcat` is the next word, that program is called in place of `logrotate`.
+// a shell, and any other in UTC. Where `lrcat` or `lraudit` is the next word, that program is called in place of `logrotate`.
 use crate::cat::make_cat;
 use anyhow::{Result, anyhow};
+use lr_audit::lraudit;
 use lr_cli::{Outcome, Zone, logrotate, status};
 use lr_due::zone_of;
 use lr_host::Sink;
@@ -68,7 +69,10 @@ fn make_call(
     }
     // What a disk in memory tells is the history of a disk.
     let _disk = host.journal();
-    let outcome = logrotate(alloc, words, &here, &zone, call.now, host, out);
+    let outcome = match words_behind(words, b"lraudit") {
+        Some(words) => lraudit(alloc, words, &here, &zone, call.now, host, out),
+        None => logrotate(alloc, words, &here, &zone, call.now, host, out),
+    };
     Ok(Made {
         status: status(&outcome),
         tells_out: tells_out(&outcome),
