@@ -1,14 +1,15 @@
 #!/bin/sh
-# Installs the program and the one beside it, lrcat, their manual pages, a systemd service with its daily timer, completion for
-# bash, pages for administrators, /etc/logrotate.conf, an empty /etc/logrotate.d and /var/lib/logrotate; or takes it all away.
+# Installs the program and those beside it, lrcat and lraudit, their manual pages, a systemd service with its daily timer,
+# completion for bash, pages for administrators, /etc/logrotate.conf, an empty /etc/logrotate.d and /var/lib/logrotate; or takes
+# away again what it installed.
 #
 #     install.sh [--trial] [--as NAME] [PREFIX]       below PREFIX, which is /usr/local where none is given
 #     install.sh --uninstall [PREFIX]
 #
 # The programs are those of the release which this script is part of. In the sources there are none: they are proved and built
-# then, or with --trial built without their proofs, for a look. PROGRAM and CAT name others in place of these; where PROGRAM alone
-# does, lrcat is left out. `--as ninethread` gives the program another name than `logrotate`, so that it stands beside the
-# distribution's. DESTDIR is put before each path, for a scratch root or a package.
+# then, or with --trial built without their proofs, for a look. PROGRAM, CAT and AUDIT name others in place of these; where PROGRAM
+# is named, one of the others that isn't is left out. `--as ninethread` gives the program another name than `logrotate`, so that it
+# stands beside the distribution's. DESTDIR is put before each path, for a scratch root or a package.
 #
 # No file that stands is overwritten, but one that this script installed and that is unchanged since. One that stands with
 # other bytes is left, and the new one is put beside it with `.new` behind its name. Each path is told in a line. What is
@@ -21,7 +22,7 @@ umask 022
 here=$(cd "$(dirname "$0")" && pwd)
 
 usage() {
-    sed -n '5,6s/^# *//p' "$here/install.sh"
+    sed -n '6,7s/^# *//p' "$here/install.sh"
 }
 
 refuse() {
@@ -233,7 +234,7 @@ tell_build() {
 # named, its folder and its section. It is left out where PROGRAM is named and it isn't.
 install_other() {
     if [ -n "${PROGRAM:-}" ] && [ -z "$2" ] && [ ! -f "$here/$1" ]; then
-        echo "left out $1, since only PROGRAM is named"
+        echo "left out $1, since PROGRAM is named and it isn't"
         return
     fi
     choose_program "$1" "$2"
@@ -294,6 +295,7 @@ install_all() {
     file "$scratch/page" "$prefix/share/man/man8/$name.8" 644
     file "$scratch/completion" "$prefix/share/bash-completion/completions/$name" 644
     install_other lrcat "${CAT:-}" bin 1
+    install_other lraudit "${AUDIT:-}" sbin 8
     file "$scratch/service" "$prefix/lib/systemd/system/ninethread.service" 644
     file "$scratch/timer" "$prefix/lib/systemd/system/ninethread.timer" 644
     for page in docs/FAULTS.md docs/MOVING.md SECURITY.md CHANGELOG.md PROVED-BY; do
