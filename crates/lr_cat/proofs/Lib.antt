@@ -1,6 +1,5 @@
 pub mod Answering
 pub mod Calling
-pub mod FailedCalls
 pub mod Giving
 pub mod Keeping
 pub mod Lasting

@@ -1,12 +1,10 @@
 pub mod Clearing
 pub mod Dirs
-pub mod Hindering
 pub mod Jobs
 pub mod Long
 pub mod Making
 pub mod Naming
 pub mod Once
-pub mod Sighted
 pub mod Smooth
 pub mod Stale
 pub mod Steps
