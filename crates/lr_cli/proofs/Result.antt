@@ -297,9 +297,9 @@ still_aside x _ s = absurd s
 still_may : (state : Path) (IsText : List ℕ → Type 0) (ts : List Entry) → AreStill ts → MayRenew state IsText ts
 still_may state IsText ts still = left_alone (each_as IsStill (IsAsideOf state) ts (still_aside state) still)
 
-ends_may : (request : Request) (zone : Zone) (seconds : ℤ) (plan : Option Plan) (outcome : Outcome) (came : Option Came) (ts : List Entry) → AreMade ts → CallEnds request zone seconds plan outcome came ts → MayRenew request.settings.state (IsTextOf came) ts
-ends_may request zone seconds plan outcome came ts made (halted none lost h) = still_may request.settings.state (IsTextOf came) ts (halt_still request zone seconds outcome ts h)
-ends_may request zone seconds plan outcome came ts made (called c some s e is) = subst (λ (x : Option Came). MayRenew request.settings.state (IsTextOf x) ts) (sym some) (subst (MayRenew request.settings.state (IsTextOf (Some c))) (sym is) (go request.settings.debug refl outcome e))
+ends_may : (request : Request) (zone : Zone) (seconds : ℤ) (plan : Option Plan) (outcome : Outcome) (came : Option Came) (ts : List Entry) → AreMade ts → CallEnds request zone seconds plan outcome came ts → MayRenew request.settings.state (IsTextOf request.settings.debug outcome came) ts
+ends_may request zone seconds plan outcome came ts made (halted none lost h) = still_may request.settings.state (IsTextOf request.settings.debug outcome came) ts (halt_still request zone seconds outcome ts h)
+ends_may request zone seconds plan outcome came ts made (called c some s e is) = subst (λ (x : Option Came). MayRenew request.settings.state (IsTextOf request.settings.debug outcome x) ts) (sym some) (subst (MayRenew request.settings.state (IsTextOf request.settings.debug outcome (Some c))) (sym is) (go request.settings.debug refl outcome e))
   where
     state : Path
     state = request.settings.state
@@ -316,19 +316,19 @@ ends_may request zone seconds plan outcome came ts made (called c some s e is) =
     shows : request.settings.debug ≡ false → ShowsWork false state c.rules.sets c.clock (asked_by request) c.work
     shows acts = subst (λ (b : Bool). ShowsWork b state c.rules.sets c.clock (asked_by request) c.work) acts s.confs.work
 
-    go : (b : Bool) → request.settings.debug ≡ b → (o : Outcome) → Ends b request c plan o → MayRenew state (IsTextOf (Some c)) (call_entries request c)
-    go true dry (Done report) e = quiet_alone state (IsTextOf (Some c)) (call_entries request c) (dry_quiet request zone seconds c dry s)
-    go false acts (Done report) e = subst (MayRenew state (IsTextOf (Some c))) (sym (parts false acts)) (may_behind state (IsTextOf (Some c)) (IsTextOf (Some c)) (λ text t. t) front (run_entries false state c.clock c.rules c.work) (front_quiet request zone seconds c s)
+    go : (b : Bool) → request.settings.debug ≡ b → (o : Outcome) → Ends b request c plan o → MayRenew state (IsTextOf b o (Some c)) (call_entries request c)
+    go true dry (Done report) e = quiet_alone state (IsTextOf true (Done report) (Some c)) (call_entries request c) (dry_quiet request zone seconds c dry s)
+    go false acts (Done report) e = subst (MayRenew state (IsTextOf false (Done report) (Some c))) (sym (parts false acts)) (may_behind state (IsTextOf false (Done report) (Some c)) (IsTextOf false (Done report) (Some c)) (λ text t. t) front (run_entries false state c.clock c.rules c.work) (front_quiet request zone seconds c s)
         (carried_may state c.rules c.clock (asked_by request) c.work (shows acts) e.1 (run_made acts)))
-    go false acts OutOfMemory e = subst (MayRenew state (IsTextOf (Some c))) (sym (parts false acts)) (may_behind state (IsTextOf (Some c)) (IsTextOf (Some c)) (λ text t. t) front (run_entries false state c.clock c.rules c.work) (front_quiet request zone seconds c s)
-        (broken_may state c.rules c.clock (asked_by request) c.work (shows acts) e.1 (IsTextOf (Some c)) (run_made acts)))
+    go false acts OutOfMemory e = subst (MayRenew state (IsTextOf false OutOfMemory (Some c))) (sym (parts false acts)) (may_behind state (IsTextOf false OutOfMemory (Some c)) (IsTextOf false OutOfMemory (Some c)) (λ text t. t) front (run_entries false state c.clock c.rules c.work) (front_quiet request zone seconds c s)
+        (broken_may state c.rules c.clock (asked_by request) c.work (shows acts) e.1 (IsTextOf false OutOfMemory (Some c)) (run_made acts)))
     go _ dry _ e = absurd e
 
-pub came_whole : (here : Path) (words : List (List ℕ)) (zone : Zone) (seconds : ℤ) (plan : Option Plan) (outcome : Outcome) (came : Option Came) {o n : Option Journal} → Left (CallShows here words zone seconds plan outcome came) o n → (request : Request) → AskFor here words request → KeepsWhole request.settings.state (λ ts text. IsTextOf came text) o n
-came_whole here words zone seconds plan outcome came l request asks = left_whole request.settings.state (λ ts text. IsTextOf came text) (CallShows here words zone seconds plan outcome came) l go
+pub came_whole : (here : Path) (words : List (List ℕ)) (zone : Zone) (seconds : ℤ) (plan : Option Plan) (outcome : Outcome) (came : Option Came) {o n : Option Journal} → Left (CallShows here words zone seconds plan outcome came) o n → (request : Request) → AskFor here words request → KeepsWhole request.settings.state (λ ts text. IsTextOf request.settings.debug outcome came text) o n
+came_whole here words zone seconds plan outcome came l request asks = left_whole request.settings.state (λ ts text. IsTextOf request.settings.debug outcome came text) (CallShows here words zone seconds plan outcome came) l go
   where
-    go : (ts : List Entry) → AreMade ts → CallShows here words zone seconds plan outcome came ts → MayRenew request.settings.state (IsTextOf came) ts
-    go ts made (not_read none lost which empty) = still_may request.settings.state (IsTextOf came) ts (subst AreStill (sym empty) tt)
+    go : (ts : List Entry) → AreMade ts → CallShows here words zone seconds plan outcome came ts → MayRenew request.settings.state (IsTextOf request.settings.debug outcome came) ts
+    go ts made (not_read none lost which empty) = still_may request.settings.state (IsTextOf request.settings.debug outcome came) ts (subst AreStill (sym empty) tt)
     go ts made (read other asked e) = ends_may request zone seconds plan outcome came ts made (subst (λ (r : Request). CallEnds r zone seconds plan outcome came ts) (same_request here words other request asked asks) e)
 
 -- ---- the logs that are emptied

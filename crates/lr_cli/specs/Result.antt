@@ -1,5 +1,5 @@
 -- What a call makes of the disk, by what it came to.
-use Rattle.std.specs.Prelude.{◌≡◌, ◌≤◌, ◌+◌, ℕ, List, [], ◌++◌, Option, Some, None, true, false}
+use Rattle.std.specs.Prelude.{◌≡◌, ◌≤◌, ◌+◌, ℕ, Bool, List, [], ◌++◌, Option, Some, None, true, false}
 use Rattle.lr_rules.specs.declared.path.Path.{Path}
 use Rattle.lr_host.specs.declared.journal.Journal.{Journal}
 use Rattle.lr_host.specs.Told.{Counts}
@@ -88,11 +88,11 @@ pub record IsCalled (request : Request) (c : Came) (outcome : Outcome) (counted 
 
 -- ---- at each moment of a call
 
--- The text is the new one of the state, by what the call came to: that which it read, brought up to its clock by the logs that its
--- acts rotated.
-abbrev pub IsTextOf : Option Came → List ℕ → Type 0
-IsTextOf None text = ⊥
-IsTextOf (Some c) text = text ≡ text_by c.work.saw c.clock (rotated_logs c.work.acts.marks)
+-- The text is the new one of the state, by what a call, dry or not, came to and answers: that which it read, brought up to its clock
+-- by the logs that its acts rotated. One that is dry or has no report writes none.
+abbrev pub IsTextOf : Bool → Outcome → Option Came → List ℕ → Type 0
+IsTextOf false (Done report) (Some c) text = text ≡ text_by c.work.saw c.clock (rotated_logs c.work.acts.marks)
+IsTextOf debug outcome came text = ⊥
 
 -- One of the rules that it read asks for the copy, and the clock gives its name.
 abbrev pub IsCopyIn : Option Came → Job → Type 0

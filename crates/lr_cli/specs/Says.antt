@@ -54,9 +54,9 @@ pub record Says (here : Path) (words : List (List ℕ)) (zone : Zone) (seconds :
   -- one that ended before its plan left the disk as it was, and says why
   pub ended : came ≡ None → Left (EndsBefore here words zone (without_out outcome)) told later
   -- the state file that the words ask for is the old one or the new one, whole, at each moment of the call and after each cut that
-  -- the machine may make then
+  -- the machine may make then; the old one, where the call is dry or has no report
   pub state : (request : Request) → AskFor here words request
-      → KeepsWhole request.settings.state (λ ts text. IsTextOf came text) told later
+      → KeepsWhole request.settings.state (λ ts text. IsTextOf request.settings.debug (without_out outcome) came text) told later
   -- just before a log is emptied, its copy has the newest member's path, with all bytes that the log had as it was last read
   pub copied : EmptiesWhole (IsCopyIn came) told later
   -- what was printed of the plan, and of the answer
