@@ -9,7 +9,7 @@ use Rattle.lr_rules.specs.declared.memory.Memory.{Memory}
 use Rattle.lr_rules.specs.declared.path.Path.{Path}
 use Rattle.lr_rules.specs.Path.{cleaned}
 use Rattle.lr_rules.specs.StatePath.{can_be_state}
-use Rattle.lr_command.specs.Words.{may_be_path}
+use Rattle.lr_command.specs.Words.{has_state, may_be_path, state_by}
 use Rattle.lr_host.specs.declared.journal.Journal.{Journal}
 use Rattle.lr_host.specs.Quiet.{AreQuiet}
 use Rattle.lr_host.specs.Opening.{IsJournal}
@@ -29,7 +29,7 @@ use Rattle.lr_audit.specs.declared.words.Wanted.{Wanted}
 use Rattle.lr_audit.specs.Came.{Came, answer_of, audit_told, CallEnds, CallShows, not_read, read}
 use Rattle.lr_audit.specs.Internal.{CameTo}
 use Rattle.lr_audit.specs.Says.{said_text, with_out, Answers, WhereDone, Says}
-use Rattle.lr_audit.specs.Words.{are_names, has_state, state_by, wanted, wanted_behind, wanted_by}
+use Rattle.lr_audit.specs.Words.{are_names, wanted, wanted_behind, wanted_by}
 use Rattle.lr_audit.proofs.Answering.{line_answers, where_done, not_bad, out_rose}
 use Rattle.lr_audit.proofs.Seeing.{ends_truly}
 use Rattle.lr_audit.proofs.Still.{ends_quiet}

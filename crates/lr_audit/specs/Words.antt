@@ -1,34 +1,16 @@
 -- What the words of the command line want: `[-s FILE] CONF..`.
-use Rattle.std.specs.Prelude.{ℕ, Bool, false, not, ◌&&◌, ◌==◌, List, [], ◌∷◌, map, bytes_eq, codes, Option, Some, None}
+use Rattle.std.specs.Prelude.{ℕ, Bool, false, ◌&&◌, List, [], ◌∷◌, map, bytes_eq, codes, Option, Some, None}
 use Rattle.std.specs.Prelude.{if◌then◌else◌}
 use Rattle.std.specs.List.{list_all}
 use Rattle.lr_rules.specs.declared.path.Path.{Path}
 use Rattle.lr_rules.specs.Path.{cleaned}
-use Rattle.lr_rules.specs.StatePath.{can_be_state}
-use Rattle.lr_command.specs.Words.{is_path, may_be_path, path_or}
+use Rattle.lr_command.specs.Words.{has_state, is_name, state_by}
 use Rattle.lr_audit.specs.declared.words.Wanted.{Wanted}
 
--- the word begins as an option does
-abbrev pub is_option : List ℕ → Bool
-is_option [] = false
-is_option (b ∷ bs) = b == 45
-
--- the word names a path, and is no option
-abbrev pub is_name : Path → List ℕ → Bool
-is_name here word = not (is_option word) && is_path here word
-
--- each of the words does, and there is one at least
+-- each of the words names a path, and is no option; and there is one at least
 abbrev pub are_names : Path → List (List ℕ) → Bool
 are_names here [] = false
 are_names here (word ∷ words) = list_all (is_name here) (word ∷ words)
-
--- the path of the state file: what FILE names, else the program's own
-abbrev pub state_by : Path → Option (List ℕ) → Path
-state_by here file = path_or here (codes "/var/lib/logrotate/status") file
-
--- a state file may have this path
-abbrev pub has_state : Path → Option (List ℕ) → Bool
-has_state here file = may_be_path here file && can_be_state (state_by here file)
 
 -- what is wanted, where each path can be what it is wanted as
 abbrev pub wanted_by : Path → Option (List ℕ) → List (List ℕ) → Option Wanted

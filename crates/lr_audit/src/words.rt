@@ -2,10 +2,10 @@
 ghost use Rattle.std.specs.Prelude.{◌≡◌, ◌++◌, ◌∷◌, [], true, false, map, IfOk, OnOk, Some, None, option_map};
 ghost use Rattle.std.specs.List.{list_all};
 ghost use Rattle.lr_rules.specs.Path.{cleaned};
-ghost use Rattle.lr_rules.specs.StatePath.{can_be_state};
-ghost use Rattle.lr_audit.specs.Words.{are_names, has_state, is_name, is_option, state_by, wanted, wanted_behind, wanted_by};
+ghost use Rattle.lr_command.specs.Words.{is_name};
+ghost use Rattle.lr_audit.specs.Words.{are_names, wanted, wanted_behind, wanted_by};
 
-use lr_command::{WordsFault, can_be_state, path_of, path_or};
+use lr_command::{WordsFault, name_of, state_of};
 use lr_rules::{Listed, Path, Text};
 use std::alloc::Global;
 
@@ -16,28 +16,7 @@ pub struct Wanted {
     pub confs: Listed<Path>,
 }
 
-fn is_option(word: &[u8]) -> bool
-    ensures { result ≡ is_option word.now }
-{
-    match word {
-        [] => false,
-        [first, ..] => *first == b'-',
-    }
-}
-
-// The path that the word names, which is no option.
-fn name_of(alloc: Global, here: &Path, word: &Text) -> Result<Path, WordsFault>
-    ensures path { IfOk result (λ path. path ≡ cleaned here.now word.now) }
-    ensures is_name { IfOk result (λ path. is_name here.now word.now ≡ true) }
-    ensures refused { result ≡ Err WordsFault.Refused → is_name here.now word.now ≡ false }
-{
-    if is_option(word.bytes()) {
-        return Err(WordsFault::Refused);
-    }
-    path_of(alloc, here, word.as_str())
-}
-
-// Adds the path that the word names.
+// Adds the path that the word names, which is no option.
 fn add_name(
     alloc: Global,
     here: &Path,
@@ -78,19 +57,6 @@ fn confs_of(alloc: Global, here: &Path, words: &[Text]) -> Result<Listed<Path>, 
         return Err(WordsFault::Refused);
     }
     names_of(alloc, here, words)
-}
-
-fn state_of(alloc: Global, here: &Path, file: Option<&str>) -> Result<Path, WordsFault>
-    ensures path { IfOk result (λ path. path ≡ state_by here.now (option_map (λ s. s.now) file.entry)) }
-    ensures has_state { IfOk result (λ path. has_state here.now (option_map (λ s. s.now) file.entry) ≡ true) }
-    ensures refused { result ≡ Err WordsFault.Refused → has_state here.now (option_map (λ s. s.now) file.entry) ≡ false }
-{
-    let path = path_or(alloc, here, b"/var/lib/logrotate/status", file)?;
-    if can_be_state(&path) {
-        Ok(path)
-    } else {
-        Err(WordsFault::Refused)
-    }
 }
 
 fn wanted_by(

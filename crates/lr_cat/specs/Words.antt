@@ -1,20 +1,10 @@
 -- What the words of the command line want: `[-s FILE] CONF LOG`.
-use Rattle.std.specs.Prelude.{ℕ, Bool, false, not, ◌&&◌, ◌==◌, List, [], ◌∷◌, length, nat_le, bytes_eq, codes, Option, Some, None}
+use Rattle.std.specs.Prelude.{ℕ, Bool, ◌&&◌, List, [], ◌∷◌, length, nat_le, bytes_eq, codes, Option, Some, None}
 use Rattle.std.specs.Prelude.{if◌then◌else◌}
 use Rattle.lr_rules.specs.declared.path.Path.{Path}
 use Rattle.lr_rules.specs.Path.{cleaned, last_of}
-use Rattle.lr_rules.specs.StatePath.{can_be_state}
-use Rattle.lr_command.specs.Words.{is_path, may_be_path, path_or}
+use Rattle.lr_command.specs.Words.{has_state, is_name, state_by}
 use Rattle.lr_cat.specs.declared.words.Wanted.{Wanted}
-
--- the word begins as an option does
-abbrev pub is_option : List ℕ → Bool
-is_option [] = false
-is_option (b ∷ bs) = b == 45
-
--- the word names a path, and is no option
-abbrev pub is_name : Path → List ℕ → Bool
-is_name here word = not (is_option word) && is_path here word
 
 -- what a log's path may be: at most 2,048 bytes, and a last part of 1 to 255
 abbrev pub can_be_log : List ℕ → Bool
@@ -23,14 +13,6 @@ can_be_log path = nat_le (length path) 2048 && (nat_le 1 (length (last_of path))
 -- LOG names a path that a log may have
 abbrev pub has_log : Path → List ℕ → Bool
 has_log here log = is_name here log && can_be_log (cleaned here log)
-
--- the path of the state file: what FILE names, else the program's own
-abbrev pub state_by : Path → Option (List ℕ) → Path
-state_by here file = path_or here (codes "/var/lib/logrotate/status") file
-
--- a state file may have this path
-abbrev pub has_state : Path → Option (List ℕ) → Bool
-has_state here file = may_be_path here file && can_be_state (state_by here file)
 
 -- what is wanted, where each path can be what it is wanted as
 abbrev pub wanted_by : Path → Option (List ℕ) → List ℕ → List ℕ → Option Wanted

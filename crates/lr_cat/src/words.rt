@@ -1,11 +1,10 @@
 // What the words of the command line want.
-ghost use Rattle.std.specs.Prelude.{◌≡◌, ◌&&◌, ◌∷◌, [], true, false, IfOk, Some, None, option_map};
+ghost use Rattle.std.specs.Prelude.{◌≡◌, ◌∷◌, [], true, false, IfOk, Some, None, option_map};
 ghost use Rattle.lr_rules.specs.Path.{cleaned};
-ghost use Rattle.lr_rules.specs.StatePath.{can_be_state};
-ghost use Rattle.lr_command.specs.Words.{may_be_path};
-ghost use Rattle.lr_cat.specs.Words.{can_be_log, has_log, has_state, is_name, is_option, state_by, wanted, wanted_by};
+ghost use Rattle.lr_command.specs.Words.{is_name};
+ghost use Rattle.lr_cat.specs.Words.{can_be_log, has_log, wanted, wanted_by};
 
-use lr_command::{WordsFault, can_be_state, path_of, path_or};
+use lr_command::{WordsFault, name_of, state_of};
 use lr_rules::{Listed, Path, Text};
 use std::alloc::Global;
 
@@ -17,27 +16,6 @@ pub struct Wanted {
     /// The one configuration.
     pub confs: Listed<Path>,
     pub log: Path,
-}
-
-fn is_option(word: &[u8]) -> bool
-    ensures { result ≡ is_option word.now }
-{
-    match word {
-        [] => false,
-        [first, ..] => *first == b'-',
-    }
-}
-
-// The path that the word names, which is no option.
-fn name_of(alloc: Global, here: &Path, word: &Text) -> Result<Path, WordsFault>
-    ensures path { IfOk result (λ path. path ≡ cleaned here.now word.now) }
-    ensures is_name { IfOk result (λ path. is_name here.now word.now ≡ true) }
-    ensures refused { result ≡ Err WordsFault.Refused → is_name here.now word.now ≡ false }
-{
-    if is_option(word.bytes()) {
-        return Err(WordsFault::Refused);
-    }
-    path_of(alloc, here, word.as_str())
 }
 
 // The configuration that the word names, as the only one.
@@ -69,19 +47,6 @@ fn log_of(alloc: Global, here: &Path, word: &Text) -> Result<Path, WordsFault>
 {
     let path = name_of(alloc, here, word)?;
     if can_be_log(&path) {
-        Ok(path)
-    } else {
-        Err(WordsFault::Refused)
-    }
-}
-
-fn state_of(alloc: Global, here: &Path, file: Option<&str>) -> Result<Path, WordsFault>
-    ensures path { IfOk result (λ path. path ≡ state_by here.now (option_map (λ s. s.now) file.entry)) }
-    ensures has_state { IfOk result (λ path. has_state here.now (option_map (λ s. s.now) file.entry) ≡ true) }
-    ensures refused { result ≡ Err WordsFault.Refused → has_state here.now (option_map (λ s. s.now) file.entry) ≡ false }
-{
-    let path = path_or(alloc, here, b"/var/lib/logrotate/status", file)?;
-    if can_be_state(&path) {
         Ok(path)
     } else {
         Err(WordsFault::Refused)

@@ -1,13 +1,13 @@
 -- What was found asks for a request, or for none.
-use Rattle.std.proofs.Common.{◌≡◌, ◌∙◌, ◌&&◌, ℕ, Bool, true, false, List, Some, None, refl, sym, ap, subst, codes, IfOk, Result, Ok, Err}
+use Rattle.std.proofs.Common.{◌≡◌, ◌∙◌, ◌&&◌, ℕ, Bool, true, false, List, Some, None, refl, sym, ap, subst, IfOk, Result, Ok, Err}
 use Rattle.std.specs.Prelude.{if◌then◌else◌}
 use Rattle.std.proofs.Math.Bool.{Bool-set}
 use Rattle.clap.specs.Words.{Row}
 use Rattle.lr_rules.specs.declared.path.Path.{Path}
 use Rattle.lr_rules.specs.StatePath.{can_be_state}
 use Rattle.lr_command.specs.declared.request.Request.{Request}
-use Rattle.lr_command.specs.Command.{are_taken, found_in, value_of}
-use Rattle.lr_command.specs.Words.{are_paths, asked, confs_in, has_confs, has_mailer, has_state, mailer_in, may_be_path, request_if, request_in, request_where, settings_with, state_in}
+use Rattle.lr_command.specs.Command.{are_taken, found_in}
+use Rattle.lr_command.specs.Words.{are_paths, asked, confs_in, has_confs, has_mailer, has_state, mailer_in, may_be_path, request_if, request_in, request_where, settings_with, state_in, state_value}
 
 -- the request with the settings of this state file is the one of what was found
 pub request_is : (here : Path) (found : List Row) (state mailer : Path) (confs : List Path) (fits : can_be_state state ≡ true) → state ≡ state_in here found → mailer ≡ mailer_in here found → confs ≡ confs_in here found
@@ -29,8 +29,8 @@ all_true true false c d x y z = absurd (cc)
 all_true false b c d x y z = absurd (cc)
 
 -- each path is one and the state file can have its own: it asks for the request of it
-pub asks : (here : Path) (found : List Row) (fits : can_be_state (state_in here found) ≡ true) → has_state here found ≡ true → has_mailer here found ≡ true → has_confs here found ≡ true → request_where here found ≡ Some (request_in here found fits)
-asks here found fits s m c = some_if here found (can_be_state (state_in here found)) (are_paths here found) refl fits (all_true (may_be_path here (value_of (codes "state") found)) (can_be_state (state_in here found)) _ _ s m c)
+pub asks : (here : Path) (found : List Row) (fits : can_be_state (state_in here found) ≡ true) → has_state here (state_value found) ≡ true → has_mailer here found ≡ true → has_confs here found ≡ true → request_where here found ≡ Some (request_in here found fits)
+asks here found fits s m c = some_if here found (can_be_state (state_in here found)) (are_paths here found) refl fits (all_true (may_be_path here (state_value found)) (can_be_state (state_in here found)) _ _ s m c)
 
 none_if : (here : Path) (found : List Row) (b p : Bool) (is : can_be_state (state_in here found) ≡ b) → (b && p) ≡ false → request_if here found b p is ≡ None
 none_if here found true true is e = absurd (cc)
@@ -49,15 +49,15 @@ no_path false true p e = refl
 no_path false false p e = refl
 
 -- the state file can't: it asks for none
-pub asks_none : (here : Path) (found : List Row) → has_state here found ≡ false → request_where here found ≡ None
-asks_none here found s = none_if here found (can_be_state (state_in here found)) (are_paths here found) refl (no_state (may_be_path here (value_of (codes "state") found)) _ _ s)
+pub asks_none : (here : Path) (found : List Row) → has_state here (state_value found) ≡ false → request_where here found ≡ None
+asks_none here found s = none_if here found (can_be_state (state_in here found)) (are_paths here found) refl (no_state (may_be_path here (state_value found)) _ _ s)
 
 -- another path is none
 pub asks_no_path : (here : Path) (found : List Row) → (has_mailer here found && has_confs here found) ≡ false → request_where here found ≡ None
-asks_no_path here found p = none_if here found (can_be_state (state_in here found)) (are_paths here found) refl (no_path (may_be_path here (value_of (codes "state") found)) (can_be_state (state_in here found)) _ p)
+asks_no_path here found p = none_if here found (can_be_state (state_in here found)) (are_paths here found) refl (no_path (may_be_path here (state_value found)) (can_be_state (state_in here found)) _ p)
 
 -- what comes of a first part of the request is the request, where each path of it is one
-pub asks_so : {E : Type 0} (r : Result Request E) (here : Path) (found : List Row) → has_state here found ≡ true → IfOk r (λ request. (fits : can_be_state (state_in here found) ≡ true) × (request ≡ request_in here found fits)) → IfOk r (λ request. has_mailer here found ≡ true) → IfOk r (λ request. has_confs here found ≡ true)
+pub asks_so : {E : Type 0} (r : Result Request E) (here : Path) (found : List Row) → has_state here (state_value found) ≡ true → IfOk r (λ request. (fits : can_be_state (state_in here found) ≡ true) × (request ≡ request_in here found fits)) → IfOk r (λ request. has_mailer here found ≡ true) → IfOk r (λ request. has_confs here found ≡ true)
     → IfOk r (λ request. request_where here found ≡ Some request)
 asks_so (Ok request) here found s h m c = asks here found h.0 s m c ∙ ap Some (sym h.1)
 asks_so (Err e) here found s h m c = tt

@@ -1,5 +1,6 @@
 -- What the words of the command line ask for.
-use Rattle.std.specs.Prelude.{◌≡◌, refl, ℕ, Bool, true, ◌&&◌, List, map, Option, Some, None, is_none, codes, if◌then◌else◌}
+use Rattle.std.specs.Prelude.{◌≡◌, refl, ℕ, Bool, true, false, not, ◌&&◌, ◌==◌, List, [], ◌∷◌, map, Option, Some, None, is_none, codes}
+use Rattle.std.specs.Prelude.{if◌then◌else◌}
 use Rattle.std.specs.List.{list_all}
 use Rattle.clap.specs.Words.{Row}
 use Rattle.lr_rules.specs.declared.path.Path.{Path}
@@ -25,20 +26,43 @@ abbrev pub path_or : Path → Path → Option (List ℕ) → Path
 path_or here other None = other
 path_or here other (Some word) = cleaned here word
 
+-- the word begins as an option does
+abbrev pub is_option : List ℕ → Bool
+is_option [] = false
+is_option (b ∷ bs) = b == 45
+
+-- the word names a path, and is no option
+abbrev pub is_name : Path → List ℕ → Bool
+is_name here word = not (is_option word) && is_path here word
+
+-- ---- the program's own paths
+
+-- the path of the state file: what FILE names, else the program's own
+abbrev pub state_by : Path → Option (List ℕ) → Path
+state_by here file = path_or here (codes "/var/lib/logrotate/status") file
+
+-- a state file may have this path
+abbrev pub has_state : Path → Option (List ℕ) → Bool
+has_state here file = may_be_path here file && can_be_state (state_by here file)
+
+-- the program that mails files, where no other is named
+abbrev pub mail_program : Path
+mail_program = codes "/usr/bin/mail"
+
 -- ---- the request
 
+-- FILE, where the words have it
+abbrev pub state_value : List Row → Option (List ℕ)
+state_value found = value_of (codes "state") found
+
 abbrev pub state_in : Path → List Row → Path
-state_in here found = path_or here (codes "/var/lib/logrotate/status") (value_of (codes "state") found)
+state_in here found = state_by here (state_value found)
 
 abbrev pub mailer_in : Path → List Row → Path
-mailer_in here found = path_or here (codes "/usr/bin/mail") (value_of (codes "mail") found)
+mailer_in here found = path_or here mail_program (value_of (codes "mail") found)
 
 abbrev pub confs_in : Path → List Row → List Path
 confs_in here found = map (cleaned here) (words_of (codes "conf") found)
-
--- FILE names a path that a state file may have
-abbrev pub has_state : Path → List Row → Bool
-has_state here found = may_be_path here (value_of (codes "state") found) && can_be_state (state_in here found)
 
 -- COMMAND names a path
 abbrev pub has_mailer : Path → List Row → Bool
@@ -50,7 +74,7 @@ has_confs here found = list_all (is_path here) (words_of (codes "conf") found)
 
 -- each word that was found where a path is asked for names one
 abbrev pub are_paths : Path → List Row → Bool
-are_paths here found = may_be_path here (value_of (codes "state") found) && (has_mailer here found && has_confs here found)
+are_paths here found = may_be_path here (state_value found) && (has_mailer here found && has_confs here found)
 
 -- the settings with these paths and with the flags that were found
 abbrev pub settings_with : (state mailer : Path) → List Row → can_be_state state ≡ true → Settings

@@ -13,5 +13,5 @@ mod found;
 mod paths;
 mod request;
 
-pub use paths::{can_be_state, path_of, path_or, paths_of};
+pub use paths::{mail_program, name_of, state_of};
 pub use request::{Request, WordsFault, request_of};

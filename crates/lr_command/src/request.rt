@@ -3,11 +3,11 @@ ghost use Rattle.std.specs.Prelude.{◌≡◌, ◌&&◌, IfOk, Some, None, true,
 ghost use Rattle.clap.specs.Words.{found_of, rows_of};
 ghost use Rattle.lr_command.specs.Command.{has_flag};
 ghost use Rattle.lr_command.specs.Words.{asked, confs_in, has_confs, has_mailer, has_state, mailer_in, request_in, request_where};
-ghost use Rattle.lr_command.specs.Words.{settings_with, state_in};
+ghost use Rattle.lr_command.specs.Words.{settings_with, state_in, state_value};
 ghost use Rattle.lr_rules.specs.StatePath.{can_be_state};
 
 use crate::found::{find, has_flag, texts_of, value_of};
-use crate::paths::{can_be_state, path_or, paths_of};
+use crate::paths::{mailer_of, paths_of, state_of};
 use clap::ArgMatches;
 use lr_rules::{Listed, Path, Settings, Text};
 use std::alloc::Global;
@@ -23,38 +23,28 @@ pub struct Request {
 /// Why words ask for nothing.
 #[derive(Clone, Copy)]
 pub enum WordsFault {
-    /// `clap` refuses them, or a path that they name is none, or the state file can't have its own.
+    /// They aren't in the program's form, or a path that they name is none, or the state file can't have its own.
     Refused,
     Memory,
 }
 
 // The path of the state file.
-fn state_of(alloc: Global, here: &Path, found: &ArgMatches<'_>) -> Result<Path, WordsFault>
+fn state_found(alloc: Global, here: &Path, found: &ArgMatches<'_>) -> Result<Path, WordsFault>
     ensures state { IfOk result (λ path. path ≡ state_in here.now (rows_of (found_of found.now))) }
-    ensures has_state { IfOk result (λ path. has_state here.now (rows_of (found_of found.now)) ≡ true) }
+    ensures has_state { IfOk result (λ path. has_state here.now (state_value (rows_of (found_of found.now))) ≡ true) }
     ensures fits { IfOk result (λ path. can_be_state path ≡ true) }
-    ensures refused { result ≡ Err WordsFault.Refused → has_state here.now (rows_of (found_of found.now)) ≡ false }
+    ensures refused { result ≡ Err WordsFault.Refused → has_state here.now (state_value (rows_of (found_of found.now))) ≡ false }
 {
-    let path = path_or(
-        alloc,
-        here,
-        b"/var/lib/logrotate/status",
-        value_of(found, "state"),
-    )?;
-    if can_be_state(&path) {
-        Ok(path)
-    } else {
-        Err(WordsFault::Refused)
-    }
+    state_of(alloc, here, value_of(found, "state"))
 }
 
 // The path of the program that mails files.
-fn mailer_of(alloc: Global, here: &Path, found: &ArgMatches<'_>) -> Result<Path, WordsFault>
+fn mailer_found(alloc: Global, here: &Path, found: &ArgMatches<'_>) -> Result<Path, WordsFault>
     ensures mailer { IfOk result (λ path. path ≡ mailer_in here.now (rows_of (found_of found.now))) }
     ensures has_mailer { IfOk result (λ path. has_mailer here.now (rows_of (found_of found.now)) ≡ true) }
     ensures refused { result ≡ Err WordsFault.Refused → has_mailer here.now (rows_of (found_of found.now)) ≡ false }
 {
-    path_or(alloc, here, b"/usr/bin/mail", value_of(found, "mail"))
+    mailer_of(alloc, here, value_of(found, "mail"))
 }
 
 // The configurations.
@@ -96,7 +86,7 @@ fn request_with(
     ensures refused { result ≡ Err WordsFault.Refused → (has_mailer here.now (rows_of (found_of found.now)) && has_confs here.now
         (rows_of (found_of found.now))) ≡ false }
 {
-    let mailer = mailer_of(alloc, here, found)?;
+    let mailer = mailer_found(alloc, here, found)?;
     let confs = confs_of(alloc, here, found)?;
     Ok(Request {
         settings: settings_of(found, state, mailer),
@@ -114,7 +104,7 @@ fn request_of_found(
     ensures request { IfOk result (λ request. request_where here.now (rows_of (found_of found.now)) ≡ Some request) }
     ensures refused { result ≡ Err WordsFault.Refused → request_where here.now (rows_of (found_of found.now)) ≡ None }
 {
-    let state = state_of(alloc, here, found)?;
+    let state = state_found(alloc, here, found)?;
     request_with(alloc, here, found, state)
 }
 

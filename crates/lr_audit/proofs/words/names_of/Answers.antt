@@ -1,6 +1,6 @@
 use Rattle.std.proofs.Common.{rules, ◌≡◌, Err, false, subst}
 use Rattle.std.proofs.lemmas.List.Folds.{list_all_at}
-use Rattle.lr_audit.specs.Words.{is_name}
+use Rattle.lr_command.specs.Words.{is_name}
 use Rattle.lr_audit.proofs.words.names_of.Goals as goal
 
 pub returns-in_err-add_name-clause-refused : goal.returns-in_err-add_name-clause-refused
