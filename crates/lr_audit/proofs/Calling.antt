@@ -41,7 +41,8 @@ use Rattle.lr_audit.specs.declared.line.Audit.{Audit}
 use Rattle.lr_audit.specs.declared.told.Told.{Told}
 use Rattle.lr_audit.specs.declared.words.Wanted.{Wanted}
 use Rattle.lr_audit.specs.Audits.{AddsSaw, IsAudit, Audits}
-use Rattle.lr_audit.specs.Came.{Came, ShowsConfs, ShowsCame, mail_program, answer_of, audit_told, CallEnds, no_clock, no_memory, audited}
+use Rattle.lr_command.specs.Words.{mail_program}
+use Rattle.lr_audit.specs.Came.{Came, ShowsConfs, ShowsCame, answer_of, audit_told, CallEnds, no_clock, no_memory, audited}
 use Rattle.lr_audit.specs.Internal.{CameTo, RulesCame, ConfsCame, clock_answer}
 use Rattle.lr_audit.proofs.Answering.{notices_in, faults_in}
 use Rattle.lr_audit.proofs.Filing.{went_by}

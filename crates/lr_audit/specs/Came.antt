@@ -1,5 +1,5 @@
 -- What a call came to, as a value, and what its entries and its answer show of it.
-use Rattle.std.specs.Prelude.{◌≡◌, ◌⊎◌, ℕ, ℤ, List, [], ◌∷◌, ◌++◌, codes, Option, Some, None, Result, Ok, Err}
+use Rattle.std.specs.Prelude.{◌≡◌, ◌⊎◌, ℕ, ℤ, List, [], ◌∷◌, ◌++◌, Option, Some, None, Result, Ok, Err}
 use Rattle.lr_rules.specs.declared.clock.Clock.{Clock}
 use Rattle.lr_rules.specs.declared.fault.Fault.{Fault}
 use Rattle.lr_rules.specs.declared.memory.Memory.{Memory}
@@ -16,6 +16,7 @@ use Rattle.lr_looks.specs.Reserved.{reserved_by}
 use Rattle.lr_looks.specs.Shown.{ShowsLooks}
 use Rattle.lr_looks.specs.Sights.{WordSight}
 use Rattle.lr_clock.specs.Clock.{ShowsClock, LacksClock}
+use Rattle.lr_command.specs.Words.{mail_program}
 use Rattle.lr_report.specs.declared.outcome.Outcome.{Outcome}
 use Rattle.lr_report.specs.declared.outcome.Outcome.TheVariants.{Done, BadWords, OutOfMemory}
 use Rattle.lr_report.specs.declared.outcome.Report.{Report}
@@ -53,10 +54,6 @@ call_entries c = c.of_clock ++ (c.of_confs ++ (c.of_looks ++ c.of_files))
 -- what it has to say: the notices of the configuration; its faults, those of the looks, and those of the files
 abbrev pub report_of : Came → Report
 report_of c = record { notices = c.meaning.notices; faults = c.meaning.faults ++ (c.look_faults ++ c.file_faults) }
-
--- the program that mails files; it makes no difference here
-abbrev pub mail_program : Path
-mail_program = codes "/usr/bin/mail"
 
 -- ---- what shows it
 

@@ -18,7 +18,8 @@ use Rattle.lr_audit.specs.declared.line.Audit.{Audit}
 use Rattle.lr_audit.specs.declared.told.Told.{Told}
 use Rattle.lr_audit.specs.declared.words.Wanted.{Wanted}
 use Rattle.lr_audit.specs.Audits.{Audits}
-use Rattle.lr_audit.specs.Came.{Came, ShowsConfs, mail_program}
+use Rattle.lr_command.specs.Words.{mail_program}
+use Rattle.lr_audit.specs.Came.{Came, ShowsConfs}
 
 -- it came to something, or to nothing, and left such entries
 pub record CameTo (P : Option Came → List Entry → Type 0) (told later : Option Journal) : Type 0 where

@@ -6,7 +6,8 @@ ghost use Rattle.lr_host.specs.Quiet.{AreQuiet};
 ghost use Rattle.lr_host.specs.Told.{Left, Onward};
 ghost use Rattle.lr_clock.specs.Clock.{IsClocked};
 ghost use Rattle.lr_report.specs.Reported.{AreReported};
-ghost use Rattle.lr_audit.specs.Came.{answer_of, audit_told, mail_program, CallEnds};
+ghost use Rattle.lr_command.specs.Words.{mail_program};
+ghost use Rattle.lr_audit.specs.Came.{answer_of, audit_told, CallEnds};
 ghost use Rattle.lr_audit.specs.Internal.{CameTo, ConfsCame, RulesCame, clock_answer};
 
 use crate::auditing::audit_of;
@@ -14,6 +15,7 @@ use crate::line::Audit;
 use crate::told::Told;
 use crate::words::Wanted;
 use lr_clock::{ClockStop, clock_in};
+use lr_command::mail_program;
 use lr_due::Zone;
 use lr_host::Host;
 use lr_include::{Reading, read_all};
@@ -21,7 +23,7 @@ use lr_looks::look_all;
 use lr_rules::{Clock, Fault, Listed, Memory, Path, Rules, Settings};
 use std::alloc::Global;
 
-// The settings of a run by `--force` with this state file.
+// The settings of a run by `--force` with this state file. Which program mails files makes no difference here.
 fn forced(alloc: Global, state: &Path) -> Result<Settings, Memory>
     requires { can_be_state state.now ≡ true }
     ensures state { IfOk result (λ settings. settings.state ≡ state.now) }
@@ -29,17 +31,14 @@ fn forced(alloc: Global, state: &Path) -> Result<Settings, Memory>
     ensures force { IfOk result (λ settings. settings.force ≡ true) }
 {
     let state = state.copy(alloc)?;
-    match Path::new(alloc, b"/usr/bin/mail") {
-        Ok(mailer) => Ok(Settings {
-            state,
-            mailer,
-            force: true,
-            debug: false,
-            verbose: false,
-        }),
-        // The bytes are those of a path, so this is want of memory.
-        Err(_) => Err(Memory),
-    }
+    let mailer = mail_program(alloc)?;
+    Ok(Settings {
+        state,
+        mailer,
+        force: true,
+        debug: false,
+        verbose: false,
+    })
 }
 
 // Looks at the logs of these rules, and audits them. The faults have room for one more.
