@@ -15,33 +15,11 @@ mod said;
 
 use crate::said::USAGE;
 use lr_adapt::{RealHost, RealSink};
-use lr_cli::{Outcome, Zone, logrotate, printed, status};
-use lr_given::{GivenStop, here_given, is_alone, put_version, seconds, words_given, zone_given};
+use lr_cli::{Outcome, logrotate, printed, status};
+use lr_given::{asked_of, is_alone, outcome_of, put_version, seconds, words_given};
 use lr_host::Sink;
-use lr_rules::{Path, Text};
-use std::alloc::Global;
+use lr_rules::Text;
 use std::process::ExitCode;
-
-// Why there is nothing to run: the outcome of what the machine doesn't give.
-fn outcome_of(stop: GivenStop) -> Outcome {
-    match stop {
-        GivenStop::BadWords => Outcome::BadWords,
-        GivenStop::Memory => Outcome::OutOfMemory,
-    }
-}
-
-// What a call is asked for.
-#[derive(Drop)]
-struct Asked {
-    zone: Zone,
-    here: Path,
-}
-
-fn asked_of(rt: &HostRuntime, alloc: Global) -> Result<Asked, GivenStop> {
-    let here = here_given(rt, alloc)?;
-    let zone = zone_given(rt, alloc)?;
-    Ok(Asked { zone, here })
-}
 
 fn run<K: Sink>(rt: &HostRuntime, words: &[Text], out: &mut K) -> Outcome {
     let alloc = rt.alloc();

@@ -6,16 +6,17 @@
 //!
 //! ```text
 //! let words = words_given(&rt, rt.alloc())?;
-//! let here = here_given(&rt, rt.alloc())?;
+//! let asked = asked_of(&rt, rt.alloc())?;
 //! ```
 #![tactic(auto)]
 
+mod asked;
 mod given;
 mod said;
 mod stop;
 mod zone;
 
+pub use asked::{Asked, asked_of};
 pub use given::{here_given, is_alone, path_of, seconds, text_of, words_given};
 pub use said::put_version;
-pub use stop::GivenStop;
-pub use zone::zone_given;
+pub use stop::{GivenStop, outcome_of};

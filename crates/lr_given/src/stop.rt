@@ -1,4 +1,5 @@
 // Why the machine gives no words, directory or zone.
+use lr_report::Outcome;
 use std::io::ErrorKind;
 
 /// They are no texts or no paths, or there is no memory.
@@ -13,5 +14,13 @@ pub fn stop_of(kind: ErrorKind) -> GivenStop {
         GivenStop::Memory
     } else {
         GivenStop::BadWords
+    }
+}
+
+/// The outcome of a call for which there is nothing to do.
+pub fn outcome_of(stop: GivenStop) -> Outcome {
+    match stop {
+        GivenStop::BadWords => Outcome::BadWords,
+        GivenStop::Memory => Outcome::OutOfMemory,
     }
 }

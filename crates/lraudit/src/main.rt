@@ -13,36 +13,14 @@ mod said;
 use crate::said::USAGE;
 use lr_adapt::{RealHost, RealSink};
 use lr_audit::lraudit;
-use lr_due::Zone;
-use lr_given::{GivenStop, here_given, is_alone, put_version, seconds, words_given, zone_given};
+use lr_given::{asked_of, is_alone, outcome_of, put_version, seconds, words_given};
 use lr_host::Sink;
 use lr_report::{Outcome, printed, status};
-use lr_rules::{Path, Text};
+use lr_rules::Text;
 use std::process::ExitCode;
 
-// Why there is nothing to tell: the outcome of what the machine doesn't give.
-fn outcome_of(stop: GivenStop) -> Outcome {
-    match stop {
-        GivenStop::BadWords => Outcome::BadWords,
-        GivenStop::Memory => Outcome::OutOfMemory,
-    }
-}
-
-// What a call is asked for.
-#[derive(Drop)]
-struct Asked {
-    zone: Zone,
-    here: Path,
-}
-
-fn asked_of(rt: &HostRuntime) -> Result<Asked, GivenStop> {
-    let here = here_given(rt, rt.alloc())?;
-    let zone = zone_given(rt, rt.alloc())?;
-    Ok(Asked { zone, here })
-}
-
 fn run<K: Sink>(rt: &HostRuntime, words: &[Text], out: &mut K) -> Outcome {
-    let asked = match asked_of(rt) {
+    let asked = match asked_of(rt, rt.alloc()) {
         Ok(asked) => asked,
         Err(stop) => return printed(outcome_of(stop), out),
     };

@@ -14,7 +14,7 @@ mod said;
 use crate::said::USAGE;
 use lr_adapt::{RealHost, RealSink};
 use lr_cat::{CatOutcome, cat_status, lrcat};
-use lr_given::{GivenStop, here_given, is_alone, put_version, seconds, words_given};
+use lr_given::{here_given, is_alone, outcome_of, put_version, seconds, words_given};
 use lr_host::Sink;
 use lr_report::{Outcome, printed, status};
 use lr_rules::Text;
@@ -23,14 +23,6 @@ use std::process::ExitCode;
 // The status of a call for which there is nothing to read, which is told.
 fn nothing<N: Sink>(outcome: Outcome, notes: &mut N) -> u8 {
     status(&printed(outcome, notes))
-}
-
-// The same of what the machine doesn't give.
-fn not_given<N: Sink>(stop: GivenStop, notes: &mut N) -> u8 {
-    match stop {
-        GivenStop::BadWords => nothing(Outcome::BadWords, notes),
-        GivenStop::Memory => nothing(Outcome::OutOfMemory, notes),
-    }
 }
 
 // The status of a call. Behind bad words the usage is told, on standard error.
@@ -44,7 +36,7 @@ fn ended(rt: &HostRuntime, outcome: &CatOutcome) -> u8 {
 fn run<N: Sink>(rt: &HostRuntime, words: &[Text], notes: &mut N) -> u8 {
     let here = match here_given(rt, rt.alloc()) {
         Ok(here) => here,
-        Err(stop) => return not_given(stop, notes),
+        Err(stop) => return nothing(outcome_of(stop), notes),
     };
     let Ok(files) = rt.clone() else {
         return nothing(Outcome::OutOfMemory, notes);
@@ -67,7 +59,7 @@ fn main(rt: HostRuntime) -> ExitCode {
     let mut notes = RealSink::new(rt.stderr());
     let words = match words_given(&rt, rt.alloc()) {
         Ok(words) => words,
-        Err(stop) => return ExitCode::from(not_given(stop, &mut notes)),
+        Err(stop) => return ExitCode::from(nothing(outcome_of(stop), &mut notes)),
     };
     if is_alone(&words, b"--help".as_slice()) {
         let _ = print!(rt; "{USAGE}");
