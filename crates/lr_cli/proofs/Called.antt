@@ -151,7 +151,7 @@ says_nothing here words zone seconds a o j counted counts x y low high disk same
   came = None;
   plan = None;
   shown = shown;
-  called = λ request c before after asks some told later. absurd (none-some c some);
+  called = λ request asks c before after some told later. absurd (none-some c some);
   ended = left_before here words zone seconds None (without_out a) None shown;
   state = came_whole here words zone seconds None (without_out a) None shown;
   copied = came_copied here words zone seconds None (without_out a) None disk shown;

@@ -67,6 +67,7 @@ use Rattle.lr_spared.specs.Smooth.{IsSmooth, NoneRose}
 use Rattle.lr_spared.proofs.Run.{run_fails_nothing}
 use Rattle.lr_spared.proofs.Smooth.{none_rose}
 use Rattle.lr_command.specs.declared.request.Request.{Request}
+use Rattle.lr_clock.specs.Came.{WhereCame}
 use Rattle.lr_report.specs.declared.outcome.Outcome.{Outcome}
 use Rattle.lr_report.specs.declared.outcome.Outcome.TheVariants.{Done, OutOfMemory}
 use Rattle.lr_report.specs.declared.outcome.Report.{Report}
@@ -76,7 +77,6 @@ use Rattle.lr_cli.specs.Called.{Came, call_entries, asked_by, ShowsCame, Tells, 
 use Rattle.lr_report.specs.Reported.{AreReported}
 use Rattle.lr_cli.specs.Faults.{HasCounted}
 use Rattle.lr_cli.specs.Result.{SawTruly, Makes, IsCalled, IsTextOf, IsCopyIn}
-use Rattle.lr_cli.specs.Says.{WhereCame}
 use Rattle.lr_cli.proofs.Reached.{means_none}
 use Rattle.lr_cli.proofs.Still.{front_sights, front_quiet, dry_quiet, halt_still, same_request}
 
@@ -277,9 +277,9 @@ left_called here words zone seconds plan outcome came counted counts request c j
         same = same_Some d c (sym is ∙ some)
 
 pub came_so : (here : Path) (words : List (List ℕ)) (zone : Zone) (seconds : ℤ) (plan : Option Plan) (outcome : Outcome) (came : Option Came) (counted counts : Counts) {o n : Option Journal} → WhereTold o IsJournal → Left (CallShows here words zone seconds plan outcome came) o n → HasCounted outcome counted counts
-    → ((request : Request) (c : Came) (report : Report) → AskFor here words request → came ≡ Some c → outcome ≡ Done report → request.settings.debug ≡ false → TellsNamesOf request.settings.state c.clock c.work o n) → WhereCame here words came o n (λ request c j k. IsCalled request c outcome counted counts j k)
-came_so here words zone seconds plan outcome came counted counts disk not_told are names request c j k asks some told later = absurd (none-some j told)
-came_so here words zone seconds plan outcome came counted counts disk (is_told {j = i} {k = l} {es = es} made h) are names request c j k asks some told later =
+    → ((request : Request) (c : Came) (report : Report) → AskFor here words request → came ≡ Some c → outcome ≡ Done report → request.settings.debug ≡ false → TellsNamesOf request.settings.state c.clock c.work o n) → (request : Request) → AskFor here words request → WhereCame came o n (λ c j k. IsCalled request c outcome counted counts j k)
+came_so here words zone seconds plan outcome came counted counts disk not_told are names request asks c j k some told later = absurd (none-some j told)
+came_so here words zone seconds plan outcome came counted counts disk (is_told {j = i} {k = l} {es = es} made h) are names request asks c j k some told later =
     subst (λ (x : Journal). IsCalled request c outcome counted counts j x) (same_Some l k later) (subst (λ (x : Journal). IsCalled request c outcome counted counts x l) (same_Some i j told)
     (left_called here words zone seconds plan outcome came counted counts request c i l es made disk h asks some are (λ report done acts. names request c report asks some done acts)))
 

@@ -5,6 +5,7 @@ use Rattle.lr_rules.specs.declared.fault.Fault.TheVariants as fault
 use Rattle.lr_host.specs.declared.journal.Journal.{Journal}
 use Rattle.lr_host.specs.Told.{Counts, Left, Rose}
 use Rattle.lr_due.specs.declared.tz.Zone.{Zone}
+use Rattle.lr_clock.specs.Came.{WhereCame}
 use Rattle.lr_durable.specs.StateWhole.{KeepsWhole}
 use Rattle.lr_emptied.specs.Emptied.{EmptiesWhole}
 use Rattle.lr_plan.specs.declared.plan.Plan.{Plan}
@@ -33,12 +34,6 @@ pub record Prints (text : List ℕ) (outcome : Outcome) (before after : Option (
   -- A report that wasn't printed whole has `Out`.
   pub broken_off : (report : Report) → outcome ≡ Done report → Took text before after ⊎ Contains report.faults fault.Out
 
--- Where the host tells its journals, and the words ask for a request of which the call came to a plan, this holds of it.
-abbrev pub WhereCame : Path → List (List ℕ) → Option Came → Option Journal → Option Journal
-    → (Request → Came → Journal → Journal → Type 0) → Type 0
-WhereCame here words came told later P = (request : Request) (c : Came) (before after : Journal) → AskFor here words request
-    → came ≡ Some c → told ≡ Some before → later ≡ Some after → P request c before after
-
 -- All that is told of a call with these words, in this zone and at these seconds, by what it came to. Of its outcome the output's
 -- own fault, `Out`, is left aside but for what was printed.
 pub record Says (here : Path) (words : List (List ℕ)) (zone : Zone) (seconds : ℤ) (outcome : Outcome) (told later : Option Journal)
@@ -50,7 +45,8 @@ pub record Says (here : Path) (words : List (List ℕ)) (zone : Zone) (seconds :
   -- plan, and the end; or why there was no plan
   pub shown : Left (CallShows here words zone seconds plan (without_out outcome) came) told later
   -- where it came to its plan: what it saw is true of the disk, and what it made of it
-  pub called : WhereCame here words came told later (λ request c j k. IsCalled request c (without_out outcome) counted counts j k)
+  pub called : (request : Request) → AskFor here words request
+      → WhereCame came told later (λ c j k. IsCalled request c (without_out outcome) counted counts j k)
   -- one that ended before its plan left the disk as it was, and says why
   pub ended : came ≡ None → Left (EndsBefore here words zone (without_out outcome)) told later
   -- the state file that the words ask for is the old one or the new one, whole, at each moment of the call and after each cut that
