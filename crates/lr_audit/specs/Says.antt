@@ -6,6 +6,7 @@ use Rattle.lr_host.specs.declared.journal.Journal.{Journal}
 use Rattle.lr_host.specs.Told.{Counts, Left, Rose}
 use Rattle.lr_host.specs.World.{past}
 use Rattle.lr_due.specs.declared.tz.Zone.{Zone}
+use Rattle.lr_clock.specs.Came.{WhereCame}
 use Rattle.lr_clock.specs.Clock.{IsClocked}
 use Rattle.lr_report.specs.declared.outcome.Outcome.{Outcome}
 use Rattle.lr_report.specs.declared.outcome.Outcome.TheVariants.{Done, BadWords, Held, OutOfMemory}
@@ -48,11 +49,6 @@ pub data Answers (text : List ℕ) (said outcome : Outcome) (before after : Opti
 -- the report of an answer is so
 abbrev pub WhereDone : Outcome → (Report → Type 0) → Type 0
 WhereDone outcome P = (report : Report) → outcome ≡ Done report → P report
-
--- where it came to something, and the host tells its journals
-abbrev pub WhereCame : Option Came → Option Journal → Option Journal → (Came → Journal → Journal → Type 0) → Type 0
-WhereCame came told later P = (c : Came) (before after : Journal) → came ≡ Some c → told ≡ Some before → later ≡ Some after
-    → P c before after
 
 -- All that is told of a call with these words, in this zone and at these seconds.
 pub record Says (here : Path) (words : List (List ℕ)) (zone : Zone) (seconds : ℤ) (outcome : Outcome)
