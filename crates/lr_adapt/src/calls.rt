@@ -1,7 +1,9 @@
 // The calls of the system that the real host makes.
 ghost use Rattle.std.specs.Prelude.{◌≡◌, ◌≤◌, IfOk, length, take};
 
-use crate::opened::{Opened, Owner, is_exposed, open_followed, open_lock, open_to_read, owner_of};
+use crate::opened::{
+    Opened, Owner, is_exposed, open_followed, open_lock, open_lock_to_read, open_to_read, owner_of,
+};
 use crate::ways::{Ways, parted};
 use lr_host::{Kind, Seen};
 use lr_rules::{Ended, Path, Text, TextFault};
@@ -295,18 +297,35 @@ fn end_of(code: Option<i32>) -> Ended {
     }
 }
 
+// The file of this lock, for a call that only reads. The directory stands for one that nobody can make: its own lock keeps no run
+// out, but none can begin there.
+fn lock_to_read<R: Files<File = File> + AllocGlobal>(rt: &R, path: &str) -> io::Result<File> {
+    match open_lock_to_read(rt, path)? {
+        Some(file) => Ok(file),
+        None => {
+            let (dir, _) = parted(path);
+            let inside = format!(in rt.alloc(); "{dir}/.")?;
+            File::open(rt, inside.as_str())
+        }
+    }
+}
+
 /// Takes the lock of a state path; None where another has it. Its file can be read and written by its owner alone, so
-/// that no other user can hold it.
+/// that no other user can hold it. A call that only reads takes it too where nothing can be written.
 pub(crate) fn take_lock<R: Files<File = File> + AllocGlobal>(
     rt: &R,
     ways: &mut Ways,
     state: &Path,
+    only_reads: bool,
 ) -> io::Result<Option<File>> {
     let at = ways.place(rt, state)?;
     let at = at.text(state);
     let path = format!(in rt.alloc(); "{at}.lock")?;
-    let file = open_lock(rt, path.as_str())?;
-    lock_of(file)
+    if only_reads {
+        lock_of(lock_to_read(rt, path.as_str())?)
+    } else {
+        lock_of(open_lock(rt, path.as_str())?)
+    }
 }
 
 // The file with its lock; None where another has it.

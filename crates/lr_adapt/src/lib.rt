@@ -9,13 +9,16 @@
 //! each does there:
 //!
 //! - `begin`: opens the file of the state's name with `.lock` behind it, which is made with mode 0600 where it is missing, and
-//!   takes its lock (`flock`) without waiting; false where another has it
+//!   takes its lock (`flock`) without waiting; false where another has it. On a file system that can't be written it fails; but
+//!   to a host that only reads (`RealHost::to_read`) that file is opened for reading there, and where it is missing, so that no
+//!   run can begin, the state's directory in its place
 //! - `end`: closes that file, which gives the lock back, as the end of the process does; the file stays
 //! - `look`: `lstat`, or `stat` where links are followed; a part that is missing or no directory means that nothing is there
 //! - `list`: the names of the directory, but for `.` and `..`, those that aren't UTF-8, and those with a newline
 //! - `read`: reads once from the place on; the file is held open while `lstat` says that the path names it, and another that
 //!   got its path isn't read on from its middle. Behind a making, up to the sync of what was made, it is read for a copy: then
-//!   it has one name, and the first such file has the mode that the copy was made with
+//!   it has one name, and the first such file has the mode that the copy was made with. The file is opened for writing too; one
+//!   that this user may only read is opened so, and so is one on a file system that can't be written, but not for a copy
 //! - `rename`: `rename`; where the file went is noted, and whose it is where it leaves its directory
 //! - `make_new`: opens with `O_EXCL`, so a link that leads nowhere is a name too; then `fchown` to whom the file belongs that
 //!   the last rename took from this path, and `fchmod`, since the process's mask cuts the mode; where one is refused the name

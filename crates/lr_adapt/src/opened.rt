@@ -12,6 +12,9 @@ use std::{fs, io};
 // file system of its own.
 const DENIED: i32 = 13;
 
+// The system's number for "Read-only file system", which every user gets there, root too.
+const READ_ONLY: i32 = 30;
+
 /// An open file, and what it was when it was opened.
 #[derive(Drop)]
 pub(crate) struct Opened {
@@ -154,7 +157,19 @@ pub(crate) fn open_followed<R: Files<File = File>>(rt: &R, path: &str) -> io::Re
     open_plainly(rt, path, true)
 }
 
-/// Opens a file for reading that the path itself names. One that this user may only read is opened so.
+fn is_read_only(e: &Error) -> bool {
+    e.raw_os_error() == Some(READ_ONLY)
+}
+
+// Whether a file that can't be opened for writing, for this cause, is opened for reading alone. On a file system that can't be
+// written it isn't where it has to be the sole one, so to be copied or mailed: a log that can't be emptied there would be copied
+// at each run, until its older copies were gone.
+fn may_be_read(e: &Error, sole: bool) -> bool {
+    e.raw_os_error() == Some(DENIED) || (is_read_only(e) && !sole)
+}
+
+/// Opens a file for reading that the path itself names. One that this user may only read is opened so, and so is one that
+/// nobody can write.
 pub(crate) fn open_to_read<R: Files<File = File>>(
     rt: &R,
     path: &str,
@@ -162,7 +177,7 @@ pub(crate) fn open_to_read<R: Files<File = File>>(
 ) -> io::Result<Opened> {
     match open_to_append(rt, path, sole) {
         Ok(opened) => Ok(opened),
-        Err(e) if e.raw_os_error() == Some(DENIED) => {
+        Err(e) if may_be_read(&e, sole) => {
             let opened = open_plainly(rt, path, false)?;
             want_sole(&opened.seen, sole)?;
             Ok(opened)
@@ -203,4 +218,21 @@ pub(crate) fn open_lock<R: Files<File = File>>(rt: &R, path: &str) -> io::Result
     let file = options.open(rt, path)?;
     let Opened { file, .. } = checked(rt, path, false, file)?;
     Ok(file)
+}
+
+/// The same of a call that only reads. On a file system that can't be written a file that is there is opened for reading, which
+/// serves the lock as well. None where there is none then: no run can make it, so none can take the lock.
+pub(crate) fn open_lock_to_read<R: Files<File = File>>(
+    rt: &R,
+    path: &str,
+) -> io::Result<Option<File>> {
+    match open_lock(rt, path) {
+        Ok(file) => Ok(Some(file)),
+        Err(e) if is_read_only(&e) => match open_plainly(rt, path, false) {
+            Ok(Opened { file, .. }) => Ok(Some(file)),
+            Err(e) if e.kind() == ErrorKind::NotFound => Ok(None),
+            Err(e) => Err(e),
+        },
+        Err(e) => Err(e),
+    }
 }

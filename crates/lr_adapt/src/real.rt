@@ -46,6 +46,8 @@ pub struct RealHost<R> {
     made: Option<Made>,
     // The file that the last read opened.
     reading: Option<Held>,
+    // Whether it is lent to a call that only reads.
+    only_reads: bool,
 }
 
 impl<R: Files> RealHost<R> {
@@ -67,7 +69,21 @@ impl<R: Files> RealHost<R> {
             moved: None,
             made: None,
             reading: None,
+            only_reads: false,
         }
+    }
+
+    /// The same, to be lent to calls that only read. They have the lock also on a file system that can't be written, where no
+    /// run can write its state, and so none is to begin.
+    pub fn to_read(rt: R) -> RealHost<R>
+        ensures faults { result.faults ≡ 0 }
+        ensures bad_ends { result.bad_ends ≡ 0 }
+        ensures held { result.held ≡ 0 }
+        ensures lock { is_some result.lock ≡ false }
+    {
+        let mut host = RealHost::new(rt);
+        host.only_reads = true;
+        host
     }
 }
 
@@ -180,7 +196,7 @@ impl<R: Files<File = File> + Processes + AllocGlobal + Eprint + Clock + Drop> Ho
             raise(&mut self.held);
             return Ok(false);
         }
-        let got = take_lock(&self.rt, &mut self.ways, state);
+        let got = take_lock(&self.rt, &mut self.ways, state, self.only_reads);
         match self.count("lock", state, got) {
             Ok(lock) => Ok(self.keep(lock)),
             Err(fault) => Err(fault),

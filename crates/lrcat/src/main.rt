@@ -41,7 +41,7 @@ fn run<N: Sink>(rt: &HostRuntime, words: &[Text], notes: &mut N) -> u8 {
     let Ok(files) = rt.clone() else {
         return nothing(Outcome::OutOfMemory, notes);
     };
-    let mut host = RealHost::new(files);
+    let mut host = RealHost::to_read(files);
     let mut out = RealSink::new(rt.stdout());
     let outcome = lrcat(
         rt.alloc(),
