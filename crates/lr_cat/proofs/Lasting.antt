@@ -1,9 +1,10 @@
 -- What was read of a file, and the file's bytes as the call began and at its end.
-use Rattle.std.proofs.Common.{◌≡◌, ◌≢◌, ◌≤◌, inl, ◌<◌, ℕ, Bool, true, false, cond, nat_eq, eqb-true, List, [], ◌∷◌, ◌++◌, length, take, drop, reverse, refl, sym, ap, ◌∙◌, subst, arith, append_assoc, append-nil}
+use Rattle.std.proofs.Common.{◌≡◌, ◌≤◌, inl, ◌⊎◌, ◌<◌, ◌+◌, ℕ, Bool, false, cond, nat_le, List, [], ◌∷◌, ◌++◌, length, take, drop, reverse, refl, sym, ap, ◌∙◌, subst, arith, append_assoc}
+use Rattle.std.specs.Prelude.{filter}
+use Rattle.std.proofs.lemmas.Bool.{lt-leb}
 use Rattle.std.proofs.lemmas.List.{length-append}
 use Rattle.lr_rules.specs.declared.path.Path.{Path}
 use Rattle.lr_host.specs.declared.entry.Entry.{Entry}
-use Rattle.lr_host.specs.declared.entry.Entry.TheVariants as entry
 use Rattle.lr_host.specs.declared.entry.Entry.TheVariants.{Reads}
 use Rattle.lr_host.specs.declared.thing.Thing.{Thing}
 use Rattle.lr_host.specs.declared.thing.Thing.TheVariants as thing
@@ -11,14 +12,18 @@ use Rattle.lr_host.specs.Fits.{Gives, IsPiece}
 use Rattle.lr_host.specs.Lists.{IsIn}
 use Rattle.lr_host.specs.Opening.{IsJournal}
 use Rattle.lr_host.specs.Quiet.{Quiet, here, wrote, looked, is_disk_change, ChangeNothing}
-use Rattle.lr_host.specs.Told.{IsTools, IsWriters, Made}
-use Rattle.lr_host.specs.World.{Past, ◌▸◌, world, names, making, makes, holds_file}
+use Rattle.lr_host.specs.Told.{Each, Made, at_first, by_writer, by_tool}
+use Rattle.lr_host.specs.World.{Past, world, names}
 use Rattle.lr_host.proofs.Lists.{from_reverse, in_front, in_back}
 use Rattle.lr_host.proofs.Looked.{same_file}
 use Rattle.lr_host.proofs.More.{file_same}
 use Rattle.lr_host.proofs.Quiet.{IsAny, Moment, moment, quiet_more, since_any}
 use Rattle.lr_copied.specs.Whole.{Has}
 use Rattle.lr_durable.proofs.Parts.{named_drawn}
+use Rattle.lr_laws_family.specs.Beside.{IsNeverAt, IsOn, not_here, nor_then}
+use Rattle.lr_laws_family.specs.Moments.{fed}
+use Rattle.lr_laws_family.proofs.Fed.{IsTurnOrMake, fed_bytes}
+use Rattle.lr_laws_family.proofs.Stood.{quiet_journal}
 use Rattle.lr_cat.specs.History.{IsTextOf}
 use Rattle.lr_cat.specs.Texts.{FileText, ReadsWhole}
 use Rattle.lr_cat.proofs.Pieces.{GivesOf, piece_of_more, pieces_are, longer_has, nothing_more}
@@ -29,66 +34,44 @@ pub record HasMore (x : Path) (g : ℕ) (bytes : List ℕ) (q : Past) : Type 0 w
   pub later : List ℕ
   pub has : Has x g (bytes ++ later) q
 
-other_id : (f g : ℕ) → g < f → nat_eq f g ≡ false
-other_id f g lt = go (nat_eq f g) refl
+-- the entries of the tool in it, which change nothing
+record Stretch (p q : Past) : Type 0 where
+  entries : List Entry
+  made : Made p entries q
+  still : ChangeNothing entries
+
+stretch : (p q : Past) → Quiet IsAny p q → Stretch p q
+stretch p _ here = record { entries = []; made = at_first; still = refl }
+stretch p _ (wrote {q = q} w i f only) = let s = stretch p q w in record { entries = s.entries; made = by_writer s.made i f; still = s.still }
+stretch p _ (looked {q = q} {e = e} w i f h) = let s = stretch p q w in
+    record { entries = e ∷ s.entries; made = by_tool s.made i f; still = ap (λ (b : Bool). cond b (e ∷ filter is_disk_change s.entries) (filter is_disk_change s.entries)) h ∙ s.still }
+
+-- of no paths none names a file
+never_at : (g : ℕ) (p q : Past) → Quiet IsAny p q → IsNeverAt [] g p q
+never_at g p _ here = not_here (λ x i. absurd i)
+never_at g p _ (wrote {q = q} w i f only) = nor_then (never_at g p q w) (λ x i. absurd i)
+never_at g p _ (looked {q = q} w i f h) = nor_then (never_at g p q w) (λ x i. absurd i)
+
+quiet_bytes : (g : ℕ) (p q : Past) → IsJournal p → Quiet IsAny p q → g < (world p).drawn → (more : List ℕ) × (((world q).files g).bytes ≡ ((world p).files g).bytes ++ more)
+quiet_bytes g p q j w lt = (more, fed_bytes [] g p q s.entries j s.made none (never_at g p q w) ∙ ap (λ (b : Bool). cond b [] ((world p).files g).bytes ++ more) old)
   where
-    go : (b : Bool) → nat_eq f g ≡ b → b ≡ false
-    go true e = absurd (let same : f ≡ g = eqb-true f g e in omega (arith, same, lt))
-    go false e = refl
+    s : Stretch p q
+    s = stretch p q w
 
-making_other : (t : Thing) (y : Path) (g d : ℕ) → g < d → makes (making t y d) g ≡ false
-making_other thing.Nothing y g d lt = other_id d g lt
-making_other (thing.File f) y g d lt = refl
-making_other thing.Directory y g d lt = refl
-making_other thing.Other y g d lt = refl
+    more : List ℕ
+    more = drop (length (fed p g)) (fed q g)
 
-not_made : (b : Bool) (bytes : List ℕ) → b ≡ false → cond b [] bytes ≡ bytes
-not_made true bytes e = absurd (cc)
-not_made false bytes e = refl
+    none : Each (λ e. IsTurnOrMake e ⊎ IsOn [] e) (filter is_disk_change s.entries)
+    none = subst (Each (λ e. IsTurnOrMake e ⊎ IsOn [] e)) (sym s.still) tt
 
--- bytes that writers add
-wrote_bytes : (q : Past) (e : Entry) (g : ℕ) → g < (world q).drawn → IsWriters e → (more : List ℕ) × (((world (q ▸ e)).files g).bytes ≡ ((world q).files g).bytes ++ more)
-wrote_bytes q (entry.Attach v y at) g lt i = ([], not_made (makes (making (names (world q) y) y (world q).drawn) g) ((world q).files g).bytes (making_other (names (world q) y) y g (world q).drawn lt) ∙ sym (append-nil ((world q).files g).bytes))
-wrote_bytes q (entry.Feed v more at) g lt i = go (holds_file ((world q).holds v) g) refl
-  where
-    go : (b : Bool) → holds_file ((world q).holds v) g ≡ b → (k : List ℕ) × (((world (q ▸ entry.Feed v more at)).files g).bytes ≡ ((world q).files g).bytes ++ k)
-    go true is = (more, ap (λ (b : Bool). cond b (((world q).files g).bytes ++ more) ((world q).files g).bytes) is)
-    go false is = ([], ap (λ (b : Bool). cond b (((world q).files g).bytes ++ more) ((world q).files g).bytes) is ∙ sym (append-nil ((world q).files g).bytes))
-wrote_bytes q (entry.Flush v) g lt i = ([], sym (append-nil ((world q).files g).bytes))
-wrote_bytes q (entry.Detach v) g lt i = ([], sym (append-nil ((world q).files g).bytes))
-wrote_bytes q _ g lt i = absurd i
+    old : nat_le ((world p).drawn + 1) (g + 1) ≡ false
+    old = lt-leb ((world p).drawn + 1) (g + 1) (omega (arith, lt))
 
--- the tool, where it changes nothing, adds none
-looked_bytes : (q : Past) (e : Entry) (g : ℕ) → IsTools e → is_disk_change e ≡ false → ((world (q ▸ e)).files g).bytes ≡ ((world q).files g).bytes
-looked_bytes q (entry.Renames from to) g i h = absurd (cc)
-looked_bytes q (entry.Makes y mode) g i h = absurd (cc)
-looked_bytes q (entry.Appends y piece) g i h = absurd (cc)
-looked_bytes q (entry.Truncates y) g i h = absurd (cc)
-looked_bytes q (entry.Unlinks y) g i h = absurd (cc)
-looked_bytes q (entry.MakesDir y mode) g i h = absurd (cc)
-looked_bytes q (entry.Attach v y at) g i h = absurd i
-looked_bytes q (entry.Feed v more at) g i h = absurd i
-looked_bytes q (entry.Cut kept lengths) g i h = absurd i
-looked_bytes q _ g i h = refl
-
-pub quiet_journal : (P : Path → Type 0) (p q : Past) → IsJournal p → Quiet P p q → IsJournal q
-quiet_journal P p _ j here = j
-quiet_journal P p _ j (wrote {q = q} w i f only) = (quiet_journal P p q j w, f)
-quiet_journal P p _ j (looked {q = q} w i f h) = (quiet_journal P p q j w, f)
-
-quiet_named : (P : Path → Type 0) (x : Path) (g : ℕ) (p q : Past) → Quiet P p q → names (world p) x ≡ thing.File g → names (world q) x ≡ thing.File g
-quiet_named P x g p q w n = file_same (names (world p)) (names (world q)) x (quiet_more P p q w) (g, n) ∙ n
-
-quiet_bytes : (P : Path → Type 0) (x : Path) (g : ℕ) (p q : Past) → IsJournal p → Quiet P p q → names (world p) x ≡ thing.File g → (more : List ℕ) × (((world q).files g).bytes ≡ ((world p).files g).bytes ++ more)
-quiet_bytes P x g p _ j here n = ([], sym (append-nil ((world p).files g).bytes))
-quiet_bytes P x g p _ j (wrote {q = q} {e = e} w i f only) n =
-    let r = quiet_bytes P x g p q j w n in
-    let s = wrote_bytes q e g (named_drawn q x g (quiet_journal P p q j w) (quiet_named P x g p q w n)) i in
-    (r.0 ++ s.0, s.1 ∙ (ap (λ (bs : List ℕ). bs ++ s.0) r.1 ∙ append_assoc ((world p).files g).bytes r.0 s.0))
-quiet_bytes P x g p _ j (looked {q = q} {e = e} w i f h) n = let r = quiet_bytes P x g p q j w n in (r.0, looked_bytes q e g i h ∙ r.1)
+quiet_named : (x : Path) (g : ℕ) (p q : Past) → Quiet IsAny p q → names (world p) x ≡ thing.File g → names (world q) x ≡ thing.File g
+quiet_named x g p q w n = file_same (names (world p)) (names (world q)) x (quiet_more IsAny p q w) (g, n) ∙ n
 
 pub quiet_has : (x : Path) (g : ℕ) (bytes : List ℕ) (p q : Past) → IsJournal p → Quiet IsAny p q → Has x g bytes p → HasMore x g bytes q
-quiet_has x g bytes p q j w h = let r = quiet_bytes IsAny x g p q j w h.named in record { later = r.0; has = record { named = quiet_named IsAny x g p q w h.named; bytes_are = r.1 ∙ ap (λ (bs : List ℕ). bs ++ r.0) h.bytes_are } }
+quiet_has x g bytes p q j w h = let r = quiet_bytes g p q j w (named_drawn p x g j h.named) in record { later = r.0; has = record { named = quiet_named x g p q w h.named; bytes_are = r.1 ∙ ap (λ (bs : List ℕ). bs ++ r.0) h.bytes_are } }
 
 -- ---- one read
 
@@ -113,7 +96,7 @@ module _ (p q : Past) (es : List Entry) (journal : IsJournal p) (m : Made p es q
       go thing.Nothing is fits = absurd fits
       go thing.Directory is fits = absurd fits
       go thing.Other is fits = absurd fits
-      go (thing.File g) is fits = let r = quiet_has x g ((world at.at).files g).bytes at.at q (quiet_journal IsAny p at.at journal at.since) at.until (record { named = is; bytes_are = refl }) in record {
+      go (thing.File g) is fits = let r = quiet_has x g ((world at.at).files g).bytes at.at q (quiet_journal IsAny p at.at at.since journal) at.until (record { named = is; bytes_are = refl }) in record {
         file = g;
         early = ((world at.at).files g).bytes;
         later = r.later;

@@ -27,9 +27,9 @@ use Rattle.lr_laws_family.specs.Shown.{IsUnlisted, IsUnseen, unlisted, gone, no_
 use Rattle.lr_laws_family.proofs.Directory.{IsNameIn, member_in, none_without}
 use Rattle.lr_laws_family.proofs.Picking.{has_or_none}
 use Rattle.lr_laws_family.proofs.Shows.{stand_shown}
+use Rattle.lr_laws_family.proofs.Stood.{quiet_journal}
 use Rattle.lr_stood.specs.True.{HasMember}
 use Rattle.lr_cat.specs.Saw.{FindsLog}
-use Rattle.lr_cat.proofs.Lasting.{quiet_journal}
 
 -- a look that saw nothing
 nothing_look : (x : Path) (ts : List Entry) → Sees x IsNothing ts → IsIn (entry.Look x None) ts
@@ -70,7 +70,7 @@ module _ (p q : Past) (es : List Entry) (journal : IsJournal p) (m : Made p es q
         let t = then_ (entry.Look n.dir None) i in
         let f = stands x (entry.Look n.dir None) t file in
         nothing_no_file (names (world t.at) x) f.0
-        (none_without n.dir x family.dir h t.at (quiet_journal IsAny p t.at journal t.since) (seen_none (world t.at) (names (world t.at) n.dir) t.fits)) f.1
+        (none_without n.dir x family.dir h t.at (quiet_journal IsAny p t.at t.since journal) (seen_none (world t.at) (names (world t.at) n.dir) t.fits)) f.1
 
     pub member_stood : (stand : Stand) (ts : List Entry) → ShowsStand n stand ts → ((e : Entry) → IsIn e ts → IsIn e (reverse es)) → (x : Path) → IsMember n x → IsFileAt (names (world p)) x → HasMember stand.members x
     member_stood stand ts s in_all x member file = go stand.there t.first t.second.2.first
