@@ -8,10 +8,11 @@ use Rattle.lr_host.specs.declared.entry.Entry.{Entry}
 use Rattle.lr_host.specs.declared.entry.Entry.TheVariants.{Reads}
 use Rattle.lr_host.specs.declared.thing.Thing.{Thing}
 use Rattle.lr_host.specs.declared.thing.Thing.TheVariants as thing
-use Rattle.lr_host.specs.Fits.{Gives, IsPiece}
+use Rattle.lr_host.specs.Fits.{Gives, IsFileAt, IsPiece}
 use Rattle.lr_host.specs.Lists.{IsIn}
 use Rattle.lr_host.specs.Opening.{IsJournal}
 use Rattle.lr_host.specs.Quiet.{Quiet, here, wrote, looked, is_disk_change, ChangeNothing}
+use Rattle.lr_host.specs.Reading.{IsReadOf, ReadsOf, text}
 use Rattle.lr_host.specs.Told.{Each, Made, at_first, by_writer, by_tool}
 use Rattle.lr_host.specs.World.{Past, world, names}
 use Rattle.lr_host.proofs.Lists.{from_reverse, in_front, in_back}
@@ -107,6 +108,34 @@ module _ (p q : Past) (es : List Entry) (journal : IsJournal p) (m : Made p es q
             (same, (s.later, ap (λ (k : ℕ). ((world at.at).files k).bytes) (sym same) ∙ s.has.bytes_are));
       }
 
+  -- of a file that the path names at the end each read gave what stands at its place among the bytes that the file then has
+  gives_now : (x : Path) (g : ℕ) (ts : List Entry) → names (world q) x ≡ thing.File g → ((e : Entry) → IsIn e ts → IsIn e (reverse es)) → GivesOf x ((world q).files g).bytes ts
+  gives_now x g ts named in_all from piece i = subst (λ (bs : List ℕ). piece ≡ take (length piece) (drop from bs)) both (piece_of_more from piece r.early r.later r.piece_is.part)
+    where
+      r : WasRead x from piece p q
+      r = was_read x from piece (in_all (Reads x from piece) i)
+
+      both : r.early ++ r.later ≡ ((world q).files g).bytes
+      both = sym r.now.bytes_are ∙ ap (λ (k : ℕ). ((world q).files k).bytes) (same_file (names (world q) x) r.file g r.now.named named)
+
+  -- ---- a first part of one file
+
+  -- a path of which some bytes were read names a file
+  file_of : (x : Path) (ts : List Entry) → 0 < length (text ts) → Each (IsReadOf x) ts → ((e : Entry) → IsIn e ts → IsIn e (reverse es)) → IsFileAt (names (world q)) x
+  file_of x [] some only in_all = absurd (omega (arith, some))
+  file_of x (Reads y from piece ∷ ts) some only in_all = let r = was_read y from piece (in_all (Reads y from piece) (inl refl)) in (r.file, subst (λ (z : Path). names (world q) z ≡ thing.File r.file) only.0 r.now.named)
+  file_of x (_ ∷ ts) some only in_all = absurd only.0
+
+  -- which has no fewer at the end
+  pub read_so_far : (t : FileText) (ts : List Entry) → 0 < length t.bytes → ReadsOf t.path t.bytes ts → ((e : Entry) → IsIn e ts → IsIn e (reverse es)) → (g : ℕ) × (names (world q) t.path ≡ thing.File g) × (length t.bytes ≤ length ((world q).files g).bytes)
+  read_so_far t ts some reads in_all = (file.0, file.1, (let l = ap length rest.1 in let n = length-append (text ts) rest.0 in let e = ap length reads.bytes_are in omega (arith, l, n, e)))
+    where
+      file : IsFileAt (names (world q)) t.path
+      file = file_of t.path ts (subst (λ (bs : List ℕ). 0 < length bs) (sym reads.bytes_are) some) reads.only in_all
+
+      rest : (behind : List ℕ) × (((world q).files file.0).bytes ≡ text ts ++ behind)
+      rest = pieces_are t.path ((world q).files file.0).bytes 0 ts reads.only reads.joined (gives_now t.path file.0 ts file.1 in_all)
+
   -- ---- all of one file
 
   pub text_of : (t : FileText) (ts : List Entry) → ReadsWhole t ts → ((e : Entry) → IsIn e ts → IsIn e (reverse es)) → IsTextOf t p q
@@ -135,19 +164,8 @@ module _ (p q : Past) (es : List Entry) (journal : IsJournal p) (m : Made p es q
       ended = last.piece_is.ended refl
 
       gives : GivesOf t.path (last.early ++ last.later) w.front
-      gives from piece i = piece_at
-        where
-          r : WasRead t.path from piece p q
-          r = was_read t.path from piece (in_all (Reads t.path from piece) (subst (IsIn (Reads t.path from piece)) (sym w.joined) (in_front (Reads t.path from piece) w.front w.back i)))
-
-          one : r.file ≡ last.file
-          one = same_file (names (world q) t.path) r.file last.file r.now.named last.now.named
-
-          both : r.early ++ r.later ≡ last.early ++ last.later
-          both = sym r.now.bytes_are ∙ (ap (λ (k : ℕ). ((world q).files k).bytes) one ∙ last.now.bytes_are)
-
-          piece_at : piece ≡ take (length piece) (drop from (last.early ++ last.later))
-          piece_at = subst (λ (bs : List ℕ). piece ≡ take (length piece) (drop from bs)) both (piece_of_more from piece r.early r.later r.piece_is.part)
+      gives = subst (λ (bs : List ℕ). GivesOf t.path bs w.front) last.now.bytes_are
+          (gives_now t.path last.file w.front last.now.named (λ e i. in_all e (subst (IsIn e) (sym w.joined) (in_front e w.front w.back i))))
 
       rest : (behind : List ℕ) × (last.early ++ last.later ≡ t.bytes ++ behind)
       rest = let r = pieces_are t.path (last.early ++ last.later) 0 w.front w.first.only w.first.joined gives in (r.0, r.1 ∙ ap (λ (bs : List ℕ). bs ++ r.0) w.first.bytes_are)

@@ -1,5 +1,7 @@
 pub mod Answering
 pub mod Calling
+pub mod Complete
+pub mod FailedCalls
 pub mod Giving
 pub mod Keeping
 pub mod Lasting

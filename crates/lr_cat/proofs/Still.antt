@@ -1,11 +1,12 @@
 -- A call changes no name and no byte.
-use Rattle.std.proofs.Common.{◌≡◌, inl, inr, ℕ, ℤ, List, [], ◌∷◌, ◌++◌, reverse, Option, Some, None, refl, sym, ◌∙◌, subst}
+use Rattle.std.proofs.Common.{◌≡◌, ◌⊎◌, inl, inr, ℕ, ℤ, List, [], ◌∷◌, ◌++◌, reverse, Option, Some, None, refl, sym, ◌∙◌, subst}
 use Rattle.std.proofs.lemmas.Option.{same_Some}
 use Rattle.lr_rules.specs.declared.path.Path.{Path}
 use Rattle.lr_rules.specs.declared.clock.Clock.{Clock}
 use Rattle.lr_rules.specs.declared.rules.Rules.{Rules}
 use Rattle.lr_rules.specs.declared.rule.Naming.{Naming}
 use Rattle.lr_rules.specs.declared.fault.Fault.{Fault}
+use Rattle.lr_rules.specs.declared.fault.Fault.TheVariants as fault
 use Rattle.lr_rules.specs.Names.{naming_of}
 use Rattle.lr_rules.specs.Path.{parent_of}
 use Rattle.lr_host.specs.declared.entry.Entry.{Entry}
@@ -14,23 +15,28 @@ use Rattle.lr_host.specs.declared.journal.Journal.{Journal}
 use Rattle.lr_host.specs.Looks.{IsDir, Sees}
 use Rattle.lr_host.specs.Opening.{IsJournal}
 use Rattle.lr_host.specs.Quiet.{ChangeNothing}
-use Rattle.lr_host.specs.Told.{Left, not_told, is_told, Maybe, WhereTold}
+use Rattle.lr_host.specs.Told.{Counts, Left, Rose, not_told, is_told, Maybe, WhereTold}
 use Rattle.lr_host.specs.World.{past}
 use Rattle.lr_host.proofs.Left.{left_as}
 use Rattle.lr_host.proofs.Quiet.{quiet_still, sees_quiet, still_both, then_still}
+use Rattle.lr_clock.specs.Came.{WhereCame}
 use Rattle.lr_conf.specs.Meaning.{Meaning}
+use Rattle.lr_due.specs.Zone.{IsInRange}
 use Rattle.lr_include.proofs.AllQuiet.{reads_quiet, lacking_quiet}
 use Rattle.lr_looks.specs.Inside.{Inside}
 use Rattle.lr_cat.specs.declared.outcome.CatOutcome.{CatOutcome}
+use Rattle.lr_cat.specs.declared.outcome.CatOutcome.TheVariants as outcome
 use Rattle.lr_cat.specs.declared.words.Wanted.{Wanted}
 use Rattle.lr_cat.specs.Came.{Came, LogEnds, held, short, called, RulesEnd, no_log, lacks, given, ConfsEnd, not_read, read, CatEnds, no_clock, no_memory, behind_clock, CatShows, bad_words, no_words, wants}
 use Rattle.lr_cat.specs.Cats.{Cats, no_directory, began, IsShort}
+use Rattle.lr_cat.specs.Complete.{IsClear, NoRise, PrintsAll}
 use Rattle.lr_cat.specs.History.{IsHistory}
-use Rattle.lr_cat.specs.Says.{CatSays}
+use Rattle.lr_cat.specs.Says.{CatSays, HasCounted, HasFault}
 use Rattle.lr_cat.specs.Sights.{AreSights}
 use Rattle.lr_cat.specs.Texts.{FileText}
 use Rattle.lr_cat.specs.Words.{wanted}
 use Rattle.lr_cat.specs.Internal.{CameSo}
+use Rattle.lr_cat.proofs.Complete.{shows_print}
 use Rattle.lr_cat.proofs.Sighted.{sights_still, works_sights}
 use Rattle.lr_cat.proofs.Whole.{IsWork, shows_work, some_none, whole_history}
 use Rattle.lr_host.proofs.Quiet.{still_in_order}
@@ -88,9 +94,9 @@ shows_still here words seconds out came ts (wants w is h) = ends_still w seconds
 -- ---- all that is told
 
 whole : (here : Path) (words : List (List ℕ)) (seconds : ℤ) (out : CatOutcome) (came : Option Came) (o n : Option Journal) → Left (CatShows here words seconds out came) o n → WhereTold o IsJournal
-    → (w : Wanted) (c : Came) (j k : Journal) → wanted here words ≡ Some w → came ≡ Some c → c.own ≡ None → o ≡ Some j → n ≡ Some k → IsHistory w c (past j) (past k)
-whole here words seconds out came _ _ not_told disk w c j k want is none before after = absurd (some_none j (sym before))
-whole here words seconds out came _ _ (is_told {j = i} {k = l} {es = es} made h) disk w c j k want is none before after =
+    → (w : Wanted) → wanted here words ≡ Some w → WhereCame came o n (λ c j k. c.own ≡ None → IsHistory w c (past j) (past k))
+whole here words seconds out came _ _ not_told disk w want c j k is before after none = absurd (some_none j (sym before))
+whole here words seconds out came _ _ (is_told {j = i} {k = l} {es = es} made h) disk w want c j k is before after none =
     subst (λ (x : Journal). IsHistory w c (past x) (past k)) first (subst (λ (x : Journal). IsHistory w c (past i) (past x)) last
     (whole_history w c (past i) (past l) es disk made (still_in_order es (shows_still here words seconds out came (reverse es) h)) work))
   where
@@ -103,12 +109,30 @@ whole here words seconds out came _ _ (is_told {j = i} {k = l} {es = es} made h)
     work : IsWork w c (reverse es)
     work = shows_work w c none here words seconds out (reverse es) want (subst (λ (x : Option Came). CatShows here words seconds out x (reverse es)) is h)
 
-pub says_so : (here : Path) (words : List (List ℕ)) (seconds : ℤ) (out : CatOutcome) {o n : Option Journal} {x y : Option (List ℕ)} → WhereTold o IsJournal → CameSo (CatShows here words seconds out) o n x y → CatSays here words seconds out o n x y
-says_so here words seconds out {o = o} {n = n} disk c = record {
+complete : (here : Path) (words : List (List ℕ)) (seconds : ℤ) (out : CatOutcome) (came : Option Came) (o n : Option Journal) (counted counts : Counts) (low high : ℕ) → Left (CatShows here words seconds out came) o n → WhereTold o IsJournal → HasCounted out counted counts
+    → (HasFault out fault.Out → Rose low high) → (w : Wanted) (j k : Journal) → wanted here words ≡ Some w → IsInRange seconds → o ≡ Some j → n ≡ Some k → NoRise counted counts low high → ((c : Came) → came ≡ Some c → IsClear w c (past j) (past k)) → PrintsAll out came
+complete here words seconds out came _ _ counted counts low high not_told disk has has_out w j k want range before after none clear = absurd (some_none j (sym before))
+complete here words seconds out came _ _ counted counts low high (is_told {j = i} {k = l} {es = es} made h) disk has has_out w j k want range before after none clear =
+    shows_print w seconds out came (past i) (past l) es disk made (still_in_order es (shows_still here words seconds out came (reverse es) h)) range counted counts low high none has has_out clear_there here words want h
+  where
+    clear_there : (c : Came) → came ≡ Some c → IsClear w c (past i) (past l)
+    clear_there c is = subst (λ (x : Journal). IsClear w c (past x) (past l)) (sym (same_Some i j before)) (subst (λ (x : Journal). IsClear w c (past j) (past x)) (sym (same_Some l k after)) (clear c is))
+
+pub says_so : (here : Path) (words : List (List ℕ)) (seconds : ℤ) (out : CatOutcome) {o n : Option Journal} (counted counts : Counts) {x y : Option (List ℕ)} (low high : ℕ) → WhereTold o IsJournal → CameSo (CatShows here words seconds out) o n x y → HasCounted out counted counts → (HasFault out fault.Out → Rose low high)
+    → CatSays here words seconds out o n counted counts x y low high
+says_so here words seconds out {o = o} {n = n} counted counts low high disk c has has_out = record {
   came = c.came;
   shown = c.shown;
   took = c.took;
   still = left_as c.shown (λ ts h. shows_still here words seconds out c.came ts h);
   safe = still_safe o n (left_as c.shown (λ ts h. shows_still here words seconds out c.came ts h));
   whole = whole here words seconds out c.came o n c.shown disk;
+  complete = complete here words seconds out c.came o n counted counts low high c.shown disk has has_out;
 }
+
+-- ---- what came to nothing tells no fault
+
+pub says_nothing : (here : Path) (words : List (List ℕ)) (seconds : ℤ) (out : CatOutcome) {o : Option Journal} (counted counts : Counts) {x : Option (List ℕ)} (low high : ℕ) → WhereTold o IsJournal → CameSo (CatShows here words seconds out) o o x x → (out ≡ outcome.BadWords) ⊎ (out ≡ outcome.OutOfMemory)
+    → CatSays here words seconds out o o counted counts x x low high
+says_nothing here words seconds out counted counts low high disk c (inl e) = says_so here words seconds out counted counts low high disk c (subst (λ (z : CatOutcome). HasCounted z counted counts) (sym e) tt) (λ h. absurd (subst (λ (z : CatOutcome). HasFault z fault.Out) e h))
+says_nothing here words seconds out counted counts low high disk c (inr e) = says_so here words seconds out counted counts low high disk c (subst (λ (z : CatOutcome). HasCounted z counted counts) (sym e) tt) (λ h. absurd (subst (λ (z : CatOutcome). HasFault z fault.Out) e h))

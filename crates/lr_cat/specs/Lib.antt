@@ -1,5 +1,6 @@
 pub mod Came
 pub mod Cats
+pub mod Complete
 pub mod First
 pub mod History
 pub mod Internal

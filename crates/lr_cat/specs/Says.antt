@@ -9,11 +9,14 @@ use Rattle.lr_host.specs.Quiet.{ChangeNothing}
 use Rattle.lr_host.specs.Safe.{KeepsSafe}
 use Rattle.lr_host.specs.Told.{Counts, Left, Rose}
 use Rattle.lr_host.specs.World.{past}
+use Rattle.lr_clock.specs.Came.{WhereCame}
+use Rattle.lr_due.specs.Zone.{IsInRange}
 use Rattle.lr_report.specs.Puts.{Took, TookPart}
 use Rattle.lr_cat.specs.declared.outcome.CatOutcome.{CatOutcome}
 use Rattle.lr_cat.specs.declared.outcome.CatOutcome.TheVariants.{Done, Held}
 use Rattle.lr_cat.specs.declared.words.Wanted.{Wanted}
 use Rattle.lr_cat.specs.Came.{Came, CatShows}
+use Rattle.lr_cat.specs.Complete.{IsClear, NoRise, PrintsAll}
 use Rattle.lr_cat.specs.History.{IsHistory}
 use Rattle.lr_cat.specs.Texts.{TookBy, joined}
 use Rattle.lr_cat.specs.Words.{wanted}
@@ -26,7 +29,7 @@ TookOf (Some c) before after = TookBy c.own (joined c.texts) before after
 
 -- All that is told of a call with these words, at these seconds, by what it came to.
 pub record CatSays (here : Path) (words : List (List ℕ)) (seconds : ℤ) (outcome : CatOutcome) (told later : Option Journal)
-    (before after : Option (List ℕ)) : Type 0 where
+    (counted counts : Counts) (before after : Option (List ℕ)) (low high : ℕ) : Type 0 where
   -- what it came to, where it came to the files of its log
   pub came : Option Came
   -- its entries and its answer show it: the clock, what was read of the configuration, which rule gives the log, the lock, what
@@ -38,8 +41,12 @@ pub record CatSays (here : Path) (words : List (List ℕ)) (seconds : ℤ) (outc
   pub still : Left ChangeNothing told later
   pub safe : KeepsSafe told later
   -- where no fault of its own ended it, the files are those that stood as it began, and the texts are theirs
-  pub whole : (w : Wanted) (c : Came) (j k : Journal) → wanted here words ≡ Some w → came ≡ Some c → c.own ≡ None → told ≡ Some j
-      → later ≡ Some k → IsHistory w c (past j) (past k)
+  pub whole : (w : Wanted) → wanted here words ≡ Some w
+      → WhereCame came told later (λ c j k. c.own ≡ None → IsHistory w c (past j) (past k))
+  -- none did where the words are good, the clock is in range, no count rose and nothing was in its way: then all is printed, and no
+  -- fault is told but those of the configuration; unless no definition gives the log, or there was no memory
+  pub complete : (w : Wanted) (j k : Journal) → wanted here words ≡ Some w → IsInRange seconds → told ≡ Some j → later ≡ Some k
+      → NoRise counted counts low high → ((c : Came) → came ≡ Some c → IsClear w c (past j) (past k)) → PrintsAll outcome came
 
 -- ---- by the counts
 

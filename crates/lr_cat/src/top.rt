@@ -41,8 +41,10 @@ pub fn lrcat<H: Host, K: Sink, N: Sink>(
     // What the call came to, as a value: its clock, what it read of the configuration, the files of its log, and the text that it
     // read of each. Its entries and its answer show it, and the output took those texts, the oldest first. Nothing was changed.
     // Where no fault of its own ended the call, the files are those that stood as the run began, and each text has all bytes
-    // that its file had as the call began, and is a first part of those that it has at the end.
-    ensures told { CatSays here.now words.now now result (H.told host.old) (H.told host.new) (K.taken out.old) (K.taken out.new) }
+    // that its file had as the call began, and is a first part of those that it has at the end. None did where no count rose and
+    // nothing was in the call's way: then all is printed, and no fault is told but the configuration's.
+    ensures told { CatSays here.now words.now now result (H.told host.old) (H.told host.new) (H.counts host.old)
+        (H.counts host.new) (K.taken out.old) (K.taken out.new) (K.faults out.old) (K.faults out.new) }
 
     // The notes took the lines of the report, or the one line of another outcome; all of it, unless a put failed.
     ensures notes { Noted (notes_text here.now words.now result) (N.taken notes.old) (N.taken notes.new) (N.faults notes.old)
