@@ -27,7 +27,7 @@ fn run<K: Sink>(rt: &HostRuntime, words: &[Text], out: &mut K) -> Outcome {
     let Ok(files) = rt.clone() else {
         return printed(Outcome::OutOfMemory, out);
     };
-    let mut host = RealHost::new(files);
+    let mut host = RealHost::to_read(files);
     lraudit(
         rt.alloc(),
         words,
