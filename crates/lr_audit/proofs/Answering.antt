@@ -15,7 +15,7 @@ use Rattle.lr_report.specs.Outcome.{text_of}
 use Rattle.lr_report.specs.Puts.{Took, TookPart}
 use Rattle.lr_report.specs.Reported.{IsOut, HasNoOut}
 use Rattle.lr_shown.specs.Puts.{Puts}
-use Rattle.lr_audit.specs.declared.line.Audit.{Audit}
+use Rattle.lr_audited.specs.declared.line.Audit.{Audit}
 use Rattle.lr_audit.specs.declared.told.Told.{Told}
 use Rattle.lr_audit.specs.Came.{answer_of, audit_told}
 use Rattle.lr_audit.specs.Says.{said_text, with_out, Answers, whole, broken_off, WhereDone}

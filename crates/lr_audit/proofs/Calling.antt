@@ -37,11 +37,12 @@ use Rattle.lr_clock.specs.Clock.{ShowsClock, LacksClock, ClockStopped, HasClock,
 use Rattle.lr_report.specs.declared.outcome.Outcome.{Outcome}
 use Rattle.lr_report.specs.declared.outcome.Outcome.TheVariants.{Done, OutOfMemory}
 use Rattle.lr_report.specs.Reported.{IsOut, HasNoOut, AreReported}
-use Rattle.lr_audit.specs.declared.line.Audit.{Audit}
+use Rattle.lr_audited.specs.declared.line.Audit.{Audit}
 use Rattle.lr_audit.specs.declared.told.Told.{Told}
 use Rattle.lr_audit.specs.declared.words.Wanted.{Wanted}
-use Rattle.lr_audit.specs.Audits.{AddsSaw, IsAudit, Audits}
 use Rattle.lr_command.specs.Words.{mail_program}
+use Rattle.lr_audited.specs.Audits.{IsAudit}
+use Rattle.lr_audit.specs.Audits.{AddsSaw, Audits}
 use Rattle.lr_audit.specs.Came.{Came, ShowsConfs, ShowsCame, answer_of, audit_told, CallEnds, no_clock, no_memory, audited}
 use Rattle.lr_audit.specs.Internal.{CameTo, RulesCame, ConfsCame, clock_answer}
 use Rattle.lr_audit.proofs.Answering.{notices_in, faults_in}

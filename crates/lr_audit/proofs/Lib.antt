@@ -1,15 +1,9 @@
 mod Answering
-mod Between
 mod Calling
 mod Filing
-mod Foretelling
-mod Going
 mod Ordering
-mod Placing
 mod Saying
 mod Seeing
-mod Stamping
 mod Still
 mod Summing
-mod Telling
 mod Truly

@@ -23,7 +23,7 @@ use Rattle.lr_report.specs.declared.outcome.Report.{Report}
 use Rattle.lr_report.specs.Outcome.{text_of}
 use Rattle.lr_report.specs.Puts.{Took, TookPart}
 use Rattle.lr_report.specs.Reported.{AreReported}
-use Rattle.lr_audit.specs.declared.line.Audit.{Audit}
+use Rattle.lr_audited.specs.declared.line.Audit.{Audit}
 use Rattle.lr_audit.specs.declared.told.Told.{Told}
 use Rattle.lr_audit.specs.declared.words.Wanted.{Wanted}
 use Rattle.lr_audit.specs.Came.{Came, answer_of, audit_told, CallEnds, CallShows, not_read, read}

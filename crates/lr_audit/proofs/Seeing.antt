@@ -21,7 +21,7 @@ use Rattle.lr_stood.specs.True.{AreTrue}
 use Rattle.lr_stood.proofs.All.{looks_true}
 use Rattle.lr_clock.specs.Came.{WhereCame}
 use Rattle.lr_report.specs.declared.outcome.Outcome.{Outcome}
-use Rattle.lr_audit.specs.declared.line.Audit.{Audit}
+use Rattle.lr_audited.specs.declared.line.Audit.{Audit}
 use Rattle.lr_audit.specs.declared.words.Wanted.{Wanted}
 use Rattle.lr_audit.specs.Came.{Came, call_entries, ShowsCame, CallEnds, no_clock, no_memory, audited}
 use Rattle.lr_audit.specs.Truth.{AreTrueFiles, SawTruly}

@@ -24,7 +24,7 @@ use Rattle.lr_clock.specs.Clock.{ShowsClock, LacksClock, out_of_range, no_text, 
 use Rattle.lr_clock.specs.Zone.{LacksZoneMemory, ShowsZone, LacksText, not_file, too_big, look_failed, read_failed, at_first, at_file}
 use Rattle.lr_seen.proofs.Quiet.{whole_quiet}
 use Rattle.lr_report.specs.declared.outcome.Outcome.{Outcome}
-use Rattle.lr_audit.specs.declared.line.Audit.{Audit}
+use Rattle.lr_audited.specs.declared.line.Audit.{Audit}
 use Rattle.lr_audit.specs.declared.words.Wanted.{Wanted}
 use Rattle.lr_audit.specs.Came.{Came, call_entries, ShowsCame, CallEnds, no_clock, no_memory, audited}
 use Rattle.lr_audit.proofs.Filing.{dirs_quiet}

@@ -14,8 +14,9 @@ use Rattle.lr_host.specs.Quiet.{AreQuiet}
 use Rattle.lr_host.specs.Told.{Left}
 use Rattle.lr_host.proofs.Left.{left_as}
 use Rattle.lr_plan.specs.declared.looks.Looks.{Looks}
-use Rattle.lr_audit.specs.declared.line.Audit.{Audit}
-use Rattle.lr_audit.specs.Audits.{IsAudit, SawFiles, AddsSaw, Audits}
+use Rattle.lr_audited.specs.declared.line.Audit.{Audit}
+use Rattle.lr_audited.specs.Audits.{IsAudit}
+use Rattle.lr_audit.specs.Audits.{SawFiles, AddsSaw, Audits}
 use Rattle.lr_audit.specs.Dirs.{asked_dirs, AreDirs}
 use Rattle.lr_audit.specs.Files.{ShowsDirs, Adds}
 use Rattle.lr_audit.proofs.Filing.{dirs_quiet}

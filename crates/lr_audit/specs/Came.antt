@@ -20,10 +20,11 @@ use Rattle.lr_command.specs.Words.{mail_program}
 use Rattle.lr_report.specs.declared.outcome.Outcome.{Outcome}
 use Rattle.lr_report.specs.declared.outcome.Outcome.TheVariants.{Done, BadWords, OutOfMemory}
 use Rattle.lr_report.specs.declared.outcome.Report.{Report}
-use Rattle.lr_audit.specs.declared.line.Audit.{Audit}
+use Rattle.lr_audited.specs.declared.line.Audit.{Audit}
 use Rattle.lr_audit.specs.declared.told.Told.{Told}
 use Rattle.lr_audit.specs.declared.words.Wanted.{Wanted}
-use Rattle.lr_audit.specs.Audits.{IsAudit, SawFiles}
+use Rattle.lr_audited.specs.Audits.{IsAudit}
+use Rattle.lr_audit.specs.Audits.{SawFiles}
 use Rattle.lr_audit.specs.Words.{wanted}
 
 -- ---- the value

@@ -2,13 +2,8 @@ pub mod Audits
 pub mod Came
 pub mod Dirs
 pub mod Files
-pub mod Gaps
 pub mod Internal
-pub mod Known
-pub mod Lines
-pub mod Removed
 pub mod Says
 pub mod Text
 pub mod Truth
-pub mod Unlinked
 pub mod Words

@@ -14,7 +14,7 @@ use Rattle.lr_report.specs.declared.outcome.Report.{Report}
 use Rattle.lr_report.specs.Outcome.{text_of}
 use Rattle.lr_report.specs.Puts.{Took, TookPart}
 use Rattle.lr_report.specs.Reported.{AreReported}
-use Rattle.lr_audit.specs.declared.line.Audit.{Audit}
+use Rattle.lr_audited.specs.declared.line.Audit.{Audit}
 use Rattle.lr_audit.specs.Came.{Came, CallShows}
 use Rattle.lr_audit.specs.Text.{audit_text}
 use Rattle.lr_audit.specs.Truth.{SawTruly}

@@ -2,12 +2,12 @@
 use Rattle.std.specs.Prelude.{ℕ, List, [], ◌∷◌, ◌++◌, codes, decimal, Option, Some, None}
 use Rattle.std.specs.List.{concat, flat_map}
 use Rattle.lr_rules.specs.declared.path.Path.{Path}
-use Rattle.lr_audit.specs.declared.line.Audit.{Audit}
-use Rattle.lr_audit.specs.declared.line.Line.{Line}
-use Rattle.lr_audit.specs.declared.line.What.{What}
-use Rattle.lr_audit.specs.declared.line.What.TheVariants as what
-use Rattle.lr_audit.specs.declared.line.Why.{Why}
-use Rattle.lr_audit.specs.declared.line.Why.TheVariants as why
+use Rattle.lr_audited.specs.declared.line.Audit.{Audit}
+use Rattle.lr_audited.specs.declared.line.Line.{Line}
+use Rattle.lr_audited.specs.declared.line.What.{What}
+use Rattle.lr_audited.specs.declared.line.What.TheVariants as what
+use Rattle.lr_audited.specs.declared.line.Why.{Why}
+use Rattle.lr_audited.specs.declared.line.Why.TheVariants as why
 
 -- the bytes of a path, where there is one
 abbrev pub name_of : Option Path → List ℕ

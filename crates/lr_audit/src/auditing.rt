@@ -4,77 +4,15 @@ ghost use Rattle.lr_host.specs.Counted.{WentBy};
 ghost use Rattle.lr_host.specs.Quiet.{AreQuiet};
 ghost use Rattle.lr_host.specs.Told.{Left};
 ghost use Rattle.lr_plan.specs.Planned.{CanPlanAll};
-ghost use Rattle.lr_audit.specs.Audits.{going_of, IsAudit, AddsSaw, Audits};
-ghost use Rattle.lr_audit.specs.Lines.{known_lines, AreLines};
+ghost use Rattle.lr_audit.specs.Audits.{AddsSaw, Audits};
 
 use crate::dirs::{dirs_of, put_in_order};
 use crate::files::add_files;
-use crate::gaps::gaps_of;
-use crate::knowing::{known_of, lines_for};
-use crate::line::{Audit, Line, Why};
-use crate::lines::lines_of;
-use crate::removed::removed_by;
+use lr_audited::{Audit, audit_by};
 use lr_host::Host;
 use lr_plan::Looks;
-use lr_planning::plan;
-use lr_rules::{Clock, Fault, Listed, Memory, Path, Rules, Settings};
-use lr_state::State;
+use lr_rules::{Clock, Fault, Memory, Path, Rules, Settings};
 use std::alloc::Global;
-
-// What a forced run removes that knows nothing of earlier ones.
-fn going_of(
-    alloc: Global,
-    rules: &Rules,
-    looks: &Looks,
-    clock: &Clock,
-    settings: &Settings,
-) -> Result<Listed<(Path, Why)>, Memory>
-    requires force { settings.now.force ≡ true }
-    requires looks { CanPlanAll rules.now.sets looks.now.sets }
-    ensures { IfOk result (λ going. going ≡ going_of rules.now.sets looks.now.sets clock.entry.now settings.now.mailer) }
-{
-    let state = State::new(alloc);
-    let plan = plan(alloc, rules, looks, &state, clock, settings)?;
-    removed_by(alloc, clock, plan.sets.as_slice())
-}
-
-// The line of each of these files.
-fn lines_by(
-    alloc: Global,
-    rules: &Rules,
-    looks: &Looks,
-    files: &[Path],
-) -> Result<Listed<Line>, Memory>
-    requires { CanPlanAll rules.now.sets looks.now.sets }
-    ensures { IfOk result (AreLines (known_lines rules.now.sets looks.now) files.now) }
-{
-    let lines = lines_of(alloc, rules, looks)?;
-    let known = known_of(alloc, lines)?;
-    lines_for(alloc, &known, files)
-}
-
-// The audit, where these are the files.
-fn audit_by(
-    alloc: Global,
-    rules: &Rules,
-    looks: &Looks,
-    clock: &Clock,
-    settings: &Settings,
-    files: &[Path],
-) -> Result<Audit, Memory>
-    requires force { settings.now.force ≡ true }
-    requires looks { CanPlanAll rules.now.sets looks.now.sets }
-    ensures { IfOk result (IsAudit rules.now.sets looks.now clock.entry.now settings.now.mailer files.now) }
-{
-    let lines = lines_by(alloc, rules, looks, files)?;
-    let gaps = gaps_of(alloc, looks.sets.as_slice())?;
-    let removed = going_of(alloc, rules, looks, clock, settings)?;
-    Ok(Audit {
-        lines,
-        gaps,
-        removed,
-    })
-}
 
 // The regular files beside the logs, in order of bytes.
 fn files_of<H: Host>(

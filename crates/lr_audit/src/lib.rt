@@ -12,13 +12,6 @@
 mod auditing;
 mod dirs;
 mod files;
-mod gaps;
-mod knowing;
-mod known;
-mod laws;
-mod line;
-mod lines;
-mod removed;
 mod report;
 mod run;
 mod text;
@@ -27,10 +20,4 @@ mod top;
 mod words;
 
 pub use auditing::audit_of;
-pub use laws::removals_are_foretold;
-pub use line::{Audit, Line, What, Why};
-pub use lr_due::{Zone, zone_of};
-pub use lr_report::{Outcome, Report, status};
-pub use told::Told;
 pub use top::lraudit;
-pub use words::{Wanted, wanted_of};

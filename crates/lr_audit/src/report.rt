@@ -6,9 +6,9 @@ ghost use Rattle.lr_shown.specs.Puts.{Puts};
 ghost use Rattle.lr_audit.specs.Came.{answer_of, audit_told};
 ghost use Rattle.lr_audit.specs.Says.{with_out, text_told, said_text, Answers};
 
-use crate::line::Audit;
 use crate::text::put_audit;
 use crate::told::Told;
+use lr_audited::Audit;
 use lr_host::{Sink, SinkFault};
 use lr_report::{Outcome, Report, printed, put_lines};
 use lr_rules::{Fault, Listed, Memory, Notice};

@@ -11,9 +11,9 @@ ghost use Rattle.lr_audit.specs.Came.{answer_of, audit_told, CallEnds};
 ghost use Rattle.lr_audit.specs.Internal.{CameTo, ConfsCame, RulesCame, clock_answer};
 
 use crate::auditing::audit_of;
-use crate::line::Audit;
 use crate::told::Told;
 use crate::words::Wanted;
+use lr_audited::Audit;
 use lr_clock::{ClockStop, clock_in};
 use lr_command::mail_program;
 use lr_due::Zone;

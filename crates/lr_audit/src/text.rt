@@ -4,8 +4,8 @@ ghost use Rattle.std.specs.List.{concat, flat_map};
 ghost use Rattle.lr_shown.specs.Puts.{Puts};
 ghost use Rattle.lr_audit.specs.Text.{name_of, placed_line, line_text, gap_text, going_text, audit_text};
 
-use crate::line::{Audit, Line, What, Why};
 use itoa::Buffer;
+use lr_audited::{Audit, Line, What, Why};
 use lr_host::{Sink, SinkFault};
 use lr_report::{put_four, put_three, put_two};
 use lr_rules::Path;

@@ -1,5 +1,5 @@
 // What an audit by a configuration came to.
-use crate::line::Audit;
+use lr_audited::Audit;
 use lr_rules::{Fault, Listed, Notice};
 
 /// The audit, None where there was no clock; and what there is to say besides.

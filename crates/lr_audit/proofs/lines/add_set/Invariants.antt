@@ -1,6 +1,0 @@
-use Rattle.std.proofs.Common.{◌≡◌, ◌++◌, take}
-use Rattle.lr_audit.specs.Lines.{set_lines}
-use Rattle.lr_audit.proofs.lines.add_set.Given as goal
-
-abbrev pub invariant-loop-look : goal.invariant-loop-look
-invariant-loop-look l = record { lines : l.lines.items ≡ l.initial.lines.items ++ set_lines l.rule (take l.look-index l.looks) }

@@ -1,0 +1,10 @@
+mod Between
+mod Differing
+mod Foretelling
+mod Going
+mod Placing
+mod Retiring
+mod Stamping
+mod Telling
+mod Tracing
+mod Unlinking
