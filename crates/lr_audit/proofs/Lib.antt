@@ -1,5 +1,6 @@
 mod Answering
 mod Calling
+mod Directories
 mod Filing
 mod Ordering
 mod Saying

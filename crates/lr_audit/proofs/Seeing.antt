@@ -25,6 +25,7 @@ use Rattle.lr_audited.specs.declared.line.Audit.{Audit}
 use Rattle.lr_audit.specs.declared.words.Wanted.{Wanted}
 use Rattle.lr_audit.specs.Came.{Came, call_entries, ShowsCame, CallEnds, no_clock, no_memory, audited}
 use Rattle.lr_audit.specs.Truth.{AreTrueFiles, SawTruly}
+use Rattle.lr_audit.proofs.Directories.{dirs_have_paths}
 use Rattle.lr_audit.proofs.Still.{clock_quiet, came_quiet}
 use Rattle.lr_audit.proofs.Truly.{true_files}
 
@@ -52,7 +53,8 @@ module _ (w : Wanted) (zone : Zone) (seconds : ℤ) (c : Came) (p q : Past) (es 
   still = still_in_order es (quiet_still (reverse es) (subst AreQuiet (sym joined) (came_quiet w zone seconds c s)))
 
   files : AreTrueFiles c.dirs c.files c.file_faults p q
-  files = true_files p q es m journal still c.dirs s.confs.saw.found c.file_faults c.of_files (λ e i. subst (IsIn e) (sym parts) (in_back e before c.of_files i)) s.confs.saw.shown c.files s.confs.saw.order.same
+  files = true_files p q es m journal still c.dirs s.confs.saw.found c.file_faults c.of_files (λ e i. subst (IsIn e) (sym parts) (in_back e before c.of_files i)) s.confs.saw.shown c.files
+      (dirs_have_paths c.rules.sets c.looks c.look_faults c.of_looks c.dirs s.confs.looks.shown s.confs.looks.kept_are s.confs.saw.are_dirs) s.confs.saw.order.same
 
   pub came_truly : SawTruly c p q
   came_truly = record { looked = two.mid; looks = looks; files = files }

@@ -281,8 +281,8 @@ module _ (p q : Past) (es : List Entry) (m : Made p es q) (journal : IsJournal p
         c : IsNameIn d.0.dir x × StoodOrCame x p q
         c = dir_came d.0.dir x d.0.files d.0.faults d.0.entries (inside d.0 d.1) (shown d.0 d.1) d.2
 
-    pub true_files : (files : List Path) → IsPermutation found files → AreTrueFiles dirs files faults p q
-    true_files files same = record {
-      stood = λ dir x i path h valid file. ⊎_elim (λ j. inl (in_from x files (Contains-permutation found files x same (in_to x found j)))) (λ t. inr t) (all_stood dir x i path h valid file);
+    pub true_files : (files : List Path) → ((dir : Path) → IsIn dir dirs → path_fault dir ≡ None) → IsPermutation found files → AreTrueFiles dirs files faults p q
+    true_files files paths same = record {
+      stood = λ dir x i h valid file. ⊎_elim (λ j. inl (in_from x files (Contains-permutation found files x same (in_to x found j)))) (λ t. inr t) (all_stood dir x i (paths dir i) h valid file);
       came = λ x i. all_came x (in_from x found (Contains-permutation files found x (IsPermutation-sym found files same) (in_to x files i)));
     }

@@ -26,8 +26,8 @@ IsTakenAway faults dir x = IsIn (fault.Call call.Look x) faults ⊎ ((kind : Cal
 -- These are the regular files in the directories, but for those that a failed call took away.
 pub record AreTrueFiles (dirs files : List Path) (faults : List Fault) (before behind : Past) : Type 0 where
   -- each that stood
-  pub stood : (dir x : Path) → IsIn dir dirs → path_fault dir ≡ None → IsNameIn dir x → path_fault x ≡ None
-      → IsFileAt (names (world before)) x → IsIn x files ⊎ IsTakenAway faults dir x
+  pub stood : (dir x : Path) → IsIn dir dirs → IsNameIn dir x → path_fault x ≡ None → IsFileAt (names (world before)) x
+      → IsIn x files ⊎ IsTakenAway faults dir x
   -- each of them is a name in one of the directories; it stood, or a writer was attached to its path since
   pub came : (x : Path) → IsIn x files → (dir : Path) × IsIn dir dirs × IsNameIn dir x × StoodOrCame x before behind
 
