@@ -1,0 +1,6 @@
+mod Ending
+mod Examples
+mod LettingGo
+mod SettingOut
+mod Sparing
+mod Waits
