@@ -1,6 +1,7 @@
 // Answers as texts, a line for each thing that is told.
 use lr_host::CallFault;
 use lr_rows_line::Trouble;
+use lr_rules::{CallKind, Path};
 use std::alloc::{AllocError, Global};
 
 /// Adds a line.
@@ -14,6 +15,18 @@ pub fn said(alloc: Global, line: &str) -> Result<Vec<u8>, Trouble> {
     let mut text = Vec::new(alloc);
     add(&mut text, line)?;
     Ok(text)
+}
+
+/// The line of a word and a path.
+pub fn said_path(alloc: Global, word: &str, path: &Path) -> Result<Vec<u8>, Trouble> {
+    let text = format!(in alloc; "{word} {}", path.as_str())?;
+    said(alloc, text.as_str())
+}
+
+/// The line of a call that failed.
+pub fn failed_call(alloc: Global, kind: CallKind, path: &Path) -> Result<Vec<u8>, Trouble> {
+    let text = format!(in alloc; "{kind:?} failed: {}", path.as_str())?;
+    said(alloc, text.as_str())
 }
 
 /// The line of a number.

@@ -1,6 +1,8 @@
 // The calls that a row can ask for, by their names.
+use crate::aside::set_log_aside;
 use crate::changes::{OnFile, append, begin, make, on_file, rename, sync_dir};
 use crate::cut::{cut, cut_case};
+use crate::finishing::finish_log;
 use crate::looks::{Tally, count, list, look, read, run};
 use lr_memhost::MemHost;
 use lr_rows_line::Trouble;
@@ -21,9 +23,11 @@ enum Ask {
     Begin(bool),
     Cut,
     CutCase,
+    SetAside,
+    Finish,
 }
 
-static ASKS: [(&[u8], Ask); 19] = [
+static ASKS: [(&[u8], Ask); 21] = [
     (b"look", Ask::Look),
     (b"list", Ask::List),
     (b"read", Ask::Read),
@@ -43,6 +47,8 @@ static ASKS: [(&[u8], Ask); 19] = [
     (b"begin-and-end", Ask::Begin(true)),
     (b"cut", Ask::Cut),
     (b"cut-case", Ask::CutCase),
+    (b"set-aside", Ask::SetAside),
+    (b"finish", Ask::Finish),
 ];
 
 fn answer(host: &mut MemHost, ask: Ask, cursor: &mut Cursor) -> Result<Vec<u8>, Trouble> {
@@ -60,6 +66,8 @@ fn answer(host: &mut MemHost, ask: Ask, cursor: &mut Cursor) -> Result<Vec<u8>, 
         Ask::Begin(ends) => begin(host, cursor, ends),
         Ask::Cut => cut(host, cursor),
         Ask::CutCase => cut_case(cursor),
+        Ask::SetAside => set_log_aside(host, cursor),
+        Ask::Finish => finish_log(host, cursor),
     }
 }
 

@@ -1,0 +1,2 @@
+mod CanCopy
+mod CanSetAside
