@@ -9,8 +9,6 @@ use Rattle.std.proofs.lemmas.List.Elements.{All-head, All-tail}
 use Rattle.lr_rules.specs.declared.fault.Fault.{Fault}
 use Rattle.lr_rules.specs.declared.path.Path.{Path}
 use Rattle.lr_rules.specs.declared.rule.Count.{Count}
-use Rattle.lr_rules.specs.declared.rule.Count.TheVariants as count
-use Rattle.lr_rules.specs.declared.rule.Make.TheVariants as make
 use Rattle.lr_rules.specs.declared.rule.Format.{Format}
 use Rattle.lr_rules.specs.declared.rule.Naming.{Naming}
 use Rattle.lr_rules.specs.declared.rule.Rule.{Rule}
@@ -35,12 +33,11 @@ use Rattle.lr_family.proofs.Unique.{place_same}
 use Rattle.lr_host.specs.declared.thing.Kind.{Kind}
 use Rattle.lr_host.specs.declared.thing.Kind.TheVariants as kind
 use Rattle.lr_host.specs.declared.thing.Seen.{Seen}
-use Rattle.lr_copy.specs.declared.job.Job.{Job}
 use Rattle.lr_chain.proofs.DatedFalling.{irrefl}
-use Rattle.lr_plan.specs.Planned.{empty_stand}
 use Rattle.lr_plan.specs.declared.looks.LogLook.{LogLook}
 use Rattle.lr_plan.specs.declared.looks.Looks.{Looks}
 use Rattle.lr_plan.specs.declared.looks.SetLooks.{SetLooks}
+use Rattle.lr_looks.specs.declared.standing.Standing.{Standing}
 use Rattle.lr_looks.specs.Families.{LookedLog, looked_at}
 use Rattle.lr_looks.specs.Found.{FoundLog, paths_of}
 use Rattle.lr_looks.specs.Sets.{where_in, of_set, looked_in, HaveLooksFrom}
@@ -49,8 +46,7 @@ use Rattle.lr_laws_family.specs.Members.{IsFamily}
 use Rattle.lr_laws_family.specs.Shown.{Shown}
 use Rattle.lr_laws_family.proofs.Picking.{named_all}
 use Rattle.lr_laws_targets.proofs.Own.{named_own}
-use Rattle.lr_laws_targets.specs.Target.{Target}
-use Rattle.lr_laws_targets.proofs.PartFile.{part_no_member, job_paths}
+use Rattle.lr_laws_targets.proofs.PartFile.{part_no_member, part_no_log}
 use Rattle.lr_seen.proofs.Apart.{OffFound, OffLooked, kept_off, looked_pairs}
 use Rattle.lr_seen.proofs.Coming.{came_from, in_looked, in_set, in_where}
 use Rattle.lr_seen.proofs.Elements.{in_flat, in_each, Pairs, pairs_flat, pairs_two}
@@ -139,24 +135,6 @@ parts_once : (ss : List PartSight) → AreDistinct (sight_paths ss) → AreDisti
 parts_once [] d = tt
 parts_once (s ∷ ss) d = distinct_both (part_in s) (flat_map part_in ss) (seen_once s.path s.seen) (parts_once ss d.1)
     (λ x y i j same. apart_in s.path y (sight_paths ss) d.0 (in_sights ss y j) (sym same ∙ sym (part_is s.path x s.seen i)))
-
--- a part file isn't the log: no copy has it
-part_no_log : (log : Path) (n : Naming) → IsFamily log n → (member : Path) → IsMember n member → (rule : Rule) → naming_of rule log ≡ n → part_of member ≢ log
-part_no_log log n family member is rule naming = (job_paths t job family is (record { from_is = refl; to_is = refl; part_is = refl; dir_is = refl }) rule naming).part_apart
-  where
-    job : Job
-    job = record { from = log; part = part_of member; to = member; dir = n.dir; stale = false; mode = None; cut = false; limit = 0 }
-
-    t : Target
-    t = record {
-      log = log;
-      naming = n;
-      count = count.Always;
-      maxage = None;
-      stand = empty_stand;
-      ready = record { leftovers = []; dir = None; moves = []; log = log; target = member; make = make.No; retire = [] };
-      job = Some job;
-    }
 
 -- ---- the files of one family
 
@@ -249,7 +227,7 @@ module _ {reserved : List Path} (rules : Rules) (sets : List SetLooks) (faults :
   files_in l = files_of l.stand
 
   own_name : (l : LookedLog) (x : Path) → IsIn l s.looked → IsIn x (files_in l) → IsOwnName l.path l.naming x
-  own_name l x i j = named_own l.path l.naming x (inr ((files_are l i).own x j))
+  own_name l x i j = ⊎_elim (λ m. named_own l.path l.naming x (inr (inl m))) (λ p. named_own l.path l.naming x (inr (inr (inl p)))) ((files_are l i).own x j)
 
   -- files of families that are apart differ
   off_files : (l m : LookedLog) (x y : Path) → IsIn l s.looked → IsIn m s.looked → OffLooked l m → IsIn x (files_in l) → IsIn y (files_in m) → x ≢ y
@@ -371,7 +349,7 @@ module _ {reserved : List Path} (rules : Rules) (sets : List SetLooks) (faults :
       k : (z : FoundLog) × IsIn z s.kept × (z.log.path ≡ log)
       k = in_unmap (λ (z : FoundLog). z.log.path) log s.kept i
 
-      g : (z : FoundLog) × IsIn z s.kept × ((stand : _) × (f.log ≡ looked_at z stand))
+      g : (z : FoundLog) × IsIn z s.kept × ((w : Standing) × (f.log ≡ looked_at z w.stand w.tmp))
       g = in_looked s.kept s.entries.second.families.sights f.log (subst (IsIn f.log) s.entries.second.families.looked_are f.looked)
 
       at_path : f.log.path ≡ g.0.log.path

@@ -34,6 +34,7 @@ use Rattle.lr_commands.specs.Commands.{with_programs}
 use Rattle.lr_copy.specs.declared.job.Job.{Job}
 use Rattle.lr_chain.specs.declared.ready.Ready.{Ready}
 use Rattle.lr_chain.specs.DatedReady.{dated_target}
+use Rattle.lr_chain.specs.Hindrances.{what_hinders}
 use Rattle.lr_chain.specs.Rotation.{places_of}
 use Rattle.lr_chain.specs.Serials.{next_serial}
 use Rattle.lr_chain.proofs.Either.{ready_numbers, ready_dates, hinders_numbers, free_there, target_at}
@@ -46,7 +47,7 @@ use Rattle.lr_plan.specs.declared.looks.SetLooks.{SetLooks}
 use Rattle.lr_plan.specs.declared.plan.LogPlan.{LogPlan}
 use Rattle.lr_plan.specs.declared.plan.SetPlan.{SetPlan}
 use Rattle.lr_plan.specs.declared.step.Step.{Step}
-use Rattle.lr_plan.specs.Planned.{stand_for, make_of, ready_for, hindrances, decision, log_plan, none_hinders, plans_of, where_due, log_plans, set_plan, all_plans, plan_of}
+use Rattle.lr_plan.specs.Planned.{stand_for, aside_by, first_path, make_for, ready_for, hindrances, decision, log_plan, none_hinders, plans_of, where_due, log_plans, set_plan, all_plans, plan_of}
 use Rattle.lr_plan.specs.Steps.{program, rotation_of, retirement_of, steps_of_log, shared_steps, by_logs, steps_of_set}
 use Rattle.lr_looks.specs.Shown.{ShowsLooks}
 use Rattle.lr_laws_family.proofs.Numbers.{rising}
@@ -54,23 +55,21 @@ use Rattle.lr_laws_rotations.proofs.Ready.{have_next}
 use Rattle.lr_laws_targets.specs.AllTurns.{part_paths}
 use Rattle.lr_laws_targets.specs.Apart.{HasNames, HaveNames}
 use Rattle.lr_laws_targets.specs.Rotation.{paths_in}
-use Rattle.lr_laws_targets.specs.Seen.{IsLogSeen, AreLogsSeen}
-use Rattle.lr_laws_targets.specs.Target.{Target}
-use Rattle.lr_laws_targets.proofs.CallsFit.{log_paths}
-use Rattle.lr_laws_targets.proofs.Own.{member_own, target_member, part_file_own}
-use Rattle.lr_laws_targets.proofs.PartFile.{job_no_member}
-use Rattle.lr_laws_targets.proofs.Plan.{any_log}
-use Rattle.lr_rules.specs.Names.{the_log}
+use Rattle.lr_laws_targets.specs.Target.{Target, HasWay}
+use Rattle.lr_laws_targets.proofs.Own.{member_own, named_own, target_member, part_file_own}
+use Rattle.lr_laws_targets.proofs.PartFile.{job_part, job_no_member}
+use Rattle.lr_laws_targets.proofs.Way.{first_own}
 use Rattle.lr_weave.specs.Fitting.{NoneMeets, DontMeet}
 use Rattle.lr_seen.specs.Planned.{target_in, targets_of_sets}
 use Rattle.lr_seen.specs.Targets.{target_of, where_free, targets_of, groups_of, all_targets}
 use Rattle.lr_seen.proofs.Apart.{targets_dont_meet}
 use Rattle.lr_seen.proofs.Elements.{in_flat}
+use Rattle.lr_seen.proofs.Hindrances.{free_of_members}
 use Rattle.lr_seen.proofs.Planned.{plan_targets}
-use Rattle.lr_seen.proofs.Seen.{targets_seen, targets_have_names}
+use Rattle.lr_seen.proofs.Seen.{targets_have_names}
 use Rattle.lr_audited.specs.declared.line.Why.{Why}
 use Rattle.lr_audited.specs.Audits.{going_of}
-use Rattle.lr_audited.specs.Removed.{newest_going, left_over, leftovers_of, retired_of, log_removed, set_removed, removed_by}
+use Rattle.lr_audited.specs.Removed.{aside_going, newest_going, left_over, leftovers_of, retired_of, log_removed, set_removed, removed_by}
 use Rattle.lr_audited.specs.Unlinked.{Origins, own_names, unlinked, set_steps, set_parts, going_paths, files_unlinked}
 use Rattle.lr_audited.proofs.Retiring.{log_from, Retires, numbered_retires, numbered_left, dated_retires}
 use Rattle.lr_audited.proofs.Tracing.{run, run_both, unlinked_both, AllTouch, touch_both, touch_as, left_alone, unlinked_program, unlinked_by_program, touch_program}
@@ -89,7 +88,10 @@ module _ (clock : Clock) (mailer : Path) (rule : Rule) (look : LogLook) (h : Has
   its_members = (stand_for rule look).members
 
   abbrev its_make : Make
-  its_make = make_of rule.create look.seen
+  its_make = make_for rule look
+
+  abbrev its_first : Path
+  its_first = first_path rule.way look.path look.tmp
 
   abbrev its_ready : Ready
   its_ready = ready_for clock rule look
@@ -106,33 +108,37 @@ module _ (clock : Clock) (mailer : Path) (rule : Rule) (look : LogLook) (h : Has
   abbrev its_serial : ℕ
   its_serial = next_serial (stand_for rule look).members (clock_seconds look.family.naming.dated clock)
 
+  -- no member hinders it
+  alone : what_hinders its_naming rule.count clock its_stand ≡ []
+  alone = free_of_members clock rule look free
+
   -- what is told of it is what goes behind its way
   retires_by : (d : Option Format) → look.family.naming.dated ≡ d → Retires its_naming (log_from its_job its_ready.log) (paths_in its_ready.leftovers) its_ready.moves its_ready.target (paths_in its_ready.retire) (going_paths (reverse (newest_going look.family.naming.dated clock its_plan)))
   retires_by None e =
       let rises = rising its_naming e its_members h.named h.newest_first in
       subst (λ (d : Option Format). Retires its_naming (log_from its_job its_ready.log) (paths_in its_ready.leftovers) its_ready.moves its_ready.target (paths_in its_ready.retire) (going_paths (reverse (newest_going d clock its_plan)))) (sym e)
-      (subst (λ (r : Ready). Retires its_naming (log_from its_job its_ready.log) (paths_in r.leftovers) r.moves r.target (paths_in r.retire) (going_paths (reverse (newest_going None clock its_plan)))) (sym (ready_numbers look.path its_naming rule.count rule.maxage clock its_make its_members e))
-      (numbered_retires its_ready.log look.path its_job its_naming rule.count rule.maxage clock.now.seconds its_make its_members e h.named
-      (have_next its_naming rule.count its_members e h.start h.count h.named (sym (hinders_numbers its_naming rule.count clock its_stand e (free_there its_naming rule.count clock its_stand free)) ∙ free))
+      (subst (λ (r : Ready). Retires its_naming (log_from its_job its_ready.log) (paths_in r.leftovers) r.moves r.target (paths_in r.retire) (going_paths (reverse (newest_going None clock its_plan)))) (sym (ready_numbers its_first its_naming rule.count rule.maxage clock its_make its_members e))
+      (numbered_retires its_ready.log its_first its_job its_naming rule.count rule.maxage clock.now.seconds its_make its_members e h.named
+      (have_next its_naming rule.count its_members e h.start h.count h.named (sym (hinders_numbers its_naming rule.count clock its_stand e (free_there its_naming rule.count clock its_stand alone)) ∙ alone))
       (going_are rule.count rule.maxage clock.now.seconds its_members rises) (falls_all (places_of its_members) rises)))
   retires_by (Some f) e =
       subst (λ (d : Option Format). Retires its_naming (log_from its_job its_ready.log) (paths_in its_ready.leftovers) its_ready.moves its_ready.target (paths_in its_ready.retire) (going_paths (reverse (newest_going d clock its_plan)))) (sym e)
-      (subst (λ (r : Ready). Retires its_naming (log_from its_job its_ready.log) (paths_in r.leftovers) r.moves r.target (paths_in r.retire) (going_paths (reverse (newest_going (Some f) clock its_plan)))) (sym (ready_dates look.path its_naming rule.count rule.maxage clock its_make its_members f e))
+      (subst (λ (r : Ready). Retires its_naming (log_from its_job its_ready.log) (paths_in r.leftovers) r.moves r.target (paths_in r.retire) (going_paths (reverse (newest_going (Some f) clock its_plan)))) (sym (ready_dates its_first its_naming rule.count rule.maxage clock its_make its_members f e))
       (dated_retires its_ready.log (dated_target its_naming clock its_members) its_job rule.count rule.maxage clock.now.seconds its_moment its_serial its_naming its_members h.family.format h.named h.newest_first (is_next its_members its_moment)
-      (target_at its_naming rule.count clock its_stand free f e h.family.format h.named)))
+      (target_at its_naming rule.count clock its_stand alone f e h.family.format h.named)))
 
   -- what is left over has paths of its own
   left_by : (d : Option Format) → look.family.naming.dated ≡ d → AreDistinct (paths_in (ready_for clock rule look).leftovers)
   left_by None e =
       let rises = rising its_naming e its_members h.named h.newest_first in
-      subst (λ (r : Ready). AreDistinct (paths_in r.leftovers)) (sym (ready_numbers look.path its_naming rule.count rule.maxage clock its_make its_members e))
-      (numbered_left its_ready.log look.path its_job its_naming rule.count rule.maxage clock.now.seconds its_make its_members e h.named
-      (have_next its_naming rule.count its_members e h.start h.count h.named (sym (hinders_numbers its_naming rule.count clock its_stand e (free_there its_naming rule.count clock its_stand free)) ∙ free))
+      subst (λ (r : Ready). AreDistinct (paths_in r.leftovers)) (sym (ready_numbers its_first its_naming rule.count rule.maxage clock its_make its_members e))
+      (numbered_left its_ready.log its_first its_job its_naming rule.count rule.maxage clock.now.seconds its_make its_members e h.named
+      (have_next its_naming rule.count its_members e h.start h.count h.named (sym (hinders_numbers its_naming rule.count clock its_stand e (free_there its_naming rule.count clock its_stand alone)) ∙ alone))
       (going_are rule.count rule.maxage clock.now.seconds its_members rises) (falls_all (places_of its_members) rises))
-  left_by (Some f) e = subst (λ (r : Ready). AreDistinct (paths_in r.leftovers)) (sym (ready_dates look.path its_naming rule.count rule.maxage clock its_make its_members f e)) tt
+  left_by (Some f) e = subst (λ (r : Ready). AreDistinct (paths_in r.leftovers)) (sym (ready_dates its_first its_naming rule.count rule.maxage clock its_make its_members f e)) tt
 
   pub log_retires : Retires look.family.naming (log_from (target_of clock rule look).job (ready_for clock rule look).log) (paths_in (ready_for clock rule look).leftovers) (ready_for clock rule look).moves (ready_for clock rule look).target (paths_in (ready_for clock rule look).retire)
-      (going_paths (retired_of clock (log_plan clock mailer rule look)))
+      (going_paths (reverse (newest_going look.family.naming.dated clock (log_plan clock mailer rule look))))
   log_retires = retires_by look.family.naming.dated refl
 
   pub log_left : AreDistinct (paths_in (ready_for clock rule look).leftovers)
@@ -142,7 +148,7 @@ leftover_paths : (xs : List Removal) → paths_in xs ≡ going_paths (map left_o
 leftover_paths [] = refl
 leftover_paths (x ∷ xs) = ap (λ (ps : List Path). x.path ∷ ps) (leftover_paths xs)
 
--- The test passes the log and members of the target, and no part file of its copy.
+-- The test passes the members of the target and where the log's file stood, and no part file of its copy.
 record Sorts (p : Path → Bool) (t : Target) : Type 0 where
   keeps : (x : Path) → (x ≡ t.ready.log) ⊎ IsMember t.naming x → p x ≡ true
   drops : (job : Job) → t.job ≡ Some job → p job.part ≡ false
@@ -158,13 +164,17 @@ log_fine : (p : Path → Bool) (clock : Clock) (mailer : Path) (rule : Rule) (lo
 log_fine p clock mailer rule look h sorts free = record {
   rotates = rotation_touches t h rule mailer;
   ends = retirement_touches t h rule mailer (log_plan clock mailer rule look).first_mail;
-  first = λ came before. rotation_unlinks t h rule mailer (going_paths (retired_of clock (log_plan clock mailer rule look))) (log_retires clock mailer rule look h free) p sorts.keeps sorts.drops (log_left clock mailer rule look h free) came before
+  first = λ came before. rotation_unlinks t h rule mailer told (log_retires clock mailer rule look h free) p sorts.keeps sorts.drops (log_left clock mailer rule look h free) came before
       ∙ leftover_paths (log_plan clock mailer rule look).ready.leftovers;
-  last = λ came other before same. retirement_unlinks t h rule mailer (going_paths (retired_of clock (log_plan clock mailer rule look))) (log_retires clock mailer rule look h free) p sorts.keeps sorts.drops (log_plan clock mailer rule look).first_mail came other before same;
+  last = λ came other before same. retirement_unlinks t h rule mailer told (log_retires clock mailer rule look h free) p sorts.keeps sorts.drops came other before same (log_plan clock mailer rule look).first_mail
+      ∙ sym (map-append (λ (g : Path × Why). g.0) (aside_going t.aside t.log) (reverse (newest_going look.family.naming.dated clock (log_plan clock mailer rule look))));
 }
   where
     t : Target
     t = target_of clock rule look
+
+    told : List Path
+    told = going_paths (reverse (newest_going look.family.naming.dated clock (log_plan clock mailer rule look)))
 
 -- ---- all logs of a plan
 
@@ -488,23 +498,27 @@ in_names [] t h i = absurd i
 in_names (y ∷ ys) t h (inl e) = subst HasNames e h.0
 in_names (y ∷ ys) t h (inr i) = in_names ys t h.1 i
 
-in_seen : (rules : Rules) (clock : Clock) (looks : List Entry) (ts : List Target) (t : Target) → AreLogsSeen rules clock looks ts → IsIn t ts → IsLogSeen rules clock looks t
-in_seen rules clock looks [] t h i = absurd i
-in_seen rules clock looks (y ∷ ys) t h (inl e) = subst (IsLogSeen rules clock looks) e h.0
-in_seen rules clock looks (y ∷ ys) t h (inr i) = in_seen rules clock looks ys t h.1 i
+-- the part file of its copy is no member, and not where the log's file stood
+part_no_first : (t : Target) (job : Job) → HasNames t → t.job ≡ Some job → job.part ≢ t.ready.log
+part_no_first t job h is same = go h.way
+  where
+    at_log : t.ready.log ≡ t.log → ⊥
+    at_log first = h.parts t.ready.target (target_member t h) (sym (job_part t job h.family (target_member t h) (h.job job is)) ∙ (same ∙ first))
 
--- the part file of its copy is neither the log nor a member
-module _ (rules : Rules) (clock : Clock) (looks : List Entry) (ts : List Target) (names : HaveNames ts) (seen : AreLogsSeen rules clock looks ts) (d : DontMeet ts) where
+    go : HasWay t → ⊥
+    go (inl stays) = at_log stays.first_is
+    go (inr (asked, inl aside)) = at_log aside.first_is
+    go (inr (asked, inr taken)) = let none : Some job ≡ None = sym is ∙ taken.no_job in cc
+
+module _ (ts : List Target) (names : HaveNames ts) (d : DontMeet ts) where
   part_apart : (t : Target) (job : Job) → IsIn t ts → t.job ≡ Some job → (x : Path) → (x ≡ t.ready.log) ⊎ IsMember t.naming x → job.part ≢ x
-  part_apart t job i is x (inl log) same =
-      let h = in_names ts t names i in
-      (log_paths rules clock looks t (in_seen rules clock looks ts t seen i) job is).part_apart (same ∙ (log ∙ (any_log t h ∙ sym (h.job job is).from_is)))
+  part_apart t job i is x (inl first) same = part_no_first t job (in_names ts t names i) is (same ∙ first)
   part_apart t job i is x (inr member) same =
       let h = in_names ts t names i in
       job_no_member t job h.family (target_member t h) (h.job job is) (subst (IsMember t.naming) (sym same) member)
 
   own_of : (t : Target) → IsIn t ts → (x : Path) → (x ≡ t.ready.log) ⊎ IsMember t.naming x → Own t x
-  own_of t i x (inl log) = the_log (log ∙ any_log t (in_names ts t names i))
+  own_of t i x (inl first) = subst (Own t) (sym first) (named_own t.log t.naming t.ready.log (first_own t (in_names ts t names i)))
   own_of t i x (inr member) = member_own t.log t.naming x member
 
   of_job : (t : Target) (y : Path) (j : Option Job) → t.job ≡ j → IsIn y (part_paths j) → (job : Job) × (t.job ≡ Some job) × (job.part ≡ y)
@@ -580,7 +594,13 @@ module _ (clock : Clock) (mailer other : Path) where
   newest_same rule look (Some f) = refl
 
   one_told : (rule : Rule) (look : LogLook) (d : Due) (fs : List Fault) → SameTold clock (where_due d (none_hinders fs (log_plan clock mailer rule look ∷ []))) (where_due d (none_hinders fs (log_plan clock other rule look ∷ [])))
-  one_told rule look (due.Yes why) [] = ((lefts_same rule (ready_for clock rule look).log (ready_for clock rule look).leftovers, ap reverse (newest_same rule look look.family.naming.dated)), tt)
+  one_told rule look (due.Yes why) [] = (
+    (
+      lefts_same rule look.path (ready_for clock rule look).leftovers,
+      ap (λ (xs : List (Path × Why)). aside_going (aside_by rule.way look.path look.tmp) look.path ++ reverse xs) (newest_same rule look look.family.naming.dated),
+    ),
+    tt,
+  )
   one_told rule look (due.Yes why) (f ∷ fs) = tt
   one_told rule look (due.No why) fs = tt
 
@@ -616,7 +636,7 @@ all_foretold reserved rules sets faults looks table clock mailer other shown =
     ap (λ (parts : List Path). filter (λ (x : Path). not (in_list parts x)) (unlinked own_names (flat_map set_steps (map steps_of_set (all_plans clock mailer decide rules.sets sets)))))
     (parts_are (all_plans clock mailer decide rules.sets sets) ∙ ap (flat_map target_parts) (plan_targets rules.sets sets table clock (asking true mailer)))
     ∙ (sets_so p clock (groups_of clock decide rules.sets sets) (all_plans clock mailer decide rules.sets sets) own_names
-    (groups_fine p clock mailer decide rules.sets sets (λ t i. (in_names (all_targets clock decide rules.sets sets) t names i, sorts rules clock looks (all_targets clock decide rules.sets sets) names (targets_seen rules sets faults looks clock decide shown) apart t i)))
+    (groups_fine p clock mailer decide rules.sets sets (λ t i. (in_names (all_targets clock decide rules.sets sets) t names i, sorts (all_targets clock decide rules.sets sets) names apart t i)))
     apart (λ t i x own. refl)
     ∙ ap going_paths (all_told clock mailer other decide (decision [] clock.now true) rules.sets sets (λ rule look. by_force rule look.seen.size look.seen.mtime (moment_of table look.path) (moment_of [] look.path) clock.now)))
   where

@@ -26,7 +26,8 @@ use Rattle.lr_plan.specs.declared.plan.LogPlan.{LogPlan}
 use Rattle.lr_plan.specs.declared.plan.Plan.{Plan}
 use Rattle.lr_plan.specs.declared.plan.SetPlan.{SetPlan}
 use Rattle.lr_plan.specs.Asked.{Asked, asking}
-use Rattle.lr_plan.specs.Planned.{makes_dir, empty_stand, stand_for, standing, hindrances, make_of, ready_for, log_plan, none_hinders, plans_of, where_due, log_plans, set_plan, all_plans, decision, plan_of, CanPlan, CanPlanSet, CanPlanAll}
+use Rattle.lr_plan.specs.Planned.{makes_dir, empty_stand, stand_for, standing, first_path, make_for, hindrances, ready_for, log_plan, none_hinders, plans_of, where_due, log_plans, set_plan, all_plans, decision, plan_of, CanPlan, CanPlanSet, CanPlanAll}
+use Rattle.lr_seen.proofs.Hindrances.{free_of_members}
 use Rattle.lr_audited.specs.declared.line.Why.{Why}
 use Rattle.lr_audited.specs.Audits.{going_of}
 use Rattle.lr_audited.specs.Removed.{removed_by, IsStamped, AreStamped}
@@ -74,11 +75,11 @@ log_stamped clock mailer rule look can free = record { format = can.members.form
     stand = stand_for rule look
 
     target : (f : Format) → n.dated ≡ Some f → (ready_for clock rule look).target ≡ dated_target n clock stand.members
-    target f dated = ap (λ (r : Ready). r.target) (ready_dates look.path n rule.count rule.maxage clock (make_of rule.create look.seen) stand.members f dated)
+    target f dated = ap (λ (r : Ready). r.target) (ready_dates (first_path rule.way look.path look.tmp) n rule.count rule.maxage clock (make_for rule look) stand.members f dated)
 
     stamped : (f : Format) → n.dated ≡ Some f → IsDatedAt n (clock_seconds n.dated clock) (next_serial stand.members (clock_seconds n.dated clock)) (ready_for clock rule look).target
     stamped f dated = subst (IsDatedAt n (clock_seconds n.dated clock) (next_serial stand.members (clock_seconds n.dated clock))) (sym (target f dated))
-        (target_at n rule.count clock stand free f dated can.members.format (named_for n (makes_dir rule look) look.stand can.members.named))
+        (target_at n rule.count clock stand (free_of_members clock rule look free) f dated can.members.format (named_for n (makes_dir rule look) look.stand can.members.named))
 
 pub stamped_for : (rules : List Rule) (sets : List SetLooks) (table : List Row) (clock : Clock) (asked : Asked) (plan : Plan) (given : List SetPlan) → plan ≡ plan_of rules sets table clock asked → given ≡ plan.sets → CanPlanAll rules sets → AreStamped clock given
 stamped_for rules sets table clock asked plan given is same can =

@@ -126,6 +126,19 @@ pub left_alone : (P : Path → Type 0) (steps : List Step) (came : Origins) (x :
 left_alone P [] came x h out = refl
 left_alone P (s ∷ steps) came x h out = left_alone P steps (behind s came) x h.1 out ∙ left_one P s came x h.0 out
 
+behind_alike : (P : Path → Type 0) (s : Step) (a b : Origins) → Touches P s → ((x : Path) → P x → a x ≡ b x) → (x : Path) → P x → behind s a x ≡ behind s b x
+behind_alike P (step.Renames from to) a b h same x own =
+    ap (λ (o : Option Path). cond (bytes_eq to x) o (without from a x)) (same from h.0) ∙ ap (λ (o : Option Path). cond (bytes_eq to x) (b from) (cond (bytes_eq from x) None o)) (same x own)
+behind_alike P (step.Removes path) a b h same x own = ap (λ (o : Option Path). cond (bytes_eq path x) None o) (same x own)
+behind_alike P (step.Creates path mode) a b h same x own = ap (λ (o : Option Path). cond (bytes_eq path x) None o) (same x own)
+behind_alike P (step.Takes path mode) a b h same x own = ap (λ (o : Option Path). cond (bytes_eq path x) None o) (same x own)
+behind_alike P _ a b h same x own = same x own
+
+-- where the same files stand before them at the paths that they change, the same do behind them
+pub run_alike : (P : Path → Type 0) (steps : List Step) (a b : Origins) → AllTouch P steps → ((x : Path) → P x → a x ≡ b x) → (x : Path) → P x → run a steps x ≡ run b steps x
+run_alike P [] a b h same x own = same x own
+run_alike P (s ∷ steps) a b h same x own = run_alike P steps (behind s a) (behind s b) h.1 (λ y mine. behind_alike P s a b h.0 same y mine) x own
+
 -- ---- programs and directories
 
 pub run_program : (p : Phase) (o : Option Command) (steps : List Step) (came : Origins) → run came (program p o ++ steps) ≡ run came steps

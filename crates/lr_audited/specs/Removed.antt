@@ -30,10 +30,15 @@ going c later old x = if is_left c later then (x, why.Count) ∷ [] else if old 
 abbrev pub member_going : Count → Option ℕ → ℤ → ℕ → Member → List (Path × Why)
 member_going c maxage now later m = going c later (is_expired maxage now m) m.path
 
--- The log itself; its age isn't tested. A copy of it isn't there yet.
+-- The log itself, or what waits beside it and is taken up; its age isn't tested. A copy of it isn't there yet.
 abbrev pub log_going : Count → Option Job → Path → ℕ → List (Path × Why)
 log_going c None log later = going c later false log
 log_going c (Some job) log later = []
+
+-- A log that is set aside goes behind its copy, whatever the count.
+abbrev pub aside_going : Option Path → Path → List (Path × Why)
+aside_going None log = []
+aside_going (Some path) log = (log, why.Count) ∷ []
 
 -- ---- numbered members, the newest first
 
@@ -79,9 +84,9 @@ left_over r = (r.path, why.Count)
 abbrev pub leftovers_of : LogPlan → List (Path × Why)
 leftovers_of log = map left_over log.ready.leftovers
 
--- what goes behind the rotation, the oldest first
+-- what goes behind the rotation: the log where it was set aside, and then the oldest first
 abbrev pub retired_of : Clock → LogPlan → List (Path × Why)
-retired_of clock log = reverse (newest_going log.naming.dated clock log)
+retired_of clock log = aside_going log.aside log.log ++ reverse (newest_going log.naming.dated clock log)
 
 abbrev pub log_removed : Clock → LogPlan → List (Path × Why)
 log_removed clock log = leftovers_of log ++ retired_of clock log

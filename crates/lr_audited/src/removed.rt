@@ -1,6 +1,6 @@
 // What a plan removes, under the present names.
 ghost use Rattle.std.specs.Prelude.{◌≡◌, ◌≤◌, ◌<◌, ◌+◌, ◌++◌, ◌^◌, ◌∷◌, [], ℕ, ℤ, List, Option, None, IsSome, take, drop, length};
-ghost use Rattle.std.specs.Prelude.{int_lt, All, IfOk, OnOk};
+ghost use Rattle.std.specs.Prelude.{int_lt, reverse, All, IfOk, OnOk};
 ghost use Rattle.std.specs.List.{flat_map};
 ghost use Rattle.lr_rules.specs.declared.path.Path.{Path};
 ghost use Rattle.lr_rules.specs.declared.rule.Count.{Count};
@@ -8,9 +8,9 @@ ghost use Rattle.lr_family.specs.declared.place.Place.TheVariants as at;
 ghost use Rattle.lr_family.specs.Stands.{key_in};
 ghost use Rattle.lr_chain.specs.Rotation.{is_expired};
 ghost use Rattle.lr_audited.specs.declared.line.Why.{Why};
-ghost use Rattle.lr_audited.specs.Removed.{going, log_going, moved_going, dated_going, going_with, newest_going, new_seconds};
-ghost use Rattle.lr_audited.specs.Removed.{new_serial, leftovers_of, retired_of, log_removed, set_removed, removed_by, IsStamped};
-ghost use Rattle.lr_audited.specs.Removed.{AreStamped};
+ghost use Rattle.lr_audited.specs.Removed.{going, log_going, aside_going, moved_going, dated_going, going_with, newest_going};
+ghost use Rattle.lr_audited.specs.Removed.{new_seconds, new_serial, leftovers_of, retired_of, log_removed, set_removed, removed_by};
+ghost use Rattle.lr_audited.specs.Removed.{IsStamped, AreStamped};
 
 use crate::line::Why;
 use crate::lines::{has_no_room, number_at};
@@ -82,6 +82,16 @@ fn add_log(
     match &log.job {
         Some(_) => Ok(()),
         None => add_one(alloc, into, log.count, later, false, &log.ready.log),
+    }
+}
+
+// Adds the log, where it is set aside.
+fn add_aside(alloc: Global, into: &mut Vec<(Path, Why)>, log: &LogPlan) -> Result<(), Memory>
+    ensures { OnOk result (into.new.items ≡ into.old.items ++ aside_going log.now.aside log.now.log) }
+{
+    match &log.aside {
+        Some(_) => push_one(alloc, into, &log.log, Why::Count),
+        None => Ok(()),
     }
 }
 
@@ -274,7 +284,24 @@ fn add_all(into: &mut Vec<(Path, Why)>, more: Vec<(Path, Why)>) -> Result<(), Me
     Ok(())
 }
 
-// Adds what goes behind the rotation, the oldest first.
+// Adds those that go of a log, the oldest first.
+fn add_oldest(
+    alloc: Global,
+    into: &mut Vec<(Path, Why)>,
+    clock: &Clock,
+    log: &LogPlan,
+) -> Result<(), Memory>
+    requires { IsStamped clock.now log.now }
+    ensures { OnOk result (into.new.items ≡ into.old.items ++ reverse
+        (newest_going log.now.naming.dated clock.entry.now log.now)) }
+{
+    let mut list = Vec::new(alloc);
+    add_newest(alloc, &mut list, clock, log)?;
+    list.reverse();
+    add_all(into, list)
+}
+
+// Adds what goes behind the rotation: the log where it was set aside, and then the oldest first.
 fn add_retired(
     alloc: Global,
     into: &mut Vec<(Path, Why)>,
@@ -284,10 +311,8 @@ fn add_retired(
     requires { IsStamped clock.now log.now }
     ensures { OnOk result (into.new.items ≡ into.old.items ++ retired_of clock.entry.now log.now) }
 {
-    let mut list = Vec::new(alloc);
-    add_newest(alloc, &mut list, clock, log)?;
-    list.reverse();
-    add_all(into, list)
+    add_aside(alloc, into, log)?;
+    add_oldest(alloc, into, clock, log)
 }
 
 // Adds what is left over.

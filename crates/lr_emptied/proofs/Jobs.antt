@@ -1,5 +1,5 @@
 -- The copies of a plan are those that its rules ask for.
-use Rattle.std.proofs.Common.{◌≡◌, refl, ◌∙◌, ap, subst, inl, inr, ⊎_elim, Bool, true, false, List, [], ◌∷◌, ◌++◌, Option, Some, None}
+use Rattle.std.proofs.Common.{◌≡◌, refl, ◌∙◌, ap, subst, inl, inr, ⊎_elim, Bool, true, false, cond, List, [], ◌∷◌, ◌++◌, Option, Some, None}
 use Rattle.std.proofs.lemmas.Grind.{flat_map-append}
 use Rattle.lr_rules.specs.declared.clock.Clock.{Clock}
 use Rattle.lr_rules.specs.declared.fault.Fault.{Fault}
@@ -7,6 +7,7 @@ use Rattle.lr_rules.specs.declared.path.Path.{Path}
 use Rattle.lr_rules.specs.declared.rule.Rule.{Rule}
 use Rattle.lr_rules.specs.declared.rule.Way.{Way}
 use Rattle.lr_rules.specs.declared.rule.Way.TheVariants as way
+use Rattle.lr_rules.specs.Names.{aside_path}
 use Rattle.lr_host.specs.Lists.{IsIn}
 use Rattle.lr_host.proofs.Lists.{in_append}
 use Rattle.lr_due.specs.declared.answer.Due.{Due}
@@ -15,7 +16,7 @@ use Rattle.lr_copy.specs.declared.job.Job.{Job}
 use Rattle.lr_plan.specs.declared.looks.LogLook.{LogLook}
 use Rattle.lr_plan.specs.declared.looks.SetLooks.{SetLooks}
 use Rattle.lr_plan.specs.declared.plan.LogPlan.{LogPlan}
-use Rattle.lr_plan.specs.Planned.{copy_job, job_by, standing, ready_for, log_plan, none_hinders, hindrances, plans_of, where_due, log_plans, all_plans}
+use Rattle.lr_plan.specs.Planned.{is_file, copy_job, from_path, job_by, standing, ready_for, log_plan, none_hinders, hindrances, plans_of, where_due, log_plans, all_plans}
 use Rattle.lr_emptied.specs.Jobs.{job_in, jobs_in, jobs_of, AsksFor, IsAskedFor}
 
 -- of one log
@@ -59,8 +60,13 @@ cut_way rule look target job is cut = go rule.way is
     not_cut : Some (copy_job look target false) ≡ Some job → ⊥
     not_cut same = let kept : false ≡ job.cut = ap cut_of same in clash (kept ∙ cut)
 
+    -- nor is what a log was set aside to
+    not_aside : (b : Bool) → cond b None (Some (from_path (aside_path look.path) (copy_job look target false))) ≡ Some job → ⊥
+    not_aside true same = cc
+    not_aside false same = let kept : false ≡ job.cut = ap cut_of same in clash (kept ∙ cut)
+
     go : (w : Way) → job_by w look target ≡ Some job → w ≡ way.CopyTruncate
     go way.Rename is = absurd (cc)
     go way.Copy is = absurd (not_cut is)
     go way.CopyTruncate is = refl
-    go way.RenameCopy is = absurd (not_cut is)
+    go way.RenameCopy is = absurd (not_aside (is_file look.tmp) is)

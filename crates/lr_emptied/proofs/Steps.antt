@@ -1,5 +1,5 @@
 -- Steps that empty logs, one list behind another; and those of a plan.
-use Rattle.std.proofs.Common.{◌≡◌, refl, sym, ◌∙◌, ap, subst, Bool, true, false, List, [], ◌∷◌, ◌++◌, map, append_assoc, append-nil, ℕ, Option, Some, None, inl}
+use Rattle.std.proofs.Common.{◌≡◌, refl, sym, ◌∙◌, ap, subst, Bool, true, false, cond, List, [], ◌∷◌, ◌++◌, map, append_assoc, append-nil, ℕ, Option, Some, None, inl}
 use Rattle.std.specs.Prelude.{All}
 use Rattle.std.specs.List.{flat_map}
 use Rattle.std.proofs.lemmas.List.Elements.{All-nil, All-cons}
@@ -13,13 +13,12 @@ use Rattle.lr_host.proofs.Lists.{in_front, in_back}
 use Rattle.lr_scripts.specs.declared.command.Command.{Command}
 use Rattle.lr_scripts.specs.declared.removal.Removal.{Removal}
 use Rattle.lr_chain.specs.declared.ready.Move.{Move}
-use Rattle.lr_chain.specs.declared.ready.Ready.{Ready}
 use Rattle.lr_copy.specs.declared.job.Job.{Job}
 use Rattle.lr_plan.specs.declared.plan.LogPlan.{LogPlan}
 use Rattle.lr_plan.specs.declared.plan.SetPlan.{SetPlan}
 use Rattle.lr_plan.specs.declared.step.Step.{Step}
 use Rattle.lr_plan.specs.declared.step.Step.TheVariants as step
-use Rattle.lr_plan.specs.Steps.{program, removal, removals, directory, move, step_if, copy, transfer, made_anew, rotation, retirement, rotation_of, retirement_of, steps_of_log, shared_steps, by_logs, steps_of_set, state_steps}
+use Rattle.lr_plan.specs.Steps.{program, removal, removals, directory, move, step_if, copy, transfer, anew, leaves_path, made_anew, finishing, rotation_of, retirement_of, steps_of_log, shared_steps, by_logs, steps_of_set, state_steps}
 use Rattle.lr_emptied.specs.Jobs.{job_in, jobs_in, jobs_of}
 use Rattle.lr_emptied.specs.Steps.{named_steps, CopyStepsLast, AreCopySteps, IsCopySet, EmptyCopied}
 use Rattle.lr_emptied.proofs.Lists.{Stands, in_first, in_second, stands, not_in_none, only_one}
@@ -63,17 +62,16 @@ moves_no_cuts : (ms : List Move) → NoCuts (map move ms)
 moves_no_cuts [] = tt
 moves_no_cuts (m ∷ ms) = (tt, moves_no_cuts ms)
 
-made_no_cuts : (m : Make) (log : Path) (job : Option Job) → NoCuts (made_anew m log job)
-made_no_cuts make.No log None = tt
-made_no_cuts (make.Yes mode) log None = (tt, tt)
-made_no_cuts m log (Some job) = tt
+anew_no_cuts : (m : Make) (log : Path) → NoCuts (anew m log)
+anew_no_cuts make.No log = tt
+anew_no_cuts (make.Yes mode) log = (tt, tt)
 
-retirement_no_cuts : (first_mail : Option Command) (files : List Removal) → NoCuts (retirement first_mail files)
-retirement_no_cuts first_mail files = both_no_cuts (program phase.Mail first_mail) (removals files) (program_no_cuts phase.Mail first_mail) (removals_no_cuts files)
-
-retirements_no_cuts : (logs : List LogPlan) → NoCuts (flat_map retirement_of logs)
-retirements_no_cuts [] = tt
-retirements_no_cuts (log ∷ logs) = both_no_cuts (retirement_of log) (flat_map retirement_of logs) (retirement_no_cuts log.first_mail log.ready.retire) (retirements_no_cuts logs)
+made_no_cuts : (m : Make) (log : Path) (job : Option Job) (aside : Option Path) → NoCuts (made_anew m log job aside)
+made_no_cuts m log job aside = go (leaves_path job aside)
+  where
+    go : (b : Bool) → NoCuts (cond b (anew m log) [])
+    go true = anew_no_cuts m log
+    go false = tt
 
 asked_no_cuts : (b : Bool) (s : Step) → IsNoCut s → NoCuts (step_if b s)
 asked_no_cuts true s i = (i, tt)
@@ -147,16 +145,26 @@ module _ (P : Job → Type 0) where
   HasJob None = Unit {0}
   HasJob (Some job) = P job
 
-  transfer_copied : (log target : Path) (job : Option Job) → HasJob job → AreCopySteps P (transfer log target job)
-  transfer_copied log target None has = none_copied (step.Renames log target ∷ []) (tt, tt)
-  transfer_copied log target (Some job) has = copy_copied job has
+  transfer_copied : (log target : Path) (job : Option Job) (aside : Option Path) → HasJob job → AreCopySteps P (transfer log target job aside)
+  transfer_copied log target None aside has = none_copied (step.Renames log target ∷ []) (tt, tt)
+  transfer_copied log target (Some job) None has = copy_copied job has
+  transfer_copied log target (Some job) (Some path) has = none_copied (step.SyncsDir job.dir ∷ step.Renames log path ∷ []) (tt, (tt, tt))
 
-  rotation_copied : (ready : Ready) (job : Option Job) → HasJob job → AreCopySteps P (rotation ready job)
-  rotation_copied ready job has = both_copied (removals ready.leftovers) _ (none_copied (removals ready.leftovers) (removals_no_cuts ready.leftovers))
-      (both_copied (directory ready.dir) _ (none_copied (directory ready.dir) (directory_no_cuts ready.dir))
-      (both_copied (map move ready.moves) _ (none_copied (map move ready.moves) (moves_no_cuts ready.moves))
-      (both_copied (transfer ready.log ready.target job) _ (transfer_copied ready.log ready.target job has)
-      (none_copied (step.Rotated ready.log ∷ made_anew ready.make ready.log job) (tt, made_no_cuts ready.make ready.log job)))))
+  rotation_copied : (log : LogPlan) → HasJob log.job → AreCopySteps P (rotation_of log)
+  rotation_copied log has = both_copied (removals log.ready.leftovers) _ (none_copied (removals log.ready.leftovers) (removals_no_cuts log.ready.leftovers))
+      (both_copied (directory log.ready.dir) _ (none_copied (directory log.ready.dir) (directory_no_cuts log.ready.dir))
+      (both_copied (map move log.ready.moves) _ (none_copied (map move log.ready.moves) (moves_no_cuts log.ready.moves))
+      (both_copied (transfer log.ready.log log.ready.target log.job log.aside) _ (transfer_copied log.ready.log log.ready.target log.job log.aside has)
+      (none_copied (step.Rotated log.log ∷ made_anew log.ready.make log.log log.job log.aside) (tt, made_no_cuts log.ready.make log.log log.job log.aside)))))
+
+  finishing_copied : (job : Option Job) (aside : Option Path) → HasJob job → AreCopySteps P (finishing job aside)
+  finishing_copied None aside has = none_copied [] tt
+  finishing_copied (Some job) None has = none_copied [] tt
+  finishing_copied (Some job) (Some path) has = both_copied (copy job) (step.Removes path ∷ []) (copy_copied job has) (none_copied (step.Removes path ∷ []) (tt, tt))
+
+  retirement_copied : (log : LogPlan) → HasJob log.job → AreCopySteps P (retirement_of log)
+  retirement_copied log has = both_copied (finishing log.job log.aside) _ (finishing_copied log.job log.aside has)
+      (none_copied _ (both_no_cuts (program phase.Mail log.first_mail) (removals log.ready.retire) (program_no_cuts phase.Mail log.first_mail) (removals_no_cuts log.ready.retire)))
 
   -- each log's copy has P
   abbrev HaveJobs : List LogPlan → Type 0
@@ -165,23 +173,25 @@ module _ (P : Job → Type 0) where
 
   log_copied : (log : LogPlan) → HasJob log.job → AreCopySteps P (steps_of_log log)
   log_copied log has = both_copied (program phase.Pre log.pre) _ (none_copied (program phase.Pre log.pre) (program_no_cuts phase.Pre log.pre))
-      (both_copied (rotation_of log) _ (rotation_copied log.ready log.job has)
-      (none_copied (program phase.Post log.post ++ retirement_of log) (both_no_cuts (program phase.Post log.post) (retirement_of log) (program_no_cuts phase.Post log.post) (retirement_no_cuts log.first_mail log.ready.retire))))
+      (both_copied (rotation_of log) _ (rotation_copied log has)
+      (both_copied (program phase.Post log.post) _ (none_copied (program phase.Post log.post) (program_no_cuts phase.Post log.post)) (retirement_copied log has)))
 
   each_copied : (logs : List LogPlan) → HaveJobs logs → All (AreCopySteps P) (map steps_of_log logs)
   each_copied [] has = All-nil (AreCopySteps P)
   each_copied (log ∷ logs) has = All-cons (AreCopySteps P) (steps_of_log log) (map steps_of_log logs) (log_copied log has.0) (each_copied logs has.1)
 
-  rotations_copied : (logs : List LogPlan) → HaveJobs logs → AreCopySteps P (flat_map rotation_of logs)
-  rotations_copied [] has = none_copied [] tt
-  rotations_copied (log ∷ logs) has = both_copied (rotation_of log) (flat_map rotation_of logs) (rotation_copied log.ready log.job has.0) (rotations_copied logs has.1)
+  -- what is done for each log in its turn
+  all_copied : (part : LogPlan → List Step) → ((log : LogPlan) → HasJob log.job → AreCopySteps P (part log)) → (logs : List LogPlan) → HaveJobs logs → AreCopySteps P (flat_map part logs)
+  all_copied part f [] has = none_copied [] tt
+  all_copied part f (log ∷ logs) has = both_copied (part log) (flat_map part logs) (f log has.0) (all_copied part f logs has.1)
 
   shared_copied : (set : SetPlan) → HaveJobs set.logs → AreCopySteps P (shared_steps set)
   shared_copied set has = both_copied (program phase.First set.first) _ (none_copied (program phase.First set.first) (program_no_cuts phase.First set.first))
       (both_copied (program phase.Pre set.pre) _ (none_copied (program phase.Pre set.pre) (program_no_cuts phase.Pre set.pre))
-      (both_copied (flat_map rotation_of set.logs) _ (rotations_copied set.logs has)
-      (none_copied (program phase.Post set.post ++ (flat_map retirement_of set.logs ++ program phase.Last set.last)) (both_no_cuts (program phase.Post set.post) _ (program_no_cuts phase.Post set.post)
-      (both_no_cuts (flat_map retirement_of set.logs) (program phase.Last set.last) (retirements_no_cuts set.logs) (program_no_cuts phase.Last set.last))))))
+      (both_copied (flat_map rotation_of set.logs) _ (all_copied rotation_of rotation_copied set.logs has)
+      (both_copied (program phase.Post set.post) _ (none_copied (program phase.Post set.post) (program_no_cuts phase.Post set.post))
+      (both_copied (flat_map retirement_of set.logs) _ (all_copied retirement_of retirement_copied set.logs has)
+      (none_copied (program phase.Last set.last) (program_no_cuts phase.Last set.last))))))
 
   set_copied : (set : SetPlan) → HaveJobs set.logs → IsCopySet P (steps_of_set set)
   set_copied set has = go set.shared set.logs has

@@ -7,6 +7,7 @@ use Rattle.std.proofs.lemmas.Fmt.{decimal_digit}
 use Rattle.lr_rules.specs.declared.clock.Clock.{Clock}
 use Rattle.lr_rules.specs.declared.path.Path.{Path}
 use Rattle.lr_rules.specs.declared.rule.Make.TheVariants.{No}
+use Rattle.lr_rules.proofs.Endings.{low_ascii}
 use Rattle.lr_rules.specs.Path.{path_fault, joined}
 use Rattle.lr_host.specs.declared.entry.Entry.{Entry}
 use Rattle.lr_host.specs.declared.entry.Entry.TheVariants.{Renames, Unlinks}
@@ -64,6 +65,15 @@ ascii_v (suc (suc i)) = omega arith
 path_v : path_fault (codes "/v") ≡ None
 unfolding path_fault
 path_v = let t : is_utf8 (codes "/v") ≡ true = is_utf8-from_IsUtf8 (codes "/v") (IsUtf8-from_ascii (codes "/v") ascii_v) in rw t
+
+-- the logs have paths
+pub path_a : path_fault a_log ≡ None
+unfolding path_fault
+path_a = let t : is_utf8 (codes "/v/a.log") ≡ true = is_utf8-from_IsUtf8 (codes "/v/a.log") (IsUtf8-from_ascii (codes "/v/a.log") (low_ascii (codes "/v/a.log") refl)) in rw t
+
+pub path_b : path_fault b_log ≡ None
+unfolding path_fault
+path_b = let t : is_utf8 (codes "/w/b.log") ≡ true = is_utf8-from_IsUtf8 (codes "/w/b.log") (IsUtf8-from_ascii (codes "/w/b.log") (low_ascii (codes "/w/b.log") refl)) in rw t
 
 pub a_family : IsFamily a_log a_naming
 a_family = record {

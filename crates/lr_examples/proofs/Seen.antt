@@ -35,7 +35,7 @@ use Rattle.lr_laws_family.specs.Weave.{Among}
 use Rattle.lr_laws_targets.proofs.Given.{literal_gives}
 use Rattle.lr_laws_targets.specs.Seen.{AreLogsSeen}
 use Rattle.lr_examples.specs.Logs.{rule_of, rules, a_log, a_first, a_second, a_count, a_naming, a_stand, a_listed, a_target, b_log, b_count, b_naming, b_stand, b_listed, b_target, file, directory, looks}
-use Rattle.lr_examples.proofs.Naming.{first_name, second_name, first_path, second_path, a_unnumbered, b_unnumbered, a_family, b_family, a_is_ready, b_is_ready}
+use Rattle.lr_examples.proofs.Naming.{path_a, path_b, first_name, second_name, first_path, second_path, a_unnumbered, b_unnumbered, a_family, b_family, a_is_ready, b_is_ready}
 
 -- ---- the first log
 
@@ -114,8 +114,8 @@ a_members = shown_so a_naming refl a_stand.members looks a_named_all a_shown a_n
     (All-cons (WasSeen looks) (one_at a_first 0) (one_at a_second 1 ∷ []) (refl, inr (inr (inr (inr (inl refl)))))
     (All-cons (WasSeen looks) (one_at a_second 1) [] (refl, inr (inr (inr (inr (inr (inl refl)))))) (All-nil (WasSeen looks))))
 
-a_given : IsGiven rules.sets looks a_log a_naming a_count None None
-a_given = record { rule = rule_of 1 a_log a_count; word = a_log; among = (0, omega arith, refl); has = (0, omega arith, refl); given = record { before = []; part = []; after = looks; joined = refl; is = literal_gives rules.sets (rule_of 1 a_log a_count) a_log a_log [] refl refl }; naming_is = refl; count_is = refl; maxage_is = refl; way_is = ((λ e. refl), (λ e. refl)) }
+a_given : IsGiven rules.sets looks a_target
+a_given = record { rule = rule_of 1 a_log a_count; word = a_log; among = (0, omega arith, refl); has = (0, omega arith, refl); given = record { before = []; part = []; after = looks; joined = refl; is = literal_gives rules.sets (rule_of 1 a_log a_count) a_log a_log [] refl refl }; naming_is = refl; count_is = refl; maxage_is = refl; way_is = (record { aside_is = refl; first_is = refl }, refl) }
 
 -- ---- the second log
 
@@ -156,8 +156,8 @@ b_members = shown_so b_naming refl b_stand.members looks (All-nil (λ (m : Membe
 b_dir : SawDir (codes "/w") looks
 b_dir = (directory, refl, inr (inr (inr (inr (inr (inr (inl refl)))))))
 
-b_given : IsGiven rules.sets looks b_log b_naming b_count None None
-b_given = record { rule = rule_of 2 b_log b_count; word = b_log; among = (1, omega arith, refl); has = (0, omega arith, refl); given = record { before = []; part = []; after = looks; joined = refl; is = literal_gives rules.sets (rule_of 2 b_log b_count) b_log b_log [] refl refl }; naming_is = refl; count_is = refl; maxage_is = refl; way_is = ((λ e. refl), (λ e. refl)) }
+b_given : IsGiven rules.sets looks b_target
+b_given = record { rule = rule_of 2 b_log b_count; word = b_log; among = (1, omega arith, refl); has = (0, omega arith, refl); given = record { before = []; part = []; after = looks; joined = refl; is = literal_gives rules.sets (rule_of 2 b_log b_count) b_log b_log [] refl refl }; naming_is = refl; count_is = refl; maxage_is = refl; way_is = (record { aside_is = refl; first_is = refl }, refl) }
 
 -- ---- both
 
@@ -175,8 +175,8 @@ family_of log n h = record { kin = h.kin; format = subst (λ (d : Option Format)
 pub both_seen : (clock : Clock) → AreLogsSeen rules clock looks (a_target ∷ b_target ∷ [])
 unfolding a_given b_given
 both_seen clock = (
-  record { given = a_given; log_seen = a_seen; family = family_of a_log a_naming a_family; seen = a_members; free = refl; ready = a_is_ready clock; dir = a_dir; job = λ job is. absurd (cc) },
-  (record { given = b_given; log_seen = b_seen; family = family_of b_log b_naming b_family; seen = b_members; free = refl; ready = b_is_ready clock; dir = b_dir; job = λ job is. absurd (cc) }, tt),
+  record { path = path_a; given = a_given; log_seen = a_seen; way_seen = record { first = a_seen; free = λ path is. absurd (cc) }; family = family_of a_log a_naming a_family; seen = a_members; free = refl; ready = a_is_ready clock; dir = a_dir; job = λ job is. absurd (cc) },
+  (record { path = path_b; given = b_given; log_seen = b_seen; way_seen = record { first = b_seen; free = λ path is. absurd (cc) }; family = family_of b_log b_naming b_family; seen = b_members; free = refl; ready = b_is_ready clock; dir = b_dir; job = λ job is. absurd (cc) }, tt),
 )
 
 pub looks_quiet : AreQuiet looks

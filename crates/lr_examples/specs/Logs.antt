@@ -143,10 +143,28 @@ abbrev pub b_ready : Ready
 b_ready = record { leftovers = []; dir = None; moves = []; log = b_log; target = b_first; make = No; retire = [] }
 
 abbrev pub a_target : Target
-a_target = record { log = a_log; naming = a_naming; count = a_count; maxage = None; stand = a_stand; ready = a_ready; job = None }
+a_target = record {
+  log = a_log;
+  naming = a_naming;
+  count = a_count;
+  maxage = None;
+  stand = a_stand;
+  ready = a_ready;
+  job = None;
+  aside = None;
+}
 
 abbrev pub b_target : Target
-b_target = record { log = b_log; naming = b_naming; count = b_count; maxage = None; stand = b_stand; ready = b_ready; job = None }
+b_target = record {
+  log = b_log;
+  naming = b_naming;
+  count = b_count;
+  maxage = None;
+  stand = b_stand;
+  ready = b_ready;
+  job = None;
+  aside = None;
+}
 
 -- ---- the looks
 

@@ -17,6 +17,7 @@ mod StateRead
 mod LookedOne
 mod Writing
 mod Keys
+mod StepKeys
 mod PlanKeys
 mod Ends
 mod Makes

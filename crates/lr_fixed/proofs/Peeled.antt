@@ -17,6 +17,10 @@ front_same ts us fs gs vs ws p q e = sym (ap (λ l. l ++ vs) p) ∙ (e ∙ ap (�
 pub then_same : {P Q R S : List Entry → Type 0} (ts us vs ws : List Entry) → (t : Then P Q ts) → (u : Then R S us) → ts ++ vs ≡ us ++ ws → t.front ++ (t.back ++ vs) ≡ u.front ++ (u.back ++ ws)
 then_same ts us vs ws t u e = sym (append_assoc t.front t.back vs) ∙ (front_same ts us (t.front ++ t.back) (u.front ++ u.back) vs ws t.joined u.joined e ∙ append_assoc u.front u.back ws)
 
+-- and of two parts on the one side alone
+pub first_same : {P Q : List Entry → Type 0} (ts us vs ws : List Entry) → (t : Then P Q ts) → ts ++ vs ≡ us ++ ws → t.front ++ (t.back ++ vs) ≡ us ++ ws
+first_same ts us vs ws t e = sym (append_assoc t.front t.back vs) ∙ (sym (ap (λ l. l ++ vs) t.joined) ∙ e)
+
 -- both parts the same, so the whole
 pub joined_same : {P Q R S : List Entry → Type 0} (ts us : List Entry) → (t : Then P Q ts) → (u : Then R S us) → t.front ≡ u.front → t.back ≡ u.back → ts ≡ us
 joined_same ts us t u p q = t.joined ∙ (ap (λ l. l ++ t.back) p ∙ (ap (λ l. u.front ++ l) q ∙ sym u.joined))

@@ -1,9 +1,12 @@
 -- The faults of a plan and what is done by it are those of looks that are alike.
-use Rattle.std.proofs.Common.{◌≡◌, ◌+◌, ℕ, Bool, List, [], ◌∷◌, ◌++◌, map, Option, refl, ap, ◌∙◌}
+use Rattle.std.proofs.Common.{◌≡◌, ◌+◌, ℕ, Bool, List, [], ◌∷◌, ◌++◌, map, Option, if◌then◌else◌, refl, ap, ◌∙◌}
 use Rattle.std.specs.List.{flat_map}
 use Rattle.lr_rules.specs.declared.civil.Moment.{Moment}
 use Rattle.lr_rules.specs.declared.clock.Clock.{Clock}
+use Rattle.lr_rules.specs.declared.fault.Fault.{Fault}
 use Rattle.lr_rules.specs.declared.path.Path.{Path}
+use Rattle.lr_rules.specs.declared.rule.Make.{Make}
+use Rattle.lr_rules.specs.declared.rule.Make.TheVariants as make
 use Rattle.lr_rules.specs.declared.rule.Naming.{Naming}
 use Rattle.lr_rules.specs.declared.rule.Rule.{Rule}
 use Rattle.lr_rules.specs.declared.rule.Way.{Way}
@@ -20,7 +23,7 @@ use Rattle.lr_plan.specs.Asked.{Asked}
 use Rattle.lr_plan.specs.declared.looks.LogLook.{LogLook}
 use Rattle.lr_plan.specs.declared.looks.SetLooks.{SetLooks}
 use Rattle.lr_plan.specs.declared.plan.LogPlan.{LogPlan}
-use Rattle.lr_plan.specs.Planned.{decision, dir_of, stand_for, standing, hindrances, make_of, ready_for, job_by, plan_with, log_plan, none_hinders, plans_of, where_due, log_plans, log_faults, set_plan, all_plans, all_faults}
+use Rattle.lr_plan.specs.Planned.{decision, dir_of, stand_for, standing, or_else, takes_up, first_path, aside_by, aside_hinders, hindrances, make_of, make_for, ready_for, job_by, plan_with, log_plan, none_hinders, plans_of, where_due, log_plans, unfinished, faults_of, log_faults, set_plan, all_plans, all_faults}
 use Rattle.lr_looks.specs.Families.{LookedLog}
 use Rattle.lr_looks.specs.Sets.{looked_in}
 use Rattle.lr_fixed.specs.Alike.{AreAlikeFrom, AreAlike}
@@ -29,11 +32,15 @@ use Rattle.lr_fixed.specs.Alike.{AreAlikeFrom, AreAlike}
 
 -- the log, as if this had been seen of its family
 abbrev looked_with : Stand → LookedLog → LookedLog
-looked_with stand l = record { set = l.set; path = l.path; naming = l.naming; seen = l.seen; stand = stand }
+looked_with stand l = record { set = l.set; path = l.path; naming = l.naming; seen = l.seen; stand = stand; tmp = l.tmp }
 
 -- the rotation of a log by its parts, and by this of its rule
-abbrev rotation_with : Clock → Rule → Option (Path × Option ℕ) → Path → Naming → Seen → Stand → Ready
-rotation_with clock rule dir log n seen stand = with_dir dir (ready_of log n rule.count rule.maxage clock (make_of rule.create seen) stand.members)
+abbrev rotation_with : Clock → Rule → Option (Path × Option ℕ) → Path → Naming → Make → Stand → Ready
+rotation_with clock rule dir first n anew stand = with_dir dir (ready_of first n rule.count rule.maxage clock anew stand.members)
+
+-- the same faults of two kinds
+either_same : (fs gs hs ks : List Fault) → fs ≡ gs → hs ≡ ks → or_else fs hs ≡ or_else gs ks
+either_same fs gs hs ks p q = ap (λ (xs : List Fault). or_else xs hs) p ∙ ap (or_else gs) q
 
 -- two looks that saw the same of a log
 module _ (set : ℕ) (x y : LogLook) (e : looked_in set x ≡ looked_in set y) where
@@ -49,6 +56,13 @@ module _ (set : ℕ) (x y : LogLook) (e : looked_in set x ≡ looked_in set y) w
   stand_is : x.stand ≡ y.stand
   stand_is = ap (λ (l : LookedLog). l.stand) e
 
+  tmp_is : x.tmp ≡ y.tmp
+  tmp_is = ap (λ (l : LookedLog). l.tmp) e
+
+  -- what goes by the path and by what was seen where the log waits is the same
+  beside_same : {A : Type 0} (f : Path → Option Seen → A) → f x.path x.tmp ≡ f y.path y.tmp
+  beside_same f = ap (λ (p : Path). f p x.tmp) path_is ∙ ap (f y.path) tmp_is
+
   -- by them it is due, or isn't
   due_same : (table : List Row) (now : Moment) (force : Bool) (rule : Rule) → decision table now force rule x ≡ decision table now force rule y
   due_same table now force rule = rw (path_is, seen_is) refl
@@ -58,11 +72,11 @@ module _ (set : ℕ) (x y : LogLook) (e : looked_in set x ≡ looked_in set y) w
   job_same way.Rename target = refl
   job_same way.Copy target = rw (path_is, naming_is, seen_is, stand_is) refl
   job_same way.CopyTruncate target = rw (path_is, naming_is, seen_is, stand_is) refl
-  job_same way.RenameCopy target = rw (path_is, naming_is, seen_is, stand_is) refl
+  job_same way.RenameCopy target = rw (path_is, naming_is, seen_is, stand_is, tmp_is) refl
 
   -- so what is done with it is the same
   done_same : (mailer : Path) (rule : Rule) (ready : Ready) → plan_with mailer rule x ready ≡ plan_with mailer rule y ready
-  done_same mailer rule ready = rw (job_same rule.way ready.target, path_is, naming_is, stand_is) refl
+  done_same mailer rule ready = rw (job_same rule.way ready.target, beside_same (aside_by rule.way), path_is, naming_is, stand_is) refl
 
   -- the rotation makes the same directory
   dir_same : (rule : Rule) → dir_of rule x ≡ dir_of rule y
@@ -71,23 +85,35 @@ module _ (set : ℕ) (x y : LogLook) (e : looked_in set x ≡ looked_in set y) w
   standing_same : (rule : Rule) → stand_for rule x ≡ stand_for rule y
   standing_same rule = rw (path_is, naming_is, stand_is) refl
 
+  -- and makes the log anew the same
+  anew_same : (rule : Rule) → make_for rule x ≡ make_for rule y
+  anew_same rule = ap (λ (o : Option Seen). if takes_up rule.way o then make.No else make_of rule.create x.seen) tmp_is ∙ ap (λ (s : Seen). if takes_up rule.way y.tmp then make.No else make_of rule.create s) seen_is
+
 -- two looks that saw the same of a log, as their rotations go by it
 module _ (set : ℕ) (x y : LogLook) (e : looked_in set x ≡ looked_in set y) where
   looks_same : (rule : Rule) → looked_in set (standing rule x) ≡ looked_in set (standing rule y)
   looks_same rule = ap (looked_with (stand_for rule x)) e ∙ ap (λ (s : Stand). looked_with s (looked_in set y)) (standing_same set x y e rule)
 
-  hindered_same : (clock : Clock) (rule : Rule) → hindrances clock rule x ≡ hindrances clock rule y
-  hindered_same clock rule =
+  -- what stands hinders the same
+  members_same : (clock : Clock) (rule : Rule) → what_hinders x.family.naming rule.count clock (stand_for rule x) ≡ what_hinders y.family.naming rule.count clock (stand_for rule y)
+  members_same clock rule =
       ap (λ (n : Naming). what_hinders n rule.count clock (stand_for rule x)) (naming_is set x y e)
       ∙ ap (what_hinders y.family.naming rule.count clock) (standing_same set x y e rule)
 
+  hindered_same : (clock : Clock) (rule : Rule) → hindrances clock rule x ≡ hindrances clock rule y
+  hindered_same clock rule = either_same (what_hinders x.family.naming rule.count clock (stand_for rule x)) (what_hinders y.family.naming rule.count clock (stand_for rule y)) (aside_hinders rule.way x.path x.tmp) (aside_hinders rule.way y.path y.tmp)
+      (members_same clock rule) (beside_same set x y e (aside_hinders rule.way))
+
+  told_same : (clock : Clock) (rule : Rule) → faults_of clock rule x ≡ faults_of clock rule y
+  told_same clock rule = either_same (hindrances clock rule x) (hindrances clock rule y) (unfinished rule.way x.path x.tmp) (unfinished rule.way y.path y.tmp) (hindered_same clock rule) (beside_same set x y e (unfinished rule.way))
+
   rotated_same : (clock : Clock) (rule : Rule) → ready_for clock rule x ≡ ready_for clock rule y
   rotated_same clock rule =
-      ap (λ d. rotation_with clock rule d x.path x.family.naming x.seen (stand_for rule x)) (dir_same set x y e rule)
-      ∙ (ap (λ p. rotation_with clock rule (dir_of rule y) p x.family.naming x.seen (stand_for rule x)) (path_is set x y e)
-      ∙ (ap (λ n. rotation_with clock rule (dir_of rule y) y.path n x.seen (stand_for rule x)) (naming_is set x y e)
-      ∙ (ap (λ s. rotation_with clock rule (dir_of rule y) y.path y.family.naming s (stand_for rule x)) (seen_is set x y e)
-      ∙ ap (rotation_with clock rule (dir_of rule y) y.path y.family.naming y.seen) (standing_same set x y e rule))))
+      ap (λ d. rotation_with clock rule d (first_path rule.way x.path x.tmp) x.family.naming (make_for rule x) (stand_for rule x)) (dir_same set x y e rule)
+      ∙ (ap (λ p. rotation_with clock rule (dir_of rule y) p x.family.naming (make_for rule x) (stand_for rule x)) (beside_same set x y e (first_path rule.way))
+      ∙ (ap (λ n. rotation_with clock rule (dir_of rule y) (first_path rule.way y.path y.tmp) n (make_for rule x) (stand_for rule x)) (naming_is set x y e)
+      ∙ (ap (λ m. rotation_with clock rule (dir_of rule y) (first_path rule.way y.path y.tmp) y.family.naming m (stand_for rule x)) (anew_same set x y e rule)
+      ∙ ap (rotation_with clock rule (dir_of rule y) (first_path rule.way y.path y.tmp) y.family.naming (make_for rule y)) (standing_same set x y e rule))))
 
   planned_same : (clock : Clock) (mailer : Path) (rule : Rule) → log_plan clock mailer rule x ≡ log_plan clock mailer rule y
   planned_same clock mailer rule = ap (plan_with mailer rule (standing rule x)) (rotated_same clock rule) ∙ done_same set (standing rule x) (standing rule y) (looks_same rule) mailer rule (ready_for clock rule y)
@@ -122,7 +148,7 @@ module _ (table : List Row) (clock : Clock) (asked : Asked) where
   decide = decision table clock.now asked.force
 
   faults_same : (set : ℕ) (rule : Rule) (xs ys : List LogLook) → map (looked_in set) xs ≡ map (looked_in set) ys → log_faults clock rule (decide rule) xs ≡ log_faults clock rule (decide rule) ys
-  faults_same set rule xs ys e = all_same set (λ (l : LogLook). where_due (decide rule l) (hindrances clock rule l)) (λ x y h. where_same set x y h table clock.now asked.force rule (hindrances clock rule x) (hindrances clock rule y) (hindered_same set x y h clock rule)) xs ys e
+  faults_same set rule xs ys e = all_same set (λ (l : LogLook). where_due (decide rule l) (faults_of clock rule l)) (λ x y h. where_same set x y h table clock.now asked.force rule (faults_of clock rule x) (faults_of clock rule y) (told_same set x y h clock rule)) xs ys e
 
   logs_same : (set : ℕ) (rule : Rule) (xs ys : List LogLook) → map (looked_in set) xs ≡ map (looked_in set) ys → log_plans clock asked.mailer rule (decide rule) xs ≡ log_plans clock asked.mailer rule (decide rule) ys
   logs_same set rule xs ys e = all_same set (λ (l : LogLook). where_due (decide rule l) (plans_of clock asked.mailer rule l)) (λ x y h. where_same set x y h table clock.now asked.force rule (plans_of clock asked.mailer rule x) (plans_of clock asked.mailer rule y) (plans_same set x y h clock asked.mailer rule)) xs ys e

@@ -71,40 +71,40 @@ count_listing dir d false parent names ts h =
     omega (arith, a)
 
 -- nor do the looks at the members behind it
-count_with : (n : Naming) (l : Listing) (s : FamilySight) (d : Path) (ts : List Entry) → Then (ShowsListing n.dir l.there l.parent l.names) (ShowsMembersIn n l s) ts → listings_of d ts ≤ cond (bytes_eq n.dir d) 1 0
-count_with n l s d ts t =
+count_with : (log : Path) (n : Naming) (l : Listing) (s : FamilySight) (d : Path) (ts : List Entry) → Then (ShowsListing n.dir l.there l.parent l.names) (ShowsMembersIn log n l s) ts → listings_of d ts ≤ cond (bytes_eq n.dir d) 1 0
+count_with log n l s d ts t =
     let j = count_joined d ts t.front t.back t.joined in
     let a = count_listing n.dir d l.there l.parent l.names t.front t.first in
-    let b = count_none d t.back (members_in_none n l s t.back t.second) in
+    let b = count_none d t.back (members_in_none log n l s t.back t.second) in
     omega (arith, j, a, b)
 
 -- ---- one family
 
 -- a directory that is known stays so
-still_known : (known : List Listing) (n : Naming) (next : List Listing) (s : FamilySight) (ts : List Entry) (d : Path) → ShowsFamily known n next s ts → IsKnown known d → IsKnown next d
-still_known known n next s ts d (behind_listing l was same m) k = subst (λ ls. IsKnown ls d) (sym same) k
-still_known known n next s ts d (with_listing l new is same t) k = subst (λ ls. IsKnown ls d) (sym same) (known_more known l d k)
-still_known known n next s ts d (not_listed why new same is h) k = subst (λ ls. IsKnown ls d) (sym same) k
+still_known : (known : List Listing) (log : Path) (n : Naming) (next : List Listing) (s : FamilySight) (ts : List Entry) (d : Path) → ShowsFamily known log n next s ts → IsKnown known d → IsKnown next d
+still_known known log n next s ts d (behind_listing l was same m) k = subst (λ ls. IsKnown ls d) (sym same) k
+still_known known log n next s ts d (with_listing l new is same t) k = subst (λ ls. IsKnown ls d) (sym same) (known_more known l d k)
+still_known known log n next s ts d (not_listed why new same is h) k = subst (λ ls. IsKnown ls d) (sym same) k
 
 -- and isn't listed
-not_again : (known : List Listing) (n : Naming) (next : List Listing) (s : FamilySight) (ts : List Entry) (d : Path) → ShowsFamily known n next s ts → IsKnown known d → listings_of d ts ≡ 0
-not_again known n next s ts d (behind_listing l was same m) k = count_none d ts (members_in_none n l s ts m)
-not_again known n next s ts d (with_listing l new is same t) k = go (bytes_eq n.dir d) refl (count_with n l s d ts t)
+not_again : (known : List Listing) (log : Path) (n : Naming) (next : List Listing) (s : FamilySight) (ts : List Entry) (d : Path) → ShowsFamily known log n next s ts → IsKnown known d → listings_of d ts ≡ 0
+not_again known log n next s ts d (behind_listing l was same m) k = count_none d ts (members_in_none log n l s ts m)
+not_again known log n next s ts d (with_listing l new is same t) k = go (bytes_eq n.dir d) refl (count_with log n l s d ts t)
   where
     go : (b : Bool) → bytes_eq n.dir d ≡ b → listings_of d ts ≤ cond (bytes_eq n.dir d) 1 0 → listings_of d ts ≡ 0
     go true e h = absurd (new k.0 (subst (λ p. WasListed known p k.0) (sym ((bytes_eq-Decides n.dir d).0 e)) k.1))
     go false e h = let z : listings_of d ts ≤ 0 = subst (λ b. listings_of d ts ≤ cond b 1 0) e h in omega (arith, z)
-not_again known n next s ts d (not_listed why new same is h) k = count_none d ts (not_listed_none n.dir why ts h)
+not_again known log n next s ts d (not_listed why new same is h) k = count_none d ts (not_listed_none n.dir why ts h)
 
 -- it isn't listed, or is once, and known then
-once_then_known : (known : List Listing) (n : Naming) (next : List Listing) (s : FamilySight) (ts : List Entry) (d : Path) → ShowsFamily known n next s ts → (listings_of d ts ≡ 0) ⊎ ((listings_of d ts ≤ 1) × IsKnown next d)
-once_then_known known n next s ts d (behind_listing l was same m) = inl (count_none d ts (members_in_none n l s ts m))
-once_then_known known n next s ts d (with_listing l new is same t) = go (bytes_eq n.dir d) refl (count_with n l s d ts t)
+once_then_known : (known : List Listing) (log : Path) (n : Naming) (next : List Listing) (s : FamilySight) (ts : List Entry) (d : Path) → ShowsFamily known log n next s ts → (listings_of d ts ≡ 0) ⊎ ((listings_of d ts ≤ 1) × IsKnown next d)
+once_then_known known log n next s ts d (behind_listing l was same m) = inl (count_none d ts (members_in_none log n l s ts m))
+once_then_known known log n next s ts d (with_listing l new is same t) = go (bytes_eq n.dir d) refl (count_with log n l s d ts t)
   where
     go : (b : Bool) → bytes_eq n.dir d ≡ b → listings_of d ts ≤ cond (bytes_eq n.dir d) 1 0 → (listings_of d ts ≡ 0) ⊎ ((listings_of d ts ≤ 1) × IsKnown next d)
     go true e h = inr (subst (λ b. listings_of d ts ≤ cond b 1 0) e h, subst (λ ls. IsKnown ls d) (sym same) (known_last known l d (is ∙ (bytes_eq-Decides n.dir d).0 e)))
     go false e h = let z : listings_of d ts ≤ 0 = subst (λ b. listings_of d ts ≤ cond b 1 0) e h in inl (omega (arith, z))
-once_then_known known n next s ts d (not_listed why new same is h) = inl (count_none d ts (not_listed_none n.dir why ts h))
+once_then_known known log n next s ts d (not_listed why new same is h) = inl (count_none d ts (not_listed_none n.dir why ts h))
 
 -- ---- all of them
 
@@ -115,8 +115,8 @@ never_again known [] after (s ∷ ss) ts d h k = absurd h
 never_again known (f ∷ fs) after [] ts d h k = absurd h
 never_again known (f ∷ fs) after (s ∷ ss) ts d h k =
     let j = count_joined d ts h.1.front h.1.back h.1.joined in
-    let a = not_again known f.log.naming h.0 s h.1.front d h.1.first k in
-    let b = never_again h.0 fs after ss h.1.back d h.1.second (still_known known f.log.naming h.0 s h.1.front d h.1.first k) in
+    let a = not_again known f.log.path f.log.naming h.0 s h.1.front d h.1.first k in
+    let b = never_again h.0 fs after ss h.1.back d h.1.second (still_known known f.log.path f.log.naming h.0 s h.1.front d h.1.first k) in
     omega (arith, j, a, b)
 
 -- any is listed at most once
@@ -124,7 +124,7 @@ pub families_once : (known : List Listing) (fs : List FoundLog) (after : List Li
 families_once known [] after [] ts d h = let a = count_none d ts (none_empty ts h.1) in omega (arith, a)
 families_once known [] after (s ∷ ss) ts d h = absurd h
 families_once known (f ∷ fs) after [] ts d h = absurd h
-families_once known (f ∷ fs) after (s ∷ ss) ts d h = go (once_then_known known f.log.naming h.0 s h.1.front d h.1.first) (families_once h.0 fs after ss h.1.back d h.1.second) (count_joined d ts h.1.front h.1.back h.1.joined)
+families_once known (f ∷ fs) after (s ∷ ss) ts d h = go (once_then_known known f.log.path f.log.naming h.0 s h.1.front d h.1.first) (families_once h.0 fs after ss h.1.back d h.1.second) (count_joined d ts h.1.front h.1.back h.1.joined)
   where
     go : (listings_of d h.1.front ≡ 0) ⊎ ((listings_of d h.1.front ≤ 1) × IsKnown h.0 d) → listings_of d h.1.back ≤ 1 → listings_of d ts ≡ listings_of d h.1.front + listings_of d h.1.back → listings_of d ts ≤ 1
     go (inl a) b j = omega (arith, j, a, b)

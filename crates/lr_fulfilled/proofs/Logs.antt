@@ -38,7 +38,7 @@ log_told (Some (path, mode)) log = refl
 
 logs_told : (logs : List LogPlan) → of_logs rotated_by no_log_anew logs ≡ logs_of logs
 logs_told [] = refl
-logs_told (l ∷ ls) = ap (λ zs. zs ++ of_logs rotated_by no_log_anew ls) (log_told l.ready.dir l.ready.log) ∙ ap (λ zs. l.ready.log ∷ zs) (logs_told ls)
+logs_told (l ∷ ls) = ap (λ zs. zs ++ of_logs rotated_by no_log_anew ls) (log_told l.ready.dir l.log) ∙ ap (λ zs. l.log ∷ zs) (logs_told ls)
 
 sets_told : (sets : List SetPlan) → flat_map (λ set. of_logs rotated_by no_log_anew set.logs) sets ≡ all_logs_of sets
 sets_told [] = refl
@@ -64,7 +64,7 @@ set_stands set = go set.shared set.logs refl
     go : (shared : Bool) (logs : List LogPlan) → set.logs ≡ logs → LastStands (by_logs shared logs set)
     go shared [] e = inl refl
     go true (l ∷ ls) e = inl refl
-    go false (l ∷ ls) e = inr (some_rotated (flat_map marks_of (all_of_each (map steps_of_log set.logs))) l.ready.log (logs_of ls) (each_logs set.logs ∙ ap logs_of e))
+    go false (l ∷ ls) e = inr (some_rotated (flat_map marks_of (all_of_each (map steps_of_log set.logs))) l.log (logs_of ls) (each_logs set.logs ∙ ap logs_of e))
 
 pub sets_stand : (sets : List SetPlan) → LastsStand (map steps_of_set sets)
 sets_stand [] = tt

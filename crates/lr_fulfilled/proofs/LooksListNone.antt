@@ -1,4 +1,4 @@
--- Looks at paths list nothing: those for a literal word, at members, at part files, and at a directory that isn't listed then.
+-- Looks at paths list nothing: those for a literal word, at members, at part files, where a log waits that is set aside, and at a directory that isn't listed then.
 use Rattle.std.proofs.Common.{◌≡◌, inl, inr, ℕ, Bool, true, false, List, [], ◌∷◌, map, Option, Ok, Err, sym, ◌∙◌, subst}
 use Rattle.lr_rules.specs.declared.path.Path.{Path}
 use Rattle.lr_rules.specs.declared.rule.Naming.{Naming}
@@ -12,9 +12,10 @@ use Rattle.lr_host.specs.Told.{Are}
 use Rattle.lr_family.specs.declared.listing.Listing.{Listing}
 use Rattle.lr_family.specs.declared.spot.Spot.{Spot}
 use Rattle.lr_family.specs.declared.stand.Member.{Member}
+use Rattle.lr_family.specs.declared.stand.Stand.{Stand}
 use Rattle.lr_family.specs.declared.stand.StandStop.{StandStop}
 use Rattle.lr_family.specs.declared.stand.StandStop.TheVariants as stop
-use Rattle.lr_family.specs.Among.{StandsAmong, ShowsMembers, ShowsNoneIn}
+use Rattle.lr_family.specs.Among.{StandsAmong, ShowsMembers, ShowsIn, ShowsNoneIn}
 use Rattle.lr_family.specs.Listed.{NotListedAt, NotListed}
 use Rattle.lr_family.specs.Looks.{Sight, look_of, ShowsTo}
 use Rattle.lr_family.specs.Parts.{PartSight, part_look, ShowsParts, ShowsNoParts}
@@ -24,7 +25,7 @@ use Rattle.lr_glob.specs.declared.found.GlobStop.TheVariants as glob
 use Rattle.lr_glob.specs.Sights.{seen_at}
 use Rattle.lr_glob.specs.Words.{Gave, CallFailed, Begun}
 use Rattle.lr_looks.specs.Asked.{Word}
-use Rattle.lr_looks.specs.Families.{FamilySight, Stood, Stopped, ShowsMembersIn}
+use Rattle.lr_looks.specs.Families.{FamilySight, Stood, Stopped, ShowsAside, ShowsNoAside, ShowsMembersIn}
 use Rattle.lr_looks.specs.Sights.{WordSight, ShowsWord}
 use Rattle.lr_fulfilled.proofs.CountedListings.{AreNoListings, none_both, none_empty}
 
@@ -102,10 +103,26 @@ none_in_none n true names why ts (inr (inl s)) = stops_none s.spots why ts s.loo
 none_in_none n true names why ts (inr (inr s)) = none_both ts (among_none n names s.0) (no_parts_none n names why) s.1
 none_in_none n false names why ts h = absurd h
 
-pub members_in_none : (n : Naming) (l : Listing) (s : FamilySight) (ts : List Entry) → ShowsMembersIn n l s ts → AreNoListings ts
-members_in_none n l (Stood stand) ts h = none_both ts (members_none n l.there l.names stand.members) (parts_none n l.there l.names stand.parts) h.2
-members_in_none n l (Stopped why) ts (inl h) = none_empty ts h.1
-members_in_none n l (Stopped why) ts (inr h) = none_in_none n l.there l.names why ts h
+shown_none : (n : Naming) (there parent : Bool) (names : List _) (stand : Stand) (ts : List Entry) → ShowsIn n there parent names stand ts → AreNoListings ts
+shown_none n there parent names stand ts h = none_both ts (members_none n there names stand.members) (parts_none n there names stand.parts) h.2
+
+-- ---- the look where a log waits that is set aside
+
+aside_none : (aside : Bool) (log : Path) (tmp : Option Seen) (ts : List Entry) → ShowsAside aside log tmp ts → AreNoListings ts
+aside_none true log tmp ts h = subst AreNoListings (sym h) (tt, tt)
+aside_none false log tmp ts h = none_empty ts h.1
+
+no_aside_none : (aside : Bool) (log : Path) (why : StandStop) (ts : List Entry) → ShowsNoAside aside log why ts → AreNoListings ts
+no_aside_none true log why ts h = none_empty ts h.1
+no_aside_none false log why ts h = absurd h
+
+-- ---- all looks behind a listing
+
+pub members_in_none : (log : Path) (n : Naming) (l : Listing) (s : FamilySight) (ts : List Entry) → ShowsMembersIn log n l s ts → AreNoListings ts
+members_in_none log n l (Stood stand tmp) ts h = none_both ts (shown_none n l.there l.parent l.names stand) (aside_none n.aside log tmp) h
+members_in_none log n l (Stopped why) ts (inl h) = none_empty ts h.1
+members_in_none log n l (Stopped why) ts (inr (inl h)) = none_in_none n l.there l.names why ts h
+members_in_none log n l (Stopped why) ts (inr (inr h)) = none_both ts (shown_none n l.there l.parent l.names h.0) (no_aside_none n.aside log why) h.1
 
 -- ---- the looks at a directory that isn't listed
 

@@ -95,7 +95,7 @@ pub fn halted_run_leaves_all()
 {}
 
 /// Each log of a run's plan is given by a word of one of its rules, as the run's entries show: with its naming, its count and its
-/// age; and it is copied where that rule asks for a copy.
+/// age; and it goes by that rule's way, renamed, copied or set aside.
 pub fn logs_are_given()
     ensures { (debug : Bool) (state : Path) (asked : Asked) (clock : Clock) (rules : Rules) (w : Work) (p q : Past)
         (es reads : List Entry)

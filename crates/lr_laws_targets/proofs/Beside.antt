@@ -138,7 +138,7 @@ module _ (log : Path) (n : Naming) where
       go further false e i = ⊎_elim (λ j. no_own x h.0 (apart x (inl refl) (differ e)) y j own) further (in_append y (paths_of x) (paths_of_others log xs) i)
 
   module _ (state : Path) (ts : List Target) (h : HaveNames ts) (apart : (x : Target) → IsIn x ts → x.log ≢ log → Meet x.log x.naming log n → ⊥) (no_state : IsName log n state → ⊥) (no_part : IsName log n (state ++ codes ".tmp") → ⊥) where
-    none_own : (x : Path) → IsIn x (other_paths state log ts) → IsOwnName log n x → ⊥
+    pub none_own : (x : Path) → IsIn x (other_paths state log ts) → IsOwnName log n x → ⊥
     none_own x (inl is) own = no_state (inl (subst (IsOwnName log n) (sym is) own))
     none_own x (inr (inl is)) own = no_part (inl (subst (IsOwnName log n) (sym is) own))
     none_own x (inr (inr i)) own = others_no_own ts h apart x i own

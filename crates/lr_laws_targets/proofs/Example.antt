@@ -7,9 +7,9 @@ use Rattle.std.specs.Str.{is_utf8}
 use Rattle.std.proofs.lemmas.Str.{is_utf8-from_IsUtf8, IsUtf8-from_ascii}
 use Rattle.lr_rules.specs.declared.clock.Clock.{Clock}
 use Rattle.lr_rules.specs.declared.path.Path.{Path}
-use Rattle.lr_rules.specs.declared.rule.Count.TheVariants.{Keep}
 use Rattle.lr_rules.specs.declared.rules.Rules.{Rules}
 use Rattle.lr_rules.specs.Limits.{meets_limits, is_format}
+use Rattle.lr_rules.proofs.Endings.{low_ascii}
 use Rattle.lr_rules.specs.Path.{path_fault}
 use Rattle.lr_host.specs.declared.entry.Entry.TheVariants as entry
 use Rattle.lr_host.specs.Lists.{IsIn}
@@ -38,6 +38,10 @@ ascii_w (suc (suc i)) = omega arith
 pub path_w : path_fault (codes "/w") ≡ None
 unfolding path_fault
 path_w = let t : is_utf8 (codes "/w") ≡ true = is_utf8-from_IsUtf8 (codes "/w") (IsUtf8-from_ascii (codes "/w") ascii_w) in rw t
+
+path_log : path_fault log ≡ None
+unfolding path_fault
+path_log = let t : is_utf8 (codes "/w/b.log") ≡ true = is_utf8-from_IsUtf8 (codes "/w/b.log") (IsUtf8-from_ascii (codes "/w/b.log") (low_ascii (codes "/w/b.log") refl)) in rw t
 
 ascii_format : IsAscii (codes "-%s")
 ascii_format zero = omega arith
@@ -77,15 +81,15 @@ shown = record {
   others = λ x is free. unlisted [] (inr (inr (inl refl))) (λ name c. absurd (in_from name [] c));
 }
 
-given : IsGiven rules.sets looks log naming (Keep 1) None None
-given = record { rule = rule; word = log; among = (0, omega arith, refl); has = (0, omega arith, refl); given = record { before = []; part = []; after = looks; joined = refl; is = literal_gives rules.sets rule log log [] refl refl }; naming_is = refl; count_is = refl; maxage_is = refl; way_is = ((λ e. refl), (λ e. refl)) }
+given : (clock : Clock) → IsGiven rules.sets looks (target clock)
+given clock = record { rule = rule; word = log; among = (0, omega arith, refl); has = (0, omega arith, refl); given = record { before = []; part = []; after = looks; joined = refl; is = literal_gives rules.sets rule log log [] refl refl }; naming_is = refl; count_is = refl; maxage_is = refl; way_is = (record { aside_is = refl; first_is = refl }, refl) }
 
 log_seen : Among (Sees log IsFile) looks
 log_seen = record { before = []; part = entry.Look log (Some file) ∷ []; after = entry.Look (codes "/w") (Some directory) ∷ entry.List (codes "/w") [] ∷ []; joined = refl; is = record { seen = Some file; is = refl; look = refl } }
 
 seen : (clock : Clock) → IsLogSeen rules clock looks (target clock)
 unfolding given
-seen clock = record { given = given; family = family; log_seen = log_seen; seen = shown; free = refl; ready = refl; dir = (directory, refl, inr (inl refl)); job = λ job is. absurd (cc) }
+seen clock = record { path = path_log; given = given clock; family = family; log_seen = log_seen; way_seen = record { first = log_seen; free = λ path is. absurd (cc) }; seen = shown; free = refl; ready = refl; dir = (directory, refl, inr (inl refl)); job = λ job is. absurd (cc) }
 
 turns : (state : Path) (clock : Clock) → AllTurnsBy state clock rules (looks ++ turn clock ∷ [])
 turns state clock = record {

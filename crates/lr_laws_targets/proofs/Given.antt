@@ -10,12 +10,14 @@ use Rattle.lr_rules.specs.declared.rule.Count.{Count}
 use Rattle.lr_rules.specs.declared.rule.Count.TheVariants as count
 use Rattle.lr_rules.specs.declared.rule.Naming.{Naming}
 use Rattle.lr_rules.specs.declared.rule.Rule.{Rule}
+use Rattle.lr_rules.specs.declared.rule.Way.{Way}
 use Rattle.lr_rules.specs.declared.rule.Way.TheVariants.{Rename}
 use Rattle.lr_rules.specs.declared.rules.Rules.{Rules}
 use Rattle.lr_rules.specs.Limits.{meets_limits, is_count, is_small, is_criterion, is_log_word, or_none, is_size}
 use Rattle.lr_rules.specs.declared.rule.Format.{Format}
 use Rattle.lr_rules.specs.Match.{WordGives, literal, RuleGives, is_wildcard, literal_path}
-use Rattle.lr_rules.specs.Names.{IsMemberAt, naming_of, Meet}
+use Rattle.lr_rules.specs.Names.{IsMemberAt, aside_path, naming_of, Meet}
+use Rattle.lr_rules.specs.Path.{path_fault}
 use Rattle.lr_host.specs.declared.entry.Entry.{Entry}
 use Rattle.lr_host.specs.declared.entry.Entry.TheVariants as entry
 use Rattle.lr_host.specs.World.{Past, ◌▸◌, world, names}
@@ -33,9 +35,10 @@ use Rattle.lr_host.proofs.More.{file_more}
 use Rattle.lr_host.proofs.Quiet.{IsAny, quiet_more, made_quiet, since_any, quiet_still, still_reverse}
 use Rattle.lr_host.proofs.Lists.{in_from}
 use Rattle.lr_family.specs.Parts.{IsDated, IsMember}
-use Rattle.lr_copy.specs.declared.job.Job.{Job}
 use Rattle.lr_chain.specs.Ready.{IsCount}
-use Rattle.lr_laws_targets.specs.Target.{Gives, IsGiven}
+use Rattle.lr_laws.proofs.AsideName.{no_numbered, no_dated}
+use Rattle.lr_laws_family.specs.Members.{IsNoMember}
+use Rattle.lr_laws_targets.specs.Target.{Gives, IsGiven, Target, StaysBefore, GoesBy}
 use Rattle.lr_laws_family.specs.Weave.{Among}
 
 -- what holds of all holds of each of them
@@ -87,9 +90,9 @@ pub still_file : (u v : Past) (before : List Entry) (x : Path) → AreQuiet befo
 still_file u v before x quiet m file = file_more (names (world u)) (names (world v)) x
     (quiet_more IsAny u v (made_quiet IsAny u v (reverse before) (since_any u v (reverse before) m) m (still_reverse before (quiet_still before quiet)))) file
 
-pub gives : (u v : Past) (rules : List Rule) (looks : List Entry) (log : Path) (n : Naming) (c : Count) (maxage : Option ℕ) (job : Option Job) → AreQuiet looks → Made u (reverse looks) v → (g : IsGiven rules looks log n c maxage job) → RuleGives g.rule log
-gives u v rules looks log n c maxage job quiet m g =
-    let t = stretch u v looks (Gives rules g.rule g.word log) quiet m g.given in
+pub gives : (u v : Past) (rules : List Rule) (looks : List Entry) (x : Target) → AreQuiet looks → Made u (reverse looks) v → (g : IsGiven rules looks x) → RuleGives g.rule x.log
+gives u v rules looks x quiet m g =
+    let t = stretch u v looks (Gives rules g.rule g.word x.log) quiet m g.given in
     (g.has.0, g.word, g.has.1, g.has.2, t.is.gives t.from t.to (reverse t.part) t.made (sym (reverse-reverse t.part)))
 
 -- ---- a log that the run passes over
@@ -144,27 +147,27 @@ journal_before p _ es (by_writer {q = q} m i f) j = journal_before p q es m j.0
 journal_before p _ _ (by_tool {es = es} {q = q} m i f) j = journal_before p q es m j.0
 
 -- a set of another log, that is steady where the log names a file, doesn't meet the log's
-pub no_meet : (s : LogSet) (u v : Past) (rules : List Rule) (looks : List Entry) (log : Path) (n : Naming) (c : Count) (maxage : Option ℕ) (job : Option Job) → AreQuiet looks → Made u (reverse looks) v → ((x : Path) → StoodAtStart x u → IsFileAt (names (world u)) x)
-    → IsJournal v → IsSteadyAt s v → rules_of v ≡ rules → IsGiven rules looks log n c maxage job → IsFileAt (names (world v)) log → log ≢ s.log → Meet s.log s.naming log n → ⊥
-no_meet s u v rules looks log n c maxage job quiet m begun journal steady is g file other meet =
-    none.4.1 (subst (λ (k : Naming). IsMember k log) (sym (named none.1 (none.0, none.2, none.3) none.4.0)) member)
+pub no_meet : (s : LogSet) (u v : Past) (rules : List Rule) (looks : List Entry) (x : Target) → AreQuiet looks → Made u (reverse looks) v → ((y : Path) → StoodAtStart y u → IsFileAt (names (world u)) y)
+    → IsJournal v → IsSteadyAt s v → rules_of v ≡ rules → IsGiven rules looks x → IsFileAt (names (world v)) x.log → x.log ≢ s.log → Meet s.log s.naming x.log x.naming → ⊥
+no_meet s u v rules looks x quiet m begun journal steady is g file other meet =
+    none.4.1 (subst (λ (k : Naming). IsMember k x.log) (sym (named none.1 (none.0, none.2, none.3) none.4.0)) member)
   where
-    t : Stretch u (Gives rules g.rule g.word log)
-    t = stretch u v looks (Gives rules g.rule g.word log) quiet m g.given
+    t : Stretch u (Gives rules g.rule g.word x.log)
+    t = stretch u v looks (Gives rules g.rule g.word x.log) quiet m g.given
 
-    word_gives : WordGives g.word log
+    word_gives : WordGives g.word x.log
     word_gives = t.is.gives t.from t.to (reverse t.part) t.made (sym (reverse-reverse t.part))
 
-    over : IsPassedOver s v log
-    over = all_in (λ (r : Rule). RuleGives r log → Meet s.log s.naming log (naming_of r log) → IsPassedOver s v log) rules g.rule
-        (subst (All (λ (r : Rule). RuleGives r log → Meet s.log s.naming log (naming_of r log) → IsPassedOver s v log)) is (steady.apart log other file)) g.among
-        (g.has.0, g.word, g.has.1, g.has.2, word_gives) (subst (λ (k : Naming). Meet s.log s.naming log k) (sym g.naming_is) meet)
+    over : IsPassedOver s v x.log
+    over = all_in (λ (r : Rule). RuleGives r x.log → Meet s.log s.naming x.log (naming_of r x.log) → IsPassedOver s v x.log) rules g.rule
+        (subst (All (λ (r : Rule). RuleGives r x.log → Meet s.log s.naming x.log (naming_of r x.log) → IsPassedOver s v x.log)) is (steady.apart x.log other file)) g.among
+        (g.has.0, g.word, g.has.1, g.has.2, word_gives) (subst (λ (k : Naming). Meet s.log s.naming x.log k) (sym g.naming_is) meet)
 
     -- the word is a wildcard, and gives the set's log too
     wild : (is_wildcard g.word ≡ true) × WordGives g.word s.log
-    wild = all_in (λ (word : List ℕ). WordGives word log → (is_wildcard word ≡ true) × WordGives word s.log) g.rule.words g.word
-        (all_in (λ (r : Rule). All (λ word. WordGives word log → (is_wildcard word ≡ true) × WordGives word s.log) r.words) rules g.rule
-        (subst (All (λ (r : Rule). All (λ word. WordGives word log → (is_wildcard word ≡ true) × WordGives word s.log) r.words)) is over.wildcards) g.among) g.has word_gives
+    wild = all_in (λ (word : List ℕ). WordGives word x.log → (is_wildcard word ≡ true) × WordGives word s.log) g.rule.words g.word
+        (all_in (λ (r : Rule). All (λ word. WordGives word x.log → (is_wildcard word ≡ true) × WordGives word s.log) r.words) rules g.rule
+        (subst (All (λ (r : Rule). All (λ word. WordGives word x.log → (is_wildcard word ≡ true) × WordGives word s.log) r.words)) is over.wildcards) g.among) g.has word_gives
 
     -- each rule that gives the set's log names its members as the set does
     named : (r : Rule) → Contains rules r → RuleGives r s.log → naming_of r s.log ≡ s.naming
@@ -174,35 +177,35 @@ no_meet s u v rules looks log n c maxage job quiet m begun journal steady is g f
     naming : naming_of g.rule s.log ≡ s.naming
     naming = named g.rule g.among (g.has.0, g.word, g.has.1, g.has.2, wild.1)
 
-    member : IsMember s.naming log
-    member = member_in s log over.member
+    member : IsMember s.naming x.log
+    member = member_in s x.log over.member
 
     stood : IsFileAt (names (world t.from)) s.log
     stood = still_file u t.from t.before s.log t.quiet t.ahead (begun s.log (stood_before s.log u v (reverse looks) m (each_reverse IsQuiet looks quiet) over.log_stood))
 
-    none : SomeRule rules s.log (λ r. IsMember (naming_of r s.log) log → ⊥)
+    none : SomeRule rules s.log (λ r. IsMember (naming_of r s.log) x.log → ⊥)
     none = t.is.alone t.from t.to (reverse t.part) t.made (made_journal u t.from (reverse t.before) t.ahead (journal_before u v (reverse looks) m journal)) (sym (reverse-reverse t.part)) wild.0 s.log (λ e. other (sym e)) s.log_path wild.1 stood
-        (subst (λ (k : Naming). IsMember k log) (sym naming) member)
+        (subst (λ (k : Naming). IsMember k x.log) (sym naming) member)
 
 -- where the set is steady, the rule that gives its log rotates it by rename and gives it the set's naming
-of_steady : (s : LogSet) (v : Past) (rules : List Rule) (looks : List Entry) (log : Path) (n : Naming) (c : Count) (maxage : Option ℕ) (job : Option Job) → IsSteadyAt s v → rules_of v ≡ rules → (g : IsGiven rules looks log n c maxage job) → RuleGives g.rule log → s.log ≡ log
+of_steady : (s : LogSet) (v : Past) (rules : List Rule) (looks : List Entry) (x : Target) → IsSteadyAt s v → rules_of v ≡ rules → (g : IsGiven rules looks x) → RuleGives g.rule x.log → s.log ≡ x.log
     → (g.rule.way ≡ Rename) × (naming_of g.rule s.log ≡ s.naming)
-of_steady s v rules looks log n c maxage job steady is g h same =
+of_steady s v rules looks x steady is g h same =
     all_in (λ (r : Rule). RuleGives r s.log → (r.way ≡ Rename) × (naming_of r s.log ≡ s.naming)) rules g.rule
     (subst (All (λ (r : Rule). RuleGives r s.log → (r.way ≡ Rename) × (naming_of r s.log ≡ s.naming))) is steady.rules) g.among
-    (subst (λ (x : Path). RuleGives g.rule x) (sym same) h)
+    (subst (λ (y : Path). RuleGives g.rule y) (sym same) h)
 
 -- the rule gives the set of its log the naming that the set has
-pub naming_same : (s : LogSet) (v : Past) (rules : List Rule) (looks : List Entry) (log : Path) (n : Naming) (c : Count) (maxage : Option ℕ) (job : Option Job) → IsSteadyAt s v → rules_of v ≡ rules → (g : IsGiven rules looks log n c maxage job) → RuleGives g.rule log → s.log ≡ log → s.naming ≡ n
-naming_same s v rules looks log n c maxage job steady is g h same = sym (of_steady s v rules looks log n c maxage job steady is g h same).1 ∙ (ap (naming_of g.rule) same ∙ g.naming_is)
+pub naming_same : (s : LogSet) (v : Past) (rules : List Rule) (looks : List Entry) (x : Target) → IsSteadyAt s v → rules_of v ≡ rules → (g : IsGiven rules looks x) → RuleGives g.rule x.log → s.log ≡ x.log → s.naming ≡ x.naming
+naming_same s v rules looks x steady is g h same = sym (of_steady s v rules looks x steady is g h same).1 ∙ (ap (naming_of g.rule) same ∙ g.naming_is)
 
--- and its log isn't copied
-pub no_copy : (s : LogSet) (v : Past) (rules : List Rule) (looks : List Entry) (log : Path) (n : Naming) (c : Count) (maxage : Option ℕ) (job : Option Job) → IsSteadyAt s v → rules_of v ≡ rules → (g : IsGiven rules looks log n c maxage job) → RuleGives g.rule log → s.log ≡ log → job ≡ None
-no_copy s v rules looks log n c maxage job steady is g h same = g.way_is.0 (of_steady s v rules looks log n c maxage job steady is g h same).0
+-- and its log stays where it is up to its rename
+pub no_copy : (s : LogSet) (v : Past) (rules : List Rule) (looks : List Entry) (x : Target) → IsSteadyAt s v → rules_of v ≡ rules → (g : IsGiven rules looks x) → RuleGives g.rule x.log → s.log ≡ x.log → StaysBefore x × (x.job ≡ None)
+no_copy s v rules looks x steady is g h same = subst (λ (w : Way). GoesBy w x) (of_steady s v rules looks x steady is g h same).0 g.way_is
 
 -- what the rule says of the log, some rule of the run does
-pub by_rule : (P : Rule → Type 0) (v : Past) (rules : List Rule) (looks : List Entry) (log : Path) (n : Naming) (c : Count) (maxage : Option ℕ) (job : Option Job) → rules_of v ≡ rules → (g : IsGiven rules looks log n c maxage job) → RuleGives g.rule log → P g.rule → SomeRule (rules_of v) log P
-by_rule P v rules looks log n c maxage job is g h so = subst (λ (rs : List Rule). SomeRule rs log P) (sym is) (g.among.0, g.rule, g.among.1, g.among.2, (h, so))
+pub by_rule : (P : Rule → Type 0) (v : Past) (rules : List Rule) (looks : List Entry) (x : Target) → rules_of v ≡ rules → (g : IsGiven rules looks x) → RuleGives g.rule x.log → P g.rule → SomeRule (rules_of v) x.log P
+by_rule P v rules looks x is g h so = subst (λ (rs : List Rule). SomeRule rs x.log P) (sym is) (g.among.0, g.rule, g.among.1, g.among.2, (h, so))
 
 -- ---- the numbers of places
 
@@ -232,8 +235,8 @@ limits rules r h e = record { count = both.0; start = both.1 }
     both = third_and_eighth (list_all is_log_word r.words) (is_criterion r.criterion) (is_count r.count) (or_none is_small r.maxage) (or_none is_small r.minage) (or_none is_size r.minsize) (or_none is_size r.maxsize) (is_small r.start) _ all
 
 -- the count and the first number are within their limits
-pub given_limits : (rules : Rules) (looks : List Entry) (log : Path) (n : Naming) (c : Count) (maxage : Option ℕ) (job : Option Job) → IsGiven rules.sets looks log n c maxage job → IsCount c × (n.start ≤ 999999)
-given_limits rules looks log n c maxage job one = (subst IsCount one.count_is (count_small one.rule.count l.count), subst (λ (m : Naming). m.start ≤ 999999) one.naming_is (small one.rule.start l.start))
+pub given_limits : (rules : Rules) (looks : List Entry) (x : Target) → IsGiven rules.sets looks x → IsCount x.count × (x.naming.start ≤ 999999)
+given_limits rules looks x one = (subst IsCount one.count_is (count_small one.rule.count l.count), subst (λ (m : Naming). m.start ≤ 999999) one.naming_is (small one.rule.start l.start))
   where
     l : Limits one.rule
     l = limits rules.sets one.rule rules.limits one.among
@@ -244,3 +247,14 @@ given_limits rules looks log n c maxage job one = (subst IsCount one.count_is (c
     count_small : (d : Count) → is_count d ≡ true → IsCount d
     count_small (count.Keep k) h = small k h
     count_small count.Always h = tt
+
+-- the path where the log waits that is set aside is no member's
+pub beside_apart : (rules : Rules) (looks : List Entry) (x : Target) → IsGiven rules.sets looks x → path_fault x.log ≡ None → IsNoMember x.naming (aside_path x.log)
+beside_apart rules looks x one path member = go (subst (λ (n : Naming). IsMember n (aside_path x.log)) (sym one.naming_is) member)
+  where
+    good : meets_limits one.rule ≡ true
+    good = each_meets rules.sets one.rule rules.limits (in_from one.rule rules.sets one.among)
+
+    go : IsMember (naming_of one.rule x.log) (aside_path x.log) → ⊥
+    go (inl (none, (place, at))) = no_numbered one.rule x.log place path good at
+    go (inr (seconds, serial, at)) = no_dated one.rule x.log seconds serial path good at

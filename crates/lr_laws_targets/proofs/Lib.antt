@@ -15,4 +15,6 @@ pub mod Rotating
 pub mod RunSafety
 pub mod Safety
 pub mod Shapes
+pub mod Waiting
+pub mod Way
 pub mod Whole

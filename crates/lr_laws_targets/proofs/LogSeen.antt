@@ -8,7 +8,9 @@ use Rattle.lr_host.specs.Lists.{IsIn}
 use Rattle.lr_laws_targets.specs.Apart.{HasNames, HaveNames}
 use Rattle.lr_laws_targets.specs.Seen.{IsLogSeen, AreLogsSeen}
 use Rattle.lr_laws_targets.specs.Target.{Target, HasDir, IsMissingDir, IsDirSeenBy, IsDirSeen}
-use Rattle.lr_laws_targets.proofs.Given.{given_limits}
+use Rattle.lr_laws_targets.proofs.Given.{given_limits, beside_apart}
+use Rattle.lr_laws_targets.proofs.PartFile.{part_no_log}
+use Rattle.lr_laws_targets.proofs.Way.{has_way}
 
 -- the directory that is made is no other name of the set
 pub has_dir : (t : Target) (looks : List Entry) → IsDirSeen t looks → HasDir t
@@ -21,11 +23,14 @@ module _ (rules : Rules) (clock : Clock) (looks : List Entry) where
     family = l.family;
     newest_first = l.seen.newest_first;
     named = l.seen.named;
-    count = (given_limits rules looks t.log t.naming t.count t.maxage t.job l.given).0;
-    start = (given_limits rules looks t.log t.naming t.count t.maxage t.job l.given).1;
+    count = (given_limits rules looks t l.given).0;
+    start = (given_limits rules looks t l.given).1;
     clock = clock;
     free = l.free;
     ready = l.ready;
+    way = has_way l.given.rule.way t l.given.way_is;
+    beside = λ asked. beside_apart rules looks t l.given l.path;
+    parts = λ member m. part_no_log t.log t.naming l.family member m l.given.rule l.given.naming_is;
     dir = has_dir t looks l.dir;
     job = λ job is. (l.job job is).0;
   }

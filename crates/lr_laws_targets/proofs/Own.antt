@@ -4,7 +4,7 @@ use Rattle.std.specs.Prelude.{All}
 use Rattle.std.proofs.lemmas.List.Elements.{All-head, All-tail}
 use Rattle.lr_rules.specs.declared.path.Path.{Path}
 use Rattle.lr_rules.specs.declared.rule.Naming.{Naming}
-use Rattle.lr_rules.specs.Names.{IsOwnName, the_log, a_member, a_part}
+use Rattle.lr_rules.specs.Names.{IsOwnName, the_log, a_member, a_part, set_aside}
 use Rattle.lr_stamps.proofs.StampShapes.{dated_shape}
 use Rattle.lr_host.specs.declared.entry.Entry.{Entry}
 use Rattle.lr_host.specs.declared.entry.Entry.TheVariants as entry
@@ -29,7 +29,8 @@ use Rattle.lr_laws_targets.specs.Own.{IsOfFamily, ChangesOfFamily, ChangesOwn, C
 use Rattle.lr_laws_targets.specs.Rotation.{paths_in, rotation_by}
 use Rattle.lr_laws_targets.specs.Target.{Target, HasDir, transfer_of, rotation_of}
 use Rattle.lr_laws_targets.proofs.PartFile.{part_joined, job_part}
-use Rattle.lr_laws_targets.proofs.Plan.{plan_is_one, any_log}
+use Rattle.lr_laws_targets.proofs.Plan.{plan_is_one}
+use Rattle.lr_laws_targets.proofs.Way.{first_own, aside_own}
 use Rattle.lr_laws_targets.proofs.Rotating.{each_part}
 use Rattle.lr_laws_family.proofs.Core.{newest_own}
 
@@ -48,7 +49,8 @@ part_own log n x member (inr d) is = let h = dated_shape n d.0 d.1 member d.2 in
 pub named_own : (log : Path) (n : Naming) (x : Path) → IsOfFamily log n x → IsOwnName log n x
 named_own log n x (inl is) = the_log is
 named_own log n x (inr (inl m)) = member_own log n x m
-named_own log n x (inr (inr (member, m, is))) = part_own log n x member m is
+named_own log n x (inr (inr (inl (member, m, is)))) = part_own log n x member m is
+named_own log n x (inr (inr (inr (asked, is)))) = set_aside asked is
 
 changes_own : (log : Path) (n : Naming) (e : Entry) → ChangesOfFamily log n e → ChangesOwn log n e
 changes_own log n e h x i = named_own log n x (h x i)
@@ -77,9 +79,9 @@ module _ (log : Path) (n : Naming) where
   moves_of [] h = tt
   moves_of (m ∷ ms) h = (let both = All-head MovesMember m ms h in rename_of m.from m.to (inr (inl both.0)) (inr (inl both.1)), moves_of ms (All-tail MovesMember m ms h))
 
-  -- the transfer of a copy
-  moved_of : (job : Job) → IsOfFamily log n job.part → IsOfFamily log n job.to → Each (ChangesOfFamily log n) (clearing job ++ Renames job.part job.to ∷ [])
-  moved_of job a b = each_append (ChangesOfFamily log n) (clearing job) (Renames job.part job.to ∷ []) (cleared job.stale) (rename_of job.part job.to a b, tt)
+  -- the transfer of a copy, and what follows
+  moved_of : (job : Job) (rest : List Entry) → IsOfFamily log n job.part → IsOfFamily log n job.to → Each (ChangesOfFamily log n) rest → Each (ChangesOfFamily log n) (clearing job ++ Renames job.part job.to ∷ rest)
+  moved_of job rest a b c = each_append (ChangesOfFamily log n) (clearing job) (Renames job.part job.to ∷ rest) (cleared job.stale) (rename_of job.part job.to a b, c)
     where
       cleared : (b : Bool) → Each (ChangesOfFamily log n) (cond b (Unlinks job.part ∷ []) [])
       cleared true = (one_of job.part a, tt)
@@ -100,15 +102,20 @@ module _ (t : Target) (h : HasNames t) where
   to_member job is = subst (IsMember t.naming) (sym (h.job job is).to_is) target_member
 
   part_of_member : (job : Job) → t.job ≡ Some job → IsOfFamily t.log t.naming job.part
-  part_of_member job is = inr (inr (t.ready.target, target_member, job_part t job h.family target_member (h.job job is)))
+  part_of_member job is = inr (inr (inl (t.ready.target, target_member, job_part t job h.family target_member (h.job job is))))
 
-  transfer_of_family : (j : Option Job) → t.job ≡ j → Each (ChangesOfFamily t.log t.naming) (transfer_of t.ready j)
-  transfer_of_family None is = (rename_of t.log t.naming t.ready.log t.ready.target (inl (any_log t h)) (inr (inl target_member)), tt)
-  transfer_of_family (Some job) is = moved_of t.log t.naming job (part_of_member job is) (inr (inl (to_member job is)))
+  transfer_of_family : (j : Option Job) (a : Option Path) → t.job ≡ j → t.aside ≡ a → Each (ChangesOfFamily t.log t.naming) (transfer_of t.ready j a)
+  transfer_of_family None a is aside = (rename_of t.log t.naming t.ready.log t.ready.target (first_own t h) (inr (inl target_member)), tt)
+  transfer_of_family (Some job) None is aside = moved_of t.log t.naming job [] (part_of_member job is) (inr (inl (to_member job is))) tt
+  transfer_of_family (Some job) (Some path) is aside =
+      let beside = aside_own t h path aside in (
+        rename_of t.log t.naming t.ready.log path (first_own t h) beside,
+        moved_of t.log t.naming job (Unlinks path ∷ []) (part_of_member job is) (inr (inl (to_member job is))) (one_of t.log t.naming path beside, tt),
+      )
 
   -- each rename and unlink of the rotation is on the log, members and their part files
   turns_of_family : Each (ChangesOfFamily t.log t.naming) (rotation_of t)
-  turns_of_family = each_part (ChangesOfFamily t.log t.naming) t (unlinks_of t.log t.naming t.ready.leftovers family_members.early) (moves_of t.log t.naming t.ready.moves family_members.moves) (transfer_of_family t.job refl) (unlinks_of t.log t.naming t.ready.retire family_members.gone)
+  turns_of_family = each_part (ChangesOfFamily t.log t.naming) t (unlinks_of t.log t.naming t.ready.leftovers family_members.early) (moves_of t.log t.naming t.ready.moves family_members.moves) (transfer_of_family t.job t.aside refl refl) (unlinks_of t.log t.naming t.ready.retire family_members.gone)
 
   pub own_paths : Each (ChangesOwn t.log t.naming) (rotation_of t)
   own_paths = each_as (ChangesOfFamily t.log t.naming) (ChangesOwn t.log t.naming) (rotation_of t) (λ e own. changes_own t.log t.naming e own) turns_of_family

@@ -48,7 +48,7 @@ use Rattle.lr_laws_rotations.proofs.Moments.{saw_one}
 use Rattle.lr_laws_rotations.proofs.Weaving.{IsApartOrMakes, IsWoven, woven}
 use Rattle.lr_laws_targets.specs.Apart.{HasNames}
 use Rattle.lr_laws_targets.specs.Seen.{IsLogSeen}
-use Rattle.lr_laws_targets.specs.Target.{Target, rotation_of}
+use Rattle.lr_laws_targets.specs.Target.{Target, StaysBefore, rotation_of}
 use Rattle.lr_laws_targets.proofs.CallsFit.{unlinks_spare, moves_spare}
 use Rattle.lr_laws_targets.proofs.DatedWeaving.{IsDatedWoven, dated_woven, rotation_filter as dated_filter, later_rotation as later_dated}
 use Rattle.lr_laws_targets.proofs.Given.{journal_before}
@@ -110,7 +110,7 @@ module _ (s : LogSet) (t : Target) (h : HasNames t) (same : t.log ≡ s.log) (m 
 -- ---- the set's own log
 
 module _ (clock : Clock) (s : LogSet) (state : Path) (rules : Rules) (u v : Past) (looks : List Entry) (quiet : AreQuiet looks) (made : Made u (reverse looks) v) (here : Here s state clock.now.seconds rules v) (none_at : NoneAttached s v) (forward : IsForwardFor clock s v)
-    (t : Target) (seen : IsLogSeen rules clock looks t) (same : t.log ≡ s.log) (naming : s.naming ≡ t.naming) (not_copied : t.job ≡ None) (rule : SomeRule (rules_of v) s.log (λ r. (r.count ≡ t.count) × (r.maxage ≡ t.maxage))) where
+    (t : Target) (seen : IsLogSeen rules clock looks t) (same : t.log ≡ s.log) (naming : s.naming ≡ t.naming) (stays : StaysBefore t × (t.job ≡ None)) (rule : SomeRule (rules_of v) s.log (λ r. (r.count ≡ t.count) × (r.maxage ≡ t.maxage))) where
   abbrev h : HasNames t
   h = any_names rules clock looks t seen
 
@@ -139,7 +139,7 @@ module _ (clock : Clock) (s : LogSet) (state : Path) (rules : Rules) (u v : Past
   free = subst (λ (n : Naming). what_hinders n t.count clock t.stand ≡ []) (sym naming) seen.free
 
   ready : with_dir None t.ready ≡ ready_of s.log s.naming t.count t.maxage clock t.ready.make t.stand.members
-  ready = seen.ready ∙ (ap (λ (x : Path). ready_of x t.naming t.count t.maxage clock t.ready.make t.stand.members) same ∙ ap (λ (n : Naming). ready_of s.log n t.count t.maxage clock t.ready.make t.stand.members) (sym naming))
+  ready = seen.ready ∙ (ap (λ (x : Path). ready_of x t.naming t.count t.maxage clock t.ready.make t.stand.members) (stays.0.first_is ∙ same) ∙ ap (λ (n : Naming). ready_of s.log n t.count t.maxage clock t.ready.make t.stand.members) (sym naming))
 
   -- its steps are those of one rotation of the set
   one : RotatesSet (steps_of t.ready) s v
@@ -148,7 +148,7 @@ module _ (clock : Clock) (s : LogSet) (state : Path) (rules : Rules) (u v : Past
 
   module _ (acts : List Entry) (q : Past) (w : FirstWoven (IsApartOrMakes s) (rotation_of t) (filter is_change acts)) (behind : Made v (reverse acts) q) (none_q : NoneAttached s q) where
     split : reverse (steps_of t.ready) ≡ reverse w.first.0 ++ reverse w.made
-    split = ap reverse (sym (renamed_are t not_copied) ∙ w.first.1) ∙ reverse-append w.made w.first.0
+    split = ap reverse (sym (renamed_are t stays.1) ∙ w.first.1) ∙ reverse-append w.made w.first.0
 
     fits : LogFits s (names (world v)) (reverse w.made)
     fits = log_fits_first s (names (world v)) (reverse w.first.0) (reverse w.made) (subst (LogFits s (names (world v))) split (log_fits s t h same (names (world v)) file))

@@ -1,10 +1,10 @@
 -- The part file of a copy stands in the family's directory, and is neither the log nor a member.
-use Rattle.std.proofs.Common.{◌≡◌, ◌≢◌, ◌⊎◌, inl, inr, ℕ, suc, ◌+◌, ◌<◌, ◌≤◌, Bool, true, false, cond, ◌&&◌, refl, sym, ◌∙◌, ap, subst, arith, eqb-true, List, [], ◌∷◌, ◌++◌, length, append_assoc, Some}
-use Rattle.std.specs.Prelude.{nat_le, decimal, ◌==◌}
+use Rattle.std.proofs.Common.{◌≡◌, ◌≢◌, ◌⊎◌, inl, inr, ℕ, suc, ◌+◌, ◌<◌, ◌≤◌, Bool, true, false, cond, ◌&&◌, refl, sym, ◌∙◌, ap, subst, arith, eqb-true, List, [], ◌∷◌, ◌++◌, length, append_assoc, reverse, Some}
+use Rattle.std.specs.Prelude.{nat_le, decimal, codes, ◌==◌}
 use Rattle.std.specs.List.{list_any}
 use Rattle.std.proofs.lemmas.Bool.{le-leb}
 use Rattle.std.proofs.lemmas.Fmt.{length-decimal-le}
-use Rattle.std.proofs.lemmas.List.{length-append}
+use Rattle.std.proofs.lemmas.List.{length-append, reverse-append}
 use Rattle.std.proofs.lemmas.List.Elements.{All-head, All-tail}
 use Rattle.lr_rules.specs.declared.path.Path.{Path}
 use Rattle.lr_rules.specs.declared.rule.Format.{Format}
@@ -13,7 +13,7 @@ use Rattle.lr_rules.specs.declared.rule.Piece.{Piece}
 use Rattle.lr_rules.specs.declared.rule.Piece.TheVariants as piece
 use Rattle.lr_rules.specs.declared.rule.Rule.{Rule}
 use Rattle.lr_rules.specs.Match.{part_end}
-use Rattle.lr_rules.specs.Names.{AreDigits, IsStampShape, number_pieces, IsMiddleShape, ext_of, naming_of}
+use Rattle.lr_rules.specs.Names.{AreDigits, IsStampShape, number_pieces, IsMiddleShape, ext_of, naming_of, aside_path}
 use Rattle.lr_rules.specs.Path.{joined, parent_of, last_of, is_slash}
 use Rattle.lr_rules.proofs.PathLemmas.{plain_both, parent_joined, last_joined}
 use Rattle.lr_stamps.proofs.Members.{joined_same}
@@ -27,7 +27,9 @@ use Rattle.lr_laws.proofs.PlainStamps.{field_digits}
 use Rattle.lr_family.proofs.Paths.{name_part as numbered_part}
 use Rattle.lr_laws_family.specs.Members.{IsFamily, IsNoMember}
 use Rattle.lr_laws_family.proofs.DatedNames.{name_of, name_part, longer, base_long}
-use Rattle.lr_laws_targets.specs.Target.{Target, IsJob}
+use Rattle.lr_laws_targets.specs.Target.{Target, source_of, IsJob}
+use Rattle.lr_laws_targets.specs.Apart.{HasNames}
+use Rattle.lr_laws_targets.proofs.Way.{IsOnWay, first_by, source_on, source_apart}
 
 -- ---- the names of members
 
@@ -181,7 +183,7 @@ module _ (log : Path) (n : Naming) (family : IsFamily log n) where
     part_no_dir : part_of member ≢ n.dir
     part_no_dir e = joined_no_dir n.dir (name ++ part_end) (let l : length (name ++ part_end) ≡ length name + 15 = part_long in omega (arith, l)) (sym part_is ∙ e)
 
-    part_no_log : (rule : Rule) → naming_of rule log ≡ n → part_of member ≢ log
+    pub part_no_log : (rule : Rule) → naming_of rule log ≡ n → part_of member ≢ log
     part_no_log rule naming_is e =
         let lengths : length (name ++ part_end) ≡ length (last_of log) = ap length (sym part_last ∙ ap last_of e) in
         let part : length (name ++ part_end) ≡ length name + 15 = part_long in
@@ -222,6 +224,17 @@ module _ (log : Path) (n : Naming) (family : IsFamily log n) where
   part_no_member member (inr a) (inl b) = no_format n.dated b.0 a.2.dated
   part_no_member member (inr a) (inr b) = no_date member (part_of member) a b refl
 
+-- no part file stands where a log waits that is set aside: their names end with other bytes
+abbrev first_byte : List ℕ → ℕ
+first_byte [] = 0
+first_byte (b ∷ bs) = b
+
+first_differ : (xs ys : List ℕ) → 116 ∷ xs ≡ 112 ∷ ys → ⊥
+first_differ xs ys e = let same : 116 ≡ 112 = ap first_byte e in omega (arith, same)
+
+pub part_no_waiting : (x log : Path) → part_of x ≢ aside_path log
+part_no_waiting x log e = first_differ _ _ (sym (reverse-append x part_end) ∙ (ap reverse e ∙ reverse-append log (codes ".tmp")))
+
 -- ---- the paths of a job
 
 module _ (t : Target) (job : Job) (family : IsFamily t.log t.naming) (target : IsMember t.naming t.ready.target) (j : IsJob t job) where
@@ -234,11 +247,23 @@ module _ (t : Target) (job : Job) (family : IsFamily t.log t.naming) (target : I
   pub job_no_dir : job.part ≢ job.dir
   job_no_dir e = part_no_dir t.log t.naming family t.ready.target target (sym job_part ∙ (e ∙ j.dir_is))
 
-  pub job_paths : (rule : Rule) → naming_of rule t.log ≡ t.naming → ArePaths job
-  job_paths rule is = record {
-    part_apart = λ e. part_no_log t.log t.naming family t.ready.target target rule is (sym job_part ∙ (e ∙ j.from_is));
-    to_apart = λ e. family.apart (subst (IsMember t.naming) (sym j.to_is ∙ (e ∙ j.from_is)) target);
+  -- the part file isn't where the log's file stands at first
+  pub part_no_first : HasNames t → (rule : Rule) → naming_of rule t.log ≡ t.naming → job.part ≢ t.ready.log
+  part_no_first h rule is e = go (first_by t h.way)
+    where
+      go : IsOnWay t t.ready.log → ⊥
+      go (inl same) = part_no_log t.log t.naming family t.ready.target target rule is (sym job_part ∙ (e ∙ same))
+      go (inr beside) = part_no_waiting t.ready.target t.log (sym job_part ∙ (e ∙ beside.1))
+
+  pub job_paths : HasNames t → (rule : Rule) → naming_of rule t.log ≡ t.naming → ArePaths job
+  job_paths h rule is = record {
+    part_apart = λ e. part_no_source (source_on t h.way) (sym job_part ∙ (e ∙ j.from_is));
+    to_apart = λ e. source_apart t h (subst (IsMember t.naming) (sym j.to_is ∙ (e ∙ j.from_is)) target);
     part_not_to = λ e. job_no_member (subst (IsMember t.naming) (sym (e ∙ j.to_is)) target);
     dir_is = j.dir_is ∙ sym (ap parent_of j.to_is ∙ member_parent t.log t.naming family t.ready.target target);
     part_in = ap parent_of job_part ∙ (part_parent t.log t.naming family t.ready.target target ∙ sym j.dir_is);
   }
+    where
+      part_no_source : IsOnWay t (source_of t) → part_of t.ready.target ≢ source_of t
+      part_no_source (inl same) e = part_no_log t.log t.naming family t.ready.target target rule is (e ∙ same)
+      part_no_source (inr beside) e = part_no_waiting t.ready.target t.log (e ∙ beside.1)

@@ -9,17 +9,18 @@ use Rattle.lr_family.specs.declared.stand.Member.{Member}
 use Rattle.lr_family.specs.Spots.{path_at}
 use Rattle.lr_chain.specs.declared.ready.Move.{Move}
 use Rattle.lr_chain.specs.declared.ready.Ready.{Ready}
-use Rattle.lr_chain.specs.Prepared.{numbered_ready, ready_by}
+use Rattle.lr_chain.specs.Prepared.{numbered_ready}
 use Rattle.lr_chain.specs.Ready.{removal_at, with_dir}
 use Rattle.lr_chain.specs.Rotation.{places_of, leftovers, retired, going}
 use Rattle.lr_chain.specs.Serials.{next_serial}
 use Rattle.lr_chain.specs.DatedRotation.{Ranked, gone}
 use Rattle.lr_chain.specs.DatedReady.{removal_of, dated_ready, dated_target, all_by}
-use Rattle.lr_laws_targets.specs.Target.{Target}
+use Rattle.lr_laws_targets.specs.Target.{Target, source_of}
 use Rattle.lr_chain.proofs.DatedOrder.{all_dated}
 use Rattle.lr_chain.proofs.Either.{ready_numbers, ready_dates, hinders_numbers, free_there, target_at}
 use Rattle.lr_chain.proofs.Going.{going_are}
 use Rattle.lr_laws_targets.specs.Apart.{HasNames}
+use Rattle.lr_laws_targets.proofs.Way.{source_apart}
 use Rattle.lr_laws_family.specs.Dated.{dated}
 use Rattle.lr_laws_family.specs.Numbered.{numbered}
 use Rattle.lr_laws_family.specs.Turned.{IsRotation}
@@ -48,16 +49,16 @@ removals_of : (ms : List Ranked) → paths_in (map removal_of ms) ≡ map (λ (m
 removals_of [] = refl
 removals_of (m ∷ ms) = ap (λ xs. m.path ∷ xs) (removals_of ms)
 
-pub by_places : (t : Target) (clock : Clock) → with_dir None t.ready ≡ numbered_ready t.log t.naming t.count t.maxage clock.now.seconds t.ready.make t.stand.members
-    → rotation_by t ≡ numbered t.naming t.count (going t.count t.maxage clock.now.seconds t.stand.members) t.stand.members t.log t.log (by_of t.job)
-by_places t clock is = same_parts t.log t.stand.members (by_of t.job)
-    (ap (λ (r : Ready). r.log) is) (ap (λ (r : Ready). paths_in r.leftovers) is ∙ removals_at t.naming (leftovers t.count (places_of t.stand.members))) (ap (λ (r : Ready). r.moves) is) (ap (λ (r : Ready). r.target) is)
+pub by_places : (t : Target) (clock : Clock) → with_dir None t.ready ≡ numbered_ready t.ready.log t.naming t.count t.maxage clock.now.seconds t.ready.make t.stand.members
+    → rotation_by t ≡ numbered t.naming t.count (going t.count t.maxage clock.now.seconds t.stand.members) t.stand.members t.log (source_of t) (by_of t.job t.aside)
+by_places t clock is = same_parts t.log t.stand.members (by_of t.job t.aside)
+    refl (ap (λ (r : Ready). paths_in r.leftovers) is ∙ removals_at t.naming (leftovers t.count (places_of t.stand.members))) (ap (λ (r : Ready). r.moves) is) (ap (λ (r : Ready). r.target) is)
     (ap (λ (r : Ready). paths_in r.retire) is ∙ removals_at t.naming (retired t.count (going t.count t.maxage clock.now.seconds t.stand.members)))
 
-pub by_stamps : (t : Target) (clock : Clock) → with_dir None t.ready ≡ dated_ready t.log t.naming t.count t.maxage clock t.ready.make t.stand.members
-    → rotation_by t ≡ dated t.count (all_by t.naming t.maxage clock t.stand.members) t.stand.members t.log t.log (dated_target t.naming clock t.stand.members) (by_of t.job)
-by_stamps t clock is = same_parts t.log t.stand.members (by_of t.job)
-    (ap (λ (r : Ready). r.log) is) (ap (λ (r : Ready). paths_in r.leftovers) is) (ap (λ (r : Ready). r.moves) is) (ap (λ (r : Ready). r.target) is)
+pub by_stamps : (t : Target) (clock : Clock) → with_dir None t.ready ≡ dated_ready t.ready.log t.naming t.count t.maxage clock t.ready.make t.stand.members
+    → rotation_by t ≡ dated t.count (all_by t.naming t.maxage clock t.stand.members) t.stand.members t.log (source_of t) (dated_target t.naming clock t.stand.members) (by_of t.job t.aside)
+by_stamps t clock is = same_parts t.log t.stand.members (by_of t.job t.aside)
+    refl (ap (λ (r : Ready). paths_in r.leftovers) is) (ap (λ (r : Ready). r.moves) is) (ap (λ (r : Ready). r.target) is)
     (ap (λ (r : Ready). paths_in r.retire) is ∙ removals_of (reverse (gone t.count 0 (all_by t.naming t.maxage clock t.stand.members))))
 
 -- ---- it is one of the family
@@ -73,16 +74,16 @@ module _ (t : Target) (h : HasNames t) where
   now = h.clock.now.seconds
 
   of_numbers : n.dated ≡ None → IsRotation n (rotation_by t)
-  of_numbers none = subst (IsRotation n) (sym (by_places t h.clock (h.ready ∙ ready_numbers t.log n t.count t.maxage h.clock t.ready.make members none)))
-      (numbered_is_one n t.count (going t.count t.maxage now members) members t.log t.log (by_of t.job) h.family none h.family.apart h.named
+  of_numbers none = subst (IsRotation n) (sym (by_places t h.clock (h.ready ∙ ready_numbers t.ready.log n t.count t.maxage h.clock t.ready.make members none)))
+      (numbered_is_one n t.count (going t.count t.maxage now members) members t.log (source_of t) (by_of t.job t.aside) h.family none (source_apart t h) h.named
       (have_next n t.count members none h.start h.count h.named (sym (hinders_numbers n t.count h.clock t.stand none (free_there n t.count h.clock t.stand h.free)) ∙ h.free))
       (going_are t.count t.maxage now members (rising n none members h.named h.newest_first)))
 
   of_dates : (f : Format) → n.dated ≡ Some f → IsRotation n (rotation_by t)
   of_dates f is =
       let at = target_at n t.count h.clock t.stand h.free f is h.family.format h.named in
-      subst (IsRotation n) (sym (by_stamps t h.clock (h.ready ∙ ready_dates t.log n t.count t.maxage h.clock t.ready.make members f is)))
-      (dated_is_one n t.count (all_by n t.maxage h.clock members) members t.log t.log (dated_target n h.clock members) (by_of t.job) (clock_seconds n.dated h.clock) (next_serial members (clock_seconds n.dated h.clock)) at h.family.apart
+      subst (IsRotation n) (sym (by_stamps t h.clock (h.ready ∙ ready_dates t.ready.log n t.count t.maxage h.clock t.ready.make members f is)))
+      (dated_is_one n t.count (all_by n t.maxage h.clock members) members t.log (source_of t) (dated_target n h.clock members) (by_of t.job t.aside) (clock_seconds n.dated h.clock) (next_serial members (clock_seconds n.dated h.clock)) at (source_apart t h)
       (next_free n h.family.format members h.named (clock_seconds n.dated h.clock) (next_serial members (clock_seconds n.dated h.clock)) (is_next members (clock_seconds n.dated h.clock)) (dated_target n h.clock members) at)
       (all_dated n t.maxage now (clock_seconds n.dated h.clock) (next_serial members (clock_seconds n.dated h.clock)) (dated_target n h.clock members) members h.named at))
 
@@ -92,11 +93,3 @@ module _ (t : Target) (h : HasNames t) where
       go : (d : Option Format) → t.naming.dated ≡ d → IsRotation t.naming (rotation_by t)
       go None is = of_numbers is
       go (Some format) is = of_dates format is
-
-  -- what is renamed or copied is the log
-  pub any_log : t.ready.log ≡ t.log
-  any_log = ap (λ (r : Ready). r.log) h.ready ∙ log_by t.naming.dated
-    where
-      log_by : (d : Option Format) → (ready_by d t.log t.naming t.count t.maxage h.clock t.ready.make t.stand.members).log ≡ t.log
-      log_by None = refl
-      log_by (Some format) = refl

@@ -36,7 +36,7 @@ use Rattle.lr_laws_rotations.proofs.Over.{first_aside}
 use Rattle.lr_laws_family.proofs.Weaving.{weave_as}
 use Rattle.lr_laws_rotations.proofs.Weaving.{IsApart, IsApartOrMakes}
 use Rattle.lr_laws_targets.specs.AllTurns.{IsOfState, IsOfSome, StandsBetween}
-use Rattle.lr_laws_targets.specs.Target.{Target, rotation_of}
+use Rattle.lr_laws_targets.specs.Target.{Target, StaysBefore, rotation_of}
 use Rattle.lr_laws_targets.proofs.Given.{gives, no_meet, naming_same, no_copy, by_rule}
 use Rattle.lr_laws_targets.proofs.LeftAlone.{apart_left}
 use Rattle.lr_laws_targets.proofs.Safety.{Here, find, Looked, looked as looked_at, begun, unbegun_safe}
@@ -62,7 +62,7 @@ module _ (clock : Clock) (s : LogSet) (state : Path) (rules : Rules) (u v : Past
   file_of t l = saw_file u v (reverse looks) t.log m (subst AreQuiet (sym in_order) quiet) (subst (Among (Sees t.log IsFile)) (sym in_order) l.log_seen)
 
   no_meeting : (t : Target) → IsLogSeen rules clock looks t → t.log ≢ s.log → Meet s.log s.naming t.log t.naming → ⊥
-  no_meeting t l other meet = no_meet s u v rules.sets looks t.log t.naming t.count t.maxage t.job quiet m begun_u here.journal here.steady here.rules_are l.given (file_of t l) other meet
+  no_meeting t l other meet = no_meet s u v rules.sets looks t quiet m begun_u here.journal here.steady here.rules_are l.given (file_of t l) other meet
 
   -- what is done to other logs lies beside
   some_beside : (ts : List Target) → AreLogsSeen rules clock looks ts → ((t : Target) → IsIn t ts → t.log ≢ s.log) → (e : Entry) → IsOfSome ts e → LiesBeside s e
@@ -71,25 +71,25 @@ module _ (clock : Clock) (s : LogSet) (state : Path) (rules : Rules) (u v : Past
   some_beside (t ∷ ts) seen ne e (inr h) = some_beside ts seen.1 (λ x i. ne x (inr i)) e h
 
   given_of : (t : Target) (l : IsLogSeen rules clock looks t) → RuleGives l.given.rule t.log
-  given_of t l = gives u v rules.sets looks t.log t.naming t.count t.maxage t.job quiet m l.given
+  given_of t l = gives u v rules.sets looks t quiet m l.given
 
   -- the set's own log has its naming
   own_naming : (t : Target) → IsLogSeen rules clock looks t → t.log ≡ s.log → s.naming ≡ t.naming
-  own_naming t l same = naming_same s v rules.sets looks t.log t.naming t.count t.maxage t.job here.steady here.rules_are l.given (given_of t l) (sym same)
+  own_naming t l same = naming_same s v rules.sets looks t here.steady here.rules_are l.given (given_of t l) (sym same)
 
   between : (t : Target) (ts : List Target) → IsLogSeen rules clock looks t → AreLogsSeen rules clock looks ts → t.log ≡ s.log → t.job ≡ None → (e : Entry) → StandsBetween state t ts e → IsBesideSet s e
   between t ts l seen same none e h = between_beside s state (here.steady.state state here.state_is) (here.steady.new_state state here.state_is) t ts e same (sym (own_naming t l same)) (has_dir t looks l.dir) none (have_names rules clock looks ts seen)
       (λ x i. no_meeting x (log_among rules clock looks ts seen x i)) h
 
-  -- the set's own log isn't copied
-  not_copied : (t : Target) → IsLogSeen rules clock looks t → t.log ≡ s.log → t.job ≡ None
-  not_copied t l same = no_copy s v rules.sets looks t.log t.naming t.count t.maxage t.job here.steady here.rules_are l.given (given_of t l) (sym same)
+  -- the set's own log stays where it is up to its rename
+  not_copied : (t : Target) → IsLogSeen rules clock looks t → t.log ≡ s.log → StaysBefore t × (t.job ≡ None)
+  not_copied t l same = no_copy s v rules.sets looks t here.steady here.rules_are l.given (given_of t l) (sym same)
 
   -- ---- behind all acts
 
   rule_of : (t : Target) (l : IsLogSeen rules clock looks t) → t.log ≡ s.log → SomeRule (rules_of v) s.log (λ r. (r.count ≡ t.count) × (r.maxage ≡ t.maxage))
   rule_of t l same = subst (λ (x : Path). SomeRule (rules_of v) x (λ r. (r.count ≡ t.count) × (r.maxage ≡ t.maxage))) same
-      (by_rule (λ r. (r.count ≡ t.count) × (r.maxage ≡ t.maxage)) v rules.sets looks t.log t.naming t.count t.maxage t.job here.rules_are l.given (given_of t l) (l.given.count_is, l.given.maxage_is))
+      (by_rule (λ r. (r.count ≡ t.count) × (r.maxage ≡ t.maxage)) v rules.sets looks t here.rules_are l.given (given_of t l) (l.given.count_is, l.given.maxage_is))
 
   acts_safe : (ts : List Target) → AreLogsSeen rules clock looks ts → (acts : List Entry) (q : Past) → IsForwardFor clock s v → Each (λ e. IsOfSome ts e ⊎ IsOfState state e) (filter is_change acts)
       → ((t : Target) → IsIn t ts → FirstWoven (StandsBetween state t ts) (rotation_of t) (filter is_change acts)) → Made v (reverse acts) q → NoneAttached s q → IsSafe s q
@@ -101,7 +101,7 @@ module _ (clock : Clock) (s : LogSet) (state : Path) (rules : Rules) (u v : Past
           let w = each f.0 f.1 in
           let none = not_copied f.0 l f.2 in
           own_safe clock s state rules u v looks quiet m here none_at forward f.0 l f.2 (own_naming f.0 l f.2) none (rule_of f.0 l f.2) acts q
-          (record { made = w.made; first = w.first; woven = weave_as (StandsBetween state f.0 ts) (IsApartOrMakes s) w.made (filter is_change acts) (λ e i. beside_apart s e (between f.0 ts l seen f.2 none e i)) w.woven }) mq none_q
+          (record { made = w.made; first = w.first; woven = weave_as (StandsBetween state f.0 ts) (IsApartOrMakes s) w.made (filter is_change acts) (λ e i. beside_apart s e (between f.0 ts l seen f.2 none.1 e i)) w.woven }) mq none_q
 
       aside : ((t : Target) → IsIn t ts → t.log ≢ s.log) → (e : Entry) → IsOfSome ts e ⊎ IsOfState state e → IsAside s e
       aside ne e (inl o) = (some_beside ts seen ne e o).0

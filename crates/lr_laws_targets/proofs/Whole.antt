@@ -23,12 +23,13 @@ use Rattle.lr_laws_family.proofs.Woven.{among}
 use Rattle.lr_laws_rotations.proofs.Moments.{saw_one}
 use Rattle.lr_laws_targets.specs.AllTurns.{paths_beside}
 use Rattle.lr_laws_targets.specs.Rotation.{by_of, rotation_by}
-use Rattle.lr_laws_targets.specs.Target.{Target}
+use Rattle.lr_laws_targets.specs.Target.{Target, source_by, source_of}
+use Rattle.lr_laws_targets.specs.Apart.{HasNames}
 use Rattle.lr_laws_targets.proofs.Others.{rotates_beside}
 use Rattle.lr_laws_targets.proofs.Rotating.{renamed_steps}
 use Rattle.lr_laws_targets.specs.Runs.{AllTurnedBy}
 use Rattle.lr_laws_targets.specs.Seen.{IsLogSeen}
-use Rattle.lr_laws_targets.proofs.Plan.{any_log}
+use Rattle.lr_laws_targets.proofs.Way.{not_aside}
 use Rattle.lr_laws_targets.proofs.LogSeen.{any_names, log_among}
 
 -- what some entries show, more entries do
@@ -68,17 +69,23 @@ module _ (state : Path) (clock : Clock) (rules : Rules) (reads tail : List Entry
   more e j = in_back e reads (starts ∷ t.turns.looks) (inr j)
 
   -- what its rotation renames or copies was seen, a file
-  pub source_seen : SawFile x.ready.log front
-  source_seen = let saw = saw_one x.log t.turns.looks l.log_seen in subst (λ (y : Path). SawFile y front) (sym (any_log x (any_names rules clock t.turns.looks x l))) (saw.0, saw.1, more _ saw.2)
+  pub first_seen : SawFile x.ready.log front
+  first_seen = let saw = saw_one x.ready.log t.turns.looks l.way_seen.first in (saw.0, saw.1, more _ saw.2)
 
   pub members_seen : Shown x.naming x.stand.members front
   members_seen = shown_more x.naming x.stand.members t.turns.looks front more l.seen
 
   -- where it is renamed
   module _ (none : x.job ≡ None) where
+    names : HasNames x
+    names = any_names rules clock t.turns.looks x l
+
+    source_seen : SawFile (source_of x) front
+    source_seen = subst (λ (y : Path). SawFile y front) (sym (ap (λ (a : Option Path). source_by a x.ready.log) (not_aside x names.way none))) first_seen
+
     woven : Weave (IsBetween paths (rotation_by x)) (steps_of (rotation_by x)) (filter is_disk_change t.turns.acts)
-    woven = subst (λ (j : Option Job). Weave (IsBeside (part_paths (by_of j) ++ paths) x.log) (steps_of (rotation_by x)) (filter is_disk_change t.turns.acts)) (sym none)
-        (subst (λ (steps : List Entry). Weave (IsBeside paths x.log) steps (filter is_disk_change t.turns.acts)) (renamed_steps x none) (rotates_beside state x t.turns.targets t.turns.acts none (t.whole x i)))
+    woven = subst (λ (j : Option Job). Weave (IsBeside (part_paths (by_of j x.aside) ++ paths) x.log) (steps_of (rotation_by x)) (filter is_disk_change t.turns.acts)) (sym none)
+        (subst (λ (steps : List Entry). Weave (IsBeside paths x.log) steps (filter is_disk_change t.turns.acts)) (renamed_steps x names none) (rotates_beside state x t.turns.targets t.turns.acts none (t.whole x i)))
 
     pub rotates : RotatesAmong (paths_beside state x t.turns.targets) x.naming (rotation_by x) (reads ++ entry.Starts state clock.now rules ∷ tail)
-    rotates = subst (RotatesAmong paths x.naming (rotation_by x)) (sym front_is) (among paths x.naming (rotation_by x) front t.turns.acts (ap by_of none) front_still source_seen members_seen woven)
+    rotates = subst (RotatesAmong paths x.naming (rotation_by x)) (sym front_is) (among paths x.naming (rotation_by x) front t.turns.acts (ap (λ (j : Option Job). by_of j x.aside) none) front_still source_seen members_seen woven)

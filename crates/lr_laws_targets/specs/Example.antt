@@ -79,6 +79,7 @@ target clock = record {
   stand = stand;
   ready = dated_ready log naming (Keep 1) None clock No [];
   job = None;
+  aside = None;
 }
 
 -- the looks, and the rename to the clock's stamp

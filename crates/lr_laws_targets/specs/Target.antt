@@ -1,17 +1,18 @@
 -- The logs that a run may rotate, and what it saw of each.
-use Rattle.std.specs.Prelude.{◌≡◌, ◌≢◌, ◌↔◌, ℕ, true, false, List, [], ◌∷◌, ◌++◌, map, reverse, Option, Some, None, Contains}
+use Rattle.std.specs.Prelude.{◌≡◌, ◌≢◌, ◌⊎◌, ℕ, true, false, List, [], ◌∷◌, ◌++◌, map, reverse, Option, Some, None, Contains}
 use Rattle.lr_rules.specs.declared.clock.Clock.{Clock}
 use Rattle.lr_rules.specs.declared.path.Path.{Path}
 use Rattle.lr_rules.specs.declared.rule.Count.{Count}
 use Rattle.lr_rules.specs.declared.rule.Naming.{Naming}
 use Rattle.lr_rules.specs.declared.rule.Rule.{Rule}
-use Rattle.lr_rules.specs.declared.rule.Way.TheVariants.{Rename}
+use Rattle.lr_rules.specs.declared.rule.Way.{Way}
+use Rattle.lr_rules.specs.declared.rule.Way.TheVariants as way
 use Rattle.lr_rules.specs.Match.{WordGives, is_wildcard}
-use Rattle.lr_rules.specs.Names.{naming_of, IsOwnName}
+use Rattle.lr_rules.specs.Names.{naming_of, aside_path, IsOwnName}
 use Rattle.lr_rules.specs.Path.{path_fault, parent_of}
 use Rattle.lr_host.specs.declared.entry.Entry.{Entry}
 use Rattle.lr_host.specs.declared.entry.Entry.TheVariants as entry
-use Rattle.lr_host.specs.declared.entry.Entry.TheVariants.{Renames}
+use Rattle.lr_host.specs.declared.entry.Entry.TheVariants.{Renames, Unlinks}
 use Rattle.lr_host.specs.Fits.{IsFileAt}
 use Rattle.lr_host.specs.Lists.{IsIn}
 use Rattle.lr_host.specs.Looks.{Sees, IsFile}
@@ -41,22 +42,8 @@ pub record Gives (rules : List Rule) (rule : Rule) (word : List ℕ) (log : Path
       → IsMember (naming_of rule x) log
       → SomeRule rules x (λ r. IsMember (naming_of r x) log → ⊥)
 
--- One of the rules has a word that gives this log, as some of these looks tell. The rule gives the log this naming, this count and
--- this age in days; it has the log copied where there is a job, and renamed where there is none.
-pub record IsGiven (rules : List Rule) (looks : List Entry) (log : Path) (n : Naming) (c : Count) (maxage : Option ℕ)
-    (job : Option Job) : Type 0 where
-  pub rule : Rule
-  pub word : List ℕ
-  pub among : Contains rules rule
-  pub has : Contains rule.words word
-  pub given : Among (Gives rules rule word log) looks
-  pub naming_is : naming_of rule log ≡ n
-  pub count_is : rule.count ≡ c
-  pub maxage_is : rule.maxage ≡ maxage
-  pub way_is : (rule.way ≡ Rename) ↔ (job ≡ None)
-
--- A log that a run may rotate: its naming, count and age in days, what stood of its family, its rotation, which is ready, and the
--- copy that stands in the place of the log's rename, if any.
+-- A log that a run may rotate: its naming, count and age in days, what stood of its family, its rotation, which is ready, the copy
+-- that stands in the place of the log's rename, if any, and the path to which the log is set aside, if it is.
 pub record Target : Type 0 where
   pub log : Path
   pub naming : Naming
@@ -65,19 +52,88 @@ pub record Target : Type 0 where
   pub stand : Stand
   pub ready : Ready
   pub job : Option Job
+  pub aside : Option Path
 
--- What brings the log to its final path: its rename; or, of a copy, the unlink of an old part file and the rename of the new one.
-abbrev pub transfer_of : Ready → Option Job → List Entry
-transfer_of ready None = Renames ready.log ready.target ∷ []
-transfer_of ready (Some job) = clearing job ++ Renames job.part job.to ∷ []
+-- ---- the way of its file
+
+-- from where the log comes to its final path: from where it stood at first, or from where it was set aside
+abbrev pub source_by : Option Path → Path → Path
+source_by None first = first
+source_by (Some path) first = path
+
+abbrev pub source_of : Target → Path
+source_of t = source_by t.aside t.ready.log
+
+-- it stays where it is up to its rename or its copy
+pub record StaysBefore (t : Target) : Type 0 where
+  pub aside_is : t.aside ≡ None
+  pub first_is : t.ready.log ≡ t.log
+
+-- it is set aside, to the path beside it, and copied from there, where it isn't emptied
+pub record IsSetAside (t : Target) : Type 0 where
+  pub aside_is : t.aside ≡ Some (aside_path t.log)
+  pub first_is : t.ready.log ≡ t.log
+  pub job : Job
+  pub job_is : t.job ≡ Some job
+  pub uncut : job.cut ≡ false
+
+-- it was set aside by a run that broke off, and is renamed from there
+pub record IsTakenUp (t : Target) : Type 0 where
+  pub aside_is : t.aside ≡ None
+  pub first_is : t.ready.log ≡ aside_path t.log
+  pub no_job : t.job ≡ None
+
+-- one of the two, of a log that may be set aside
+abbrev pub GoesAside : Target → Type 0
+GoesAside t = (t.naming.aside ≡ true) × (IsSetAside t ⊎ IsTakenUp t)
+
+-- one of the three
+abbrev pub HasWay : Target → Type 0
+HasWay t = StaysBefore t ⊎ GoesAside t
+
+-- it is the one that the rule's way asks for
+abbrev pub GoesBy : Way → Target → Type 0
+GoesBy way.Rename t = StaysBefore t × (t.job ≡ None)
+GoesBy way.RenameCopy t = GoesAside t
+GoesBy _ t = StaysBefore t × ((job : Job) × (t.job ≡ Some job))
+
+-- ---- its steps
+
+-- What brings the log to its final path: its rename; or, of a copy, the unlink of an old part file and the rename of the new one;
+-- or, where the log is set aside, its rename to there, such a copy, and the unlink of what was copied.
+abbrev pub transfer_of : Ready → Option Job → Option Path → List Entry
+transfer_of ready None aside = Renames ready.log ready.target ∷ []
+transfer_of ready (Some job) None = clearing job ++ Renames job.part job.to ∷ []
+transfer_of ready (Some job) (Some path) = Renames ready.log path ∷ (clearing job ++ Renames job.part job.to ∷ Unlinks path ∷ [])
 
 -- The renames and unlinks of its rotation, in order.
 abbrev pub rotation_of : Target → List Entry
-rotation_of t = unlinks t.ready.leftovers ++ (map move_step t.ready.moves ++ (transfer_of t.ready t.job ++ unlinks t.ready.retire))
+rotation_of t = unlinks t.ready.leftovers ++ (map move_step t.ready.moves ++ (transfer_of t.ready t.job t.aside
+    ++ unlinks t.ready.retire))
 
 -- the rotation that is ready is that of the members that stood, by this clock, whether a directory is made or not
 abbrev pub IsReadyBy : Clock → Target → Type 0
-IsReadyBy clock t = with_dir None t.ready ≡ ready_of t.log t.naming t.count t.maxage clock t.ready.make t.stand.members
+IsReadyBy clock t = with_dir None t.ready ≡ ready_of t.ready.log t.naming t.count t.maxage clock t.ready.make t.stand.members
+
+-- ---- what is known of it
+
+-- One of the rules has a word that gives this log, as some of these looks tell. The rule gives the log this naming, this count and
+-- this age in days, and has it go this way.
+pub record IsGiven (rules : List Rule) (looks : List Entry) (t : Target) : Type 0 where
+  pub rule : Rule
+  pub word : List ℕ
+  pub among : Contains rules rule
+  pub has : Contains rule.words word
+  pub given : Among (Gives rules rule word t.log) looks
+  pub naming_is : naming_of rule t.log ≡ t.naming
+  pub count_is : rule.count ≡ t.count
+  pub maxage_is : rule.maxage ≡ t.maxage
+  pub way_is : GoesBy rule.way t
+
+-- These looks saw a file where the log's file stands at first; and nothing where the log is set aside to.
+pub record IsWaySeen (t : Target) (looks : List Entry) : Type 0 where
+  pub first : Among (Sees t.ready.log IsFile) looks
+  pub free : (path : Path) → t.aside ≡ Some path → IsIn (entry.Look path None) looks
 
 -- the directory that is made, if any, is that of the family, and no other name of the set
 abbrev pub HasDir : Target → Type 0
@@ -103,9 +159,9 @@ IsDirSeenBy (Some (dir, mode)) log n members job looks = IsMissingDir log n memb
 abbrev pub IsDirSeen : Target → List Entry → Type 0
 IsDirSeen t looks = IsDirSeenBy t.ready.dir t.log t.naming t.stand.members t.job looks
 
--- The job copies the log, by a part file in the family's directory, to the final path.
+-- The job copies the log's file, by a part file in the family's directory, to the final path.
 pub record IsJob (t : Target) (job : Job) : Type 0 where
-  pub from_is : job.from ≡ t.log
+  pub from_is : job.from ≡ source_of t
   pub to_is : job.to ≡ t.ready.target
   pub part_is : job.part ≡ part_of job.to
   pub dir_is : job.dir ≡ t.naming.dir

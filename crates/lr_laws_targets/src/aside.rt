@@ -21,7 +21,7 @@ ghost use Rattle.lr_laws_targets.specs.Target.{Target, HasDir, rotation_of};
 pub fn changes_are_own()
     ensures all { (t : Target) (e : Entry) → HasNames t → IsOf t e → ChangesNames t.log t.naming e }
     ensures on { (t : Target) (e : Entry) → HasNames t → IsOf t e → ChangesOfFamily t.log t.naming e ⊎ MakesItsDir t e }
-    ensures steps { (t : Target) → t.job ≡ None → rotation_of t ≡ steps_of (rotation_by t) }
+    ensures steps { (t : Target) → HasNames t → t.job ≡ None → rotation_of t ≡ steps_of (rotation_by t) }
 {}
 
 /// Where the log doesn't meet a set, all that is done to it lies beside the set. So does all that stands between the steps of

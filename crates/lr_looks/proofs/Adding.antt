@@ -1,11 +1,12 @@
 -- A log that is added to those of its definition.
-use Rattle.std.proofs.Common.{◌≡◌, ◌<◌, ◌+◌, ℕ, zero, suc, Bool, true, false, cond, eqb, List, [], ◌∷◌, ◌++◌, length, map, All, slice_set, get_or, refl, sym, ap, ◌∙◌, subst, arith, eqb-true, eq-eqb, rules}
+use Rattle.std.proofs.Common.{◌≡◌, ◌<◌, ◌+◌, ℕ, zero, suc, Bool, true, false, cond, eqb, List, [], ◌∷◌, ◌++◌, length, map, All, Option, slice_set, get_or, refl, sym, ap, ◌∙◌, subst, arith, eqb-true, eq-eqb, rules}
 use Rattle.std.proofs.lemmas.Grind.{flat_map-append}
 use Rattle.std.proofs.lemmas.List.{append-nil, map-append}
 use Rattle.std.proofs.lemmas.List.Elements.{All-append, All-cons}
 use Rattle.lr_plan.specs.declared.looks.LogLook.{LogLook}
 use Rattle.lr_plan.specs.declared.looks.SetLooks.{SetLooks}
 use Rattle.lr_family.specs.declared.stand.Stand.{Stand}
+use Rattle.lr_host.specs.declared.thing.Seen.{Seen}
 use Rattle.lr_rules.specs.declared.path.Path.{Path}
 use Rattle.lr_looks.specs.Families.{LookedLog, looked_at}
 use Rattle.lr_looks.specs.Found.{FoundLog}
@@ -29,8 +30,10 @@ where_own : (k : ℕ) (x : LookedLog) → k ≡ x.set → where_in k x ≡ x ∷
 where_own k x e = ap (λ b. cond b (x ∷ []) []) (eq-eqb k x.set e)
 
 -- the log that is added is the one that was looked at
-pub same_look : (f : FoundLog) (stand : Stand) (path : Path) → path ≡ f.log.path → looked_at f stand ≡ record { set = 0 + f.log.set; path = path; naming = f.log.naming; seen = f.seen; stand = stand }
-same_look f stand path e = ap (λ (x : Path). record { set = f.log.set; path = x; naming = f.log.naming; seen = f.seen; stand = stand }) (sym e) ∙ ap (λ k. record { set = k; path = path; naming = f.log.naming; seen = f.seen; stand = stand }) (from_none f.log.set)
+pub same_look : (f : FoundLog) (stand : Stand) (tmp : Option Seen) (path : Path) → path ≡ f.log.path
+    → looked_at f stand tmp ≡ record { set = 0 + f.log.set; path = path; naming = f.log.naming; seen = f.seen; stand = stand; tmp = tmp }
+same_look f stand tmp path e = ap (λ (x : Path). record { set = f.log.set; path = x; naming = f.log.naming; seen = f.seen; stand = stand; tmp = tmp }) (sym e)
+    ∙ ap (λ k. record { set = k; path = path; naming = f.log.naming; seen = f.seen; stand = stand; tmp = tmp }) (from_none f.log.set)
   where
     from_none : (n : ℕ) → n ≡ 0 + n
     from_none n = omega arith

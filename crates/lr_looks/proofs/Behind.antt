@@ -5,10 +5,11 @@ use Rattle.std.proofs.lemmas.List.{append-nil, length-append, map-append, take-a
 use Rattle.std.proofs.lemmas.Option.{get_or_from_slice_get}
 use Rattle.lr_rules.specs.declared.path.Path.{Path}
 use Rattle.lr_rules.specs.declared.rule.Naming.{Naming}
+use Rattle.lr_host.specs.declared.thing.Seen.{Seen}
 use Rattle.lr_host.specs.declared.entry.Entry.{Entry}
 use Rattle.lr_host.specs.declared.journal.Journal.{Journal}
-use Rattle.lr_host.specs.Told.{Left, Counts, Onward, Rose}
-use Rattle.lr_host.proofs.Left.{left_as, left_first, left_then}
+use Rattle.lr_host.specs.Told.{Left, Then, Counts, Onward, Rose}
+use Rattle.lr_host.proofs.Left.{left_as, left_both, left_first, left_then}
 use Rattle.lr_family.specs.declared.listing.Listing.{Listing}
 use Rattle.lr_family.specs.declared.stand.Stand.{Stand}
 use Rattle.lr_family.specs.declared.stand.StandStop.{StandStop}
@@ -21,10 +22,11 @@ use Rattle.lr_looks.proofs.Known.{read_last}
 use Rattle.lr_rules.specs.declared.fault.Fault.{Fault}
 use Rattle.lr_rules.specs.Limits.{is_format, or_none}
 use Rattle.lr_looks.specs.declared.found.Found.{Found}
+use Rattle.lr_looks.specs.declared.standing.Standing.{Standing}
 use Rattle.lr_host.specs.Counted.{WentBy}
 use Rattle.lr_host.proofs.Counts.{free_none, went_free, went_call}
 use Rattle.lr_looks.specs.Found.{FoundLog, found_in, all_found_in, Hold}
-use Rattle.lr_looks.specs.Families.{ShowFamilies, HadMemory, AllHadMemory, stop_fault, family_fault, family_faults, LookedLog, looked_at, looked_by, looked_of, LookedAtFamilies, LookedAtSomeFamilies, FamilySight, Stood, Stopped, sight_of, ShowsMembersIn, ShowsFamily, behind_listing, with_listing, not_listed}
+use Rattle.lr_looks.specs.Families.{ShowFamilies, HadMemory, AllHadMemory, stop_fault, family_fault, family_faults, LookedLog, looked_at, looked_by, looked_of, LookedAtFamilies, LookedAtSomeFamilies, FamilySight, Stood, Stopped, sight_of, ShowsAside, ShowsNoAside, ShowsMembersIn, ShowsFamily, behind_listing, with_listing, not_listed}
 use Rattle.lr_looks.specs.Internal.{TakesListing, before, taken, LacksListing, IsAt, NoListing, lacks, unadded, FamilyPart, AddsLooked, AddsFamily, AddsFamilies, LooksBySets}
 use Rattle.lr_plan.specs.declared.looks.SetLooks.{SetLooks}
 use Rattle.lr_plan.specs.Planned.{AreMembersOf}
@@ -34,45 +36,53 @@ use Rattle.lr_looks.specs.Sets.{HaveLooks}
 pub its_listing : (known : List Listing) (place : ℕ) (dir : Path) (x : Listing) → IsAt known place dir → x ≡ get_or known place x → slice_get known place ≡ Some x
 its_listing known place dir x h e = let same : get_or known place x ≡ h.0 = get_or_from_slice_get known place h.0 x h.1 in h.1 ∙ ap (λ (l : Listing). Some l) (sym (e ∙ same))
 
-behind : (known after : List Listing) (n : Naming) (place : ℕ) (x : Listing) (s : FamilySight) (ts us : List Entry) → slice_get after place ≡ Some x → TakesListing known n.dir after place ts → ShowsMembersIn n x s us → ShowsFamily known n after s (ts ++ us)
-behind known after n place x s ts us at (before l there same is none) m =
+behind : (known after : List Listing) (log : Path) (n : Naming) (place : ℕ) (x : Listing) (s : FamilySight) (ts us : List Entry) → slice_get after place ≡ Some x → TakesListing known n.dir after place ts → ShowsMembersIn log n x s us
+    → ShowsFamily known log n after s (ts ++ us)
+behind known after log n place x s ts us at (before l there same is none) m =
     let one : l ≡ x = same_read known place l x there (subst (λ (ls : List Listing). slice_get ls place ≡ Some x) is at) in
-    subst (λ (es : List Entry). ShowsFamily known n after s (es ++ us)) (sym none)
-    (behind_listing l (record { place = place; there = there; same = same }) is (subst (λ (k : Listing). ShowsMembersIn n k s us) (sym one) m))
-behind known after n place x s ts us at (taken l new same is p shown) m =
+    subst (λ (es : List Entry). ShowsFamily known log n after s (es ++ us)) (sym none)
+    (behind_listing l (record { place = place; there = there; same = same }) is (subst (λ (k : Listing). ShowsMembersIn log n k s us) (sym one) m))
+behind known after log n place x s ts us at (taken l new same is p shown) m =
     let one : l ≡ x = same_read (known ++ l ∷ []) (length known) l x (read_last known l) (subst (λ (k : ℕ). slice_get (known ++ l ∷ []) k ≡ Some x) p (subst (λ (ls : List Listing). slice_get ls place ≡ Some x) is at)) in
-    with_listing l new same is (record { front = ts; back = us; joined = refl; first = shown; second = subst (λ (k : Listing). ShowsMembersIn n k s us) (sym one) m })
+    with_listing l new same is (record { front = ts; back = us; joined = refl; first = shown; second = subst (λ (k : Listing). ShowsMembersIn log n k s us) (sym one) m })
 
--- what was seen of the members
-pub members_told : (n : Naming) (x : Listing) (r : Result Stand StandStop) {o p : Option Journal} → IfOk r (λ stand. Left (ShowsIn n x.there x.parent x.names stand) o p) → IfErr r (λ why. Left (ShowsNoneIn n x.there x.names why) o p) → Left (ShowsMembersIn n x (sight_of r)) o p
-members_told n x (Ok stand) told stopped = left_as told (λ ts h. h)
-members_told n x (Err why) told stopped = left_as stopped (λ ts h. inr h)
+-- what was seen of the members stopped the looks
+pub members_stopped : (log : Path) (n : Naming) (x : Listing) (why : StandStop) {o p : Option Journal} → Left (ShowsNoneIn n x.there x.names why) o p → Left (ShowsMembersIn log n x (Stopped why)) o p
+members_stopped log n x why stopped = left_as stopped (λ ts h. inr (inl h))
 
-pub family_told : (known after : List Listing) (n : Naming) (dir : Path) (place : ℕ) (x : Listing) (s : FamilySight) {o m p : Option Journal} → dir ≡ n.dir → slice_get after place ≡ Some x → Left (TakesListing known dir after place) o m
-    → Left (ShowsMembersIn n x s) m p → Left (ShowsFamily known n after s) o p
-family_told known after n dir place x s e at l told = left_then l told (λ ts us h g. behind known after n place x s ts us at (subst (λ (d : Path). TakesListing known d after place ts) e h) g)
+-- what was seen of them, and then where the log waits
+pub standing_told : (log : Path) (n : Naming) (x : Listing) (stand : Stand) (r : Result Standing StandStop) {o m p : Option Journal} → Left (ShowsIn n x.there x.parent x.names stand) o m
+    → IfOk r (λ standing. Left (ShowsAside n.aside log standing.tmp) m p) → IfErr r (λ why. Left (ShowsNoAside n.aside log why) m p) → IfOk r (λ standing. standing.stand ≡ stand) → Left (ShowsMembersIn log n x (sight_of r)) o p
+standing_told log n x stand (Ok standing) shown told stopped same =
+    left_as (left_both shown told) (λ ts h. subst (λ (s : Stand). Then (ShowsIn n x.there x.parent x.names s) (ShowsAside n.aside log standing.tmp) ts) (sym same) h)
+standing_told log n x stand (Err why) shown told stopped same = left_as (left_both shown stopped) (λ ts h. inr (inr (stand, h)))
+
+pub family_told : (known after : List Listing) (log : Path) (n : Naming) (dir : Path) (place : ℕ) (x : Listing) (s : FamilySight) {o m p : Option Journal} → dir ≡ n.dir → slice_get after place ≡ Some x → Left (TakesListing known dir after place) o m
+    → Left (ShowsMembersIn log n x s) m p → Left (ShowsFamily known log n after s) o p
+family_told known after log n dir place x s e at l told = left_then l told (λ ts us h g. behind known after log n place x s ts us at (subst (λ (d : Path). TakesListing known d after place ts) e h) g)
 
 -- what is asked of the members
-pub members_are : (n : Naming) (r : Result Stand StandStop) → or_none is_format n.dated ≡ true → IfOk r (λ stand. AreNamed n stand.members) → IfOk r (λ stand. AreNewestFirst stand.members) → IfOk r (λ stand. AreMembersOf n stand.members)
-members_are n (Ok stand) limits named newest = record { format = limits; named = named; newest = newest }
-members_are n (Err why) limits named newest = tt
+pub members_are : (n : Naming) (stand : Stand) (r : Result Standing StandStop) → or_none is_format n.dated ≡ true → AreNamed n stand.members → AreNewestFirst stand.members → IfOk r (λ standing. standing.stand ≡ stand)
+    → IfOk r (λ standing. AreMembersOf n standing.stand.members)
+members_are n stand (Ok standing) limits named newest same = subst (λ (s : Stand). AreMembersOf n s.members) (sym same) (record { format = limits; named = named; newest = newest })
+members_are n stand (Err why) limits named newest same = tt
 
-pub family_lacks : (known after : List Listing) (n : Naming) (dir : Path) (why : StandStop) {o p : Option Journal} → dir ≡ n.dir → Left (LacksListing known dir why after) o p → Left (ShowsFamily known n after (Stopped why)) o p
-family_lacks known after n dir why e l = left_as l (λ ts h. go ts (subst (λ (d : Path). LacksListing known d why after ts) e h))
+pub family_lacks : (known after : List Listing) (log : Path) (n : Naming) (dir : Path) (why : StandStop) {o p : Option Journal} → dir ≡ n.dir → Left (LacksListing known dir why after) o p → Left (ShowsFamily known log n after (Stopped why)) o p
+family_lacks known after log n dir why e l = left_as l (λ ts h. go ts (subst (λ (d : Path). LacksListing known d why after ts) e h))
   where
-    go : (ts : List Entry) → LacksListing known n.dir why after ts → ShowsFamily known n after (Stopped why) ts
+    go : (ts : List Entry) → LacksListing known n.dir why after ts → ShowsFamily known log n after (Stopped why) ts
     go ts h = not_listed why h.not_before h.same refl h.shown
 
 -- what was looked at of a family that stopped the looks, or for which there was no memory
-pub family_part : (known : List Listing) (n : Naming) (dir : Path) (why : StandStop) {o p : Option Journal} → dir ≡ n.dir → Left (NoListing known dir why) o p → Left (FamilyPart known n (Stopped why)) o p
-family_part known n dir why e l = left_as l (λ ts h. go ts (subst (λ (d : Path). NoListing known d why ts) e h))
+pub family_part : (known : List Listing) (log : Path) (n : Naming) (dir : Path) (why : StandStop) {o p : Option Journal} → dir ≡ n.dir → Left (NoListing known dir why) o p → Left (FamilyPart known log n (Stopped why)) o p
+family_part known log n dir why e l = left_as l (λ ts h. go ts (subst (λ (d : Path). NoListing known d why ts) e h))
   where
-    go : (ts : List Entry) → NoListing known n.dir why ts → FamilyPart known n (Stopped why) ts
+    go : (ts : List Entry) → NoListing known n.dir why ts → FamilyPart known log n (Stopped why) ts
     go ts (lacks new shown) = (known, not_listed why new refl refl shown)
     go ts (unadded l none new same shown) = (known ++ l ∷ [], with_listing l new same refl (record { front = ts; back = []; joined = sym (append-nil ts); first = shown; second = inl (none, refl) }))
 
-pub part_of : (known after : List Listing) (n : Naming) (s : FamilySight) {o p : Option Journal} → Left (ShowsFamily known n after s) o p → Left (FamilyPart known n s) o p
-part_of known after n s l = left_as l (λ ts h. (after, h))
+pub part_of : (known after : List Listing) (log : Path) (n : Naming) (s : FamilySight) {o p : Option Journal} → Left (ShowsFamily known log n after s) o p → Left (FamilyPart known log n s) o p
+part_of known after log n s l = left_as l (λ ts h. (after, h))
 
 -- ---- one log
 
@@ -82,7 +92,7 @@ had_memory (stop.Call kind path) ne = tt
 had_memory (stop.NotFile path) ne = tt
 had_memory stop.Memory ne = absurd (ne refl)
 
-one_family : (known after : List Listing) (f : FoundLog) (s : FamilySight) (a b : List Fault) (q : List LookedLog) (ts : List Entry) → HadMemory s → ShowsFamily known f.log.naming after s ts → b ≡ a ++ family_fault s → q ≡ looked_by f s
+one_family : (known after : List Listing) (f : FoundLog) (s : FamilySight) (a b : List Fault) (q : List LookedLog) (ts : List Entry) → HadMemory s → ShowsFamily known f.log.path f.log.naming after s ts → b ≡ a ++ family_fault s → q ≡ looked_by f s
     → LookedAtFamilies known (f ∷ []) after a b q ts
 one_family known after f s a b q ts m h e g = record {
   sights = s ∷ [];
@@ -92,20 +102,24 @@ one_family known after f s a b q ts m h e g = record {
   looked_are = g ∙ sym (append-nil (looked_by f s));
 }
 
-pub stood_told : {T E : Type 0} (r : Result T E) (known after : List Listing) (f : FoundLog) (stand : Stand) (a : List Fault) (p q : List SetLooks) {o n : Option Journal} → Left (ShowsFamily known f.log.naming after (Stood stand)) o n
-    → OnOk r (AddsLooked (looked_at f stand ∷ []) p q) → OnOk r (AddsFamily known after f a a p q o n)
-stood_told (Ok x) known after f stand a p q l g = record { looked = looked_at f stand ∷ []; entries = left_as l (λ ts h. one_family known after f (Stood stand) a a (looked_at f stand ∷ []) ts tt h (sym (append-nil a)) refl); added = g }
-stood_told (Err x) known after f stand a p q l g = tt
+pub stood_told : {T E : Type 0} (r : Result T E) (known after : List Listing) (f : FoundLog) (stand : Stand) (tmp : Option Seen) (a : List Fault) (p q : List SetLooks) {o n : Option Journal} → Left (ShowsFamily known f.log.path f.log.naming after (Stood stand tmp)) o n
+    → OnOk r (AddsLooked (looked_at f stand tmp ∷ []) p q) → OnOk r (AddsFamily known after f a a p q o n)
+stood_told (Ok x) known after f stand tmp a p q l g = record {
+  looked = looked_at f stand tmp ∷ [];
+  entries = left_as l (λ ts h. one_family known after f (Stood stand tmp) a a (looked_at f stand tmp ∷ []) ts tt h (sym (append-nil a)) refl);
+  added = g;
+}
+stood_told (Err x) known after f stand tmp a p q l g = tt
 
 adds_nothing : (p : List SetLooks) → AddsLooked [] p p
 adds_nothing p = λ logs h. subst (λ (ls : List LookedLog). HaveLooks ls p) (sym (append-nil logs)) h
 
-pub stop_told : {T E : Type 0} (r : Result T E) (known after : List Listing) (f : FoundLog) (why : StandStop) (a b : List Fault) (p : List SetLooks) {o n : Option Journal} → (why ≢ stop.Memory → Left (ShowsFamily known f.log.naming after (Stopped why)) o n)
+pub stop_told : {T E : Type 0} (r : Result T E) (known after : List Listing) (f : FoundLog) (why : StandStop) (a b : List Fault) (p : List SetLooks) {o n : Option Journal} → (why ≢ stop.Memory → Left (ShowsFamily known f.log.path f.log.naming after (Stopped why)) o n)
     → OnOk r (why ≢ stop.Memory) → OnOk r (b ≡ a ++ stop_fault why) → OnOk r (AddsFamily known after f a b p p o n)
 stop_told (Ok x) known after f why a b p l ne g = record { looked = []; entries = left_as (l ne) (λ ts h. one_family known after f (Stopped why) a b [] ts (had_memory why ne) h g refl); added = adds_nothing p }
 stop_told (Err x) known after f why a b p l ne g = tt
 
-pub some_told : {T E : Type 0} (r : Result T E) (known : List Listing) (f : FoundLog) (s : FamilySight) {o n : Option Journal} → Left (FamilyPart known f.log.naming s) o n → OnErr r (Left (LookedAtSomeFamilies known (f ∷ [])) o n)
+pub some_told : {T E : Type 0} (r : Result T E) (known : List Listing) (f : FoundLog) (s : FamilySight) {o n : Option Journal} → Left (FamilyPart known f.log.path f.log.naming s) o n → OnErr r (Left (LookedAtSomeFamilies known (f ∷ [])) o n)
 some_told (Ok x) known f s l = tt
 some_told (Err x) known f s l = left_as l (λ ts h. record {
   sights = s ∷ [];

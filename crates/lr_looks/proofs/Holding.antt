@@ -8,9 +8,10 @@ use Rattle.lr_rules.specs.declared.fault.Fault.{Fault}
 use Rattle.lr_kept.specs.declared.choice.Choice.{Choice}
 use Rattle.lr_kept.specs.declared.choice.Choice.TheVariants.{Kept, Again, MemberOf, Reserved, Meets}
 use Rattle.lr_glob.specs.declared.found.Found.{Found as Match}
+use Rattle.lr_plan.specs.Planned.{is_file_kind}
 use Rattle.lr_looks.specs.Asked.{Word, word_of, words_of, words_from, asked_by, CanAsk, CanAskAll}
-use Rattle.lr_looks.specs.Choices.{kept_of, where_file, is_file, Keeps}
-use Rattle.lr_looks.specs.Found.{FoundLog, HasBounds, HaveBounds, Hold}
+use Rattle.lr_looks.specs.Choices.{kept_of, where_file, Keeps}
+use Rattle.lr_looks.specs.Found.{FoundLog, HasBounds, HasLogPath, HaveBounds, HaveLogPaths, Hold}
 use Rattle.lr_looks.specs.Internal.{AreOf}
 use Rattle.lr_looks.proofs.Kindred.{start_fine, format_fine}
 use Rattle.lr_looks.specs.Sights.{WordSight, found_at, found_of, AreFoundOf}
@@ -55,7 +56,7 @@ file_holds P f false p = tt
 
 files_hold : (P : FoundLog → Type 0) (found : List FoundLog) → Hold P found → Hold P (flat_map where_file found)
 files_hold P [] h = tt
-files_hold P (f ∷ fs) h = hold_both P (where_file f) (flat_map where_file fs) (file_holds P f (is_file f.seen.kind) h.0) (files_hold P fs h.1)
+files_hold P (f ∷ fs) h = hold_both P (where_file f) (flat_map where_file fs) (file_holds P f (is_file_kind f.seen.kind) h.0) (files_hold P fs h.1)
 
 -- ---- the words of rules
 
@@ -75,8 +76,14 @@ within_from k n (rule ∷ rules) le = of_both (λ f. f.log.set < n) (words_of k 
 
 -- ---- those that are found and kept
 
+still_hold : {reserved : List Path} (P : FoundLog → Type 0) (found kept : List FoundLog) (c d : List Fault) → Hold P found → Keeps reserved found c d kept → Hold P kept
+still_hold P found kept c d h k = subst (Hold P) (sym k.left_are) (files_hold P (kept_of found k.choices) (kept_hold P found k.choices h))
+
 kept_is : {reserved : List Path} (P : FoundLog → Type 0) (words : List Word) (found kept : List FoundLog) (c d : List Fault) → HoldsOf P words → AreFoundOf words found → Keeps reserved found c d kept → Hold P kept
-kept_is P words found kept c d h l k = subst (Hold P) (sym k.left_are) (files_hold P (kept_of found k.choices) (kept_hold P found k.choices (subst (Hold P) (sym l.found_are) (found_hold P words l.sights h))))
+kept_is P words found kept c d h l k = still_hold P found kept c d (subst (Hold P) (sym l.found_are) (found_hold P words l.sights h)) k
+
+pub kept_paths : {reserved : List Path} (found kept : List FoundLog) (c d : List Fault) → HaveLogPaths found → Keeps reserved found c d kept → HaveLogPaths kept
+kept_paths found kept c d h k = still_hold HasLogPath found kept c d h k
 
 pub kept_bounds : {reserved : List Path} (rules : List Rule) (found kept : List FoundLog) (c d : List Fault) → CanAskAll rules → AreFoundOf (asked_by rules) found → Keeps reserved found c d kept → HaveBounds kept
 kept_bounds rules found kept c d can l k = kept_is HasBounds (asked_by rules) found kept c d (bounds_from 0 rules can) l k

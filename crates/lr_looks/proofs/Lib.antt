@@ -3,6 +3,7 @@ mod AskedBy
 mod Looking
 mod Choosing
 mod Known
+mod AsideLook
 pub mod Behind
 mod Adding
 pub mod Holding

@@ -11,12 +11,13 @@ use Rattle.lr_host.specs.declared.journal.Journal.{Journal}
 use Rattle.lr_host.specs.Told.{Counts, Left}
 use Rattle.lr_host.proofs.Left.{left_as, left_first, left_then}
 use Rattle.lr_plan.specs.declared.looks.Looks.{Looks}
+use Rattle.lr_plan.specs.Planned.{is_file_kind}
 use Rattle.lr_host.specs.Counted.{Went, WentBy}
 use Rattle.lr_host.proofs.Counts.{AreFree, free_none, free_on, onward_same, went_free, went_on, went_then}
 use Rattle.lr_kept.specs.declared.choice.Choice.{Choice}
 use Rattle.lr_kept.specs.declared.choice.Choice.TheVariants.{Kept, Again, MemberOf, Reserved, Meets}
 use Rattle.lr_looks.specs.Asked.{Word, asked_by, AreTexts}
-use Rattle.lr_looks.specs.Choices.{duplicate, overlap, barred, choice_fault, choice_faults, is_file, kept_of, kind_fault, Keeps}
+use Rattle.lr_looks.specs.Choices.{duplicate, overlap, barred, choice_fault, choice_faults, kept_of, kind_fault, Keeps}
 use Rattle.lr_looks.specs.Families.{LookedLog, family_faults, LooksAtFamilies, LookedAtSomeFamilies}
 use Rattle.lr_looks.specs.Found.{FoundLog, paths_of, HaveLogPaths}
 use Rattle.lr_looks.specs.Internal.{LooksBySets}
@@ -106,7 +107,7 @@ choices_free reserved all (f ∷ fs) [] = free_none
 choices_free reserved all (f ∷ fs) (c ∷ cs) = free_on (choice_fault reserved all f c) (choice_faults reserved all fs cs) (choice_free reserved all f c) (choices_free reserved all fs cs)
 
 kind_free : (f : FoundLog) → AreFree (kind_fault f)
-kind_free f = go (is_file f.seen.kind)
+kind_free f = go (is_file_kind f.seen.kind)
   where
     go : (b : Bool) → AreFree (cond b [] (fault.NotFile f.log.path ∷ []))
     go true = free_none

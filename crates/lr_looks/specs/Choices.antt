@@ -1,17 +1,16 @@
 -- Which of the logs that were found are kept, and the faults of the others.
-use Rattle.std.specs.Prelude.{◌≡◌, Bool, true, false, List, [], ◌∷◌, ◌++◌, map, Option, Some, None, slice_get, if◌then◌else◌}
+use Rattle.std.specs.Prelude.{◌≡◌, Bool, List, [], ◌∷◌, ◌++◌, map, Option, Some, None, slice_get, if◌then◌else◌}
 use Rattle.std.specs.List.{flat_map}
 use Rattle.std.specs.Borrow.{Bor}
 use Rattle.lr_rules.specs.declared.path.Path.{Path}
 use Rattle.lr_rules.specs.declared.rule.Naming.{Naming}
 use Rattle.lr_rules.specs.declared.fault.Fault.{Fault}
 use Rattle.lr_rules.specs.declared.fault.Fault.TheVariants as fault
-use Rattle.lr_host.specs.declared.thing.Kind.{Kind}
-use Rattle.lr_host.specs.declared.thing.Kind.TheVariants as kind
 use Rattle.lr_family.specs.declared.family.Family.{Family}
 use Rattle.lr_kept.specs.declared.choice.Choice.{Choice}
 use Rattle.lr_kept.specs.declared.choice.Choice.TheVariants.{Kept, Again, MemberOf, Reserved, Meets}
 use Rattle.lr_kept.specs.Chosen.{AreChosen}
+use Rattle.lr_plan.specs.Planned.{is_file_kind}
 use Rattle.lr_looks.specs.Found.{FoundLog}
 
 -- the path and the names of a log, by which it is chosen
@@ -68,16 +67,12 @@ abbrev pub kept_of : List FoundLog → List Choice → List FoundLog
 kept_of (f ∷ fs) (c ∷ cs) = where_kept f c ++ kept_of fs cs
 kept_of _ _ = []
 
-abbrev pub is_file : Kind → Bool
-is_file kind.File = true
-is_file _ = false
-
 -- a log that is kept and is no regular file is told
 abbrev pub kind_fault : FoundLog → List Fault
-kind_fault f = if is_file f.seen.kind then [] else fault.NotFile f.log.path ∷ []
+kind_fault f = if is_file_kind f.seen.kind then [] else fault.NotFile f.log.path ∷ []
 
 abbrev pub where_file : FoundLog → List FoundLog
-where_file f = if is_file f.seen.kind then f ∷ [] else []
+where_file f = if is_file_kind f.seen.kind then f ∷ [] else []
 
 -- The logs that are left are those that are kept and are regular files; the faults of the others are added, those of the choice
 -- first.

@@ -79,8 +79,8 @@ IsAt known place dir = (l : Listing) × (slice_get known place ≡ Some l) × (l
 -- ---- logs by definitions
 
 -- the looks at one family, whatever listings are known behind them
-abbrev pub FamilyPart : List Listing → Naming → FamilySight → List Entry → Type 0
-FamilyPart known n s ts = (after : List Listing) × ShowsFamily known n after s ts
+abbrev pub FamilyPart : List Listing → Path → Naming → FamilySight → List Entry → Type 0
+FamilyPart known log n s ts = (after : List Listing) × ShowsFamily known log n after s ts
 
 -- these logs were added to those of their definitions
 abbrev pub AddsLooked : List LookedLog → List SetLooks → List SetLooks → Type 0

@@ -15,7 +15,14 @@ of_set set logs = flat_map (where_in set) logs
 
 -- a log of the definition at this place, as the plan has it
 abbrev pub looked_in : ℕ → LogLook → LookedLog
-looked_in set look = record { set = set; path = look.path; naming = look.family.naming; seen = look.seen; stand = look.stand }
+looked_in set look = record {
+  set = set;
+  path = look.path;
+  naming = look.family.naming;
+  seen = look.seen;
+  stand = look.stand;
+  tmp = look.tmp;
+}
 
 -- Each definition has its logs, in order; the first of the definitions has this place.
 abbrev pub HaveLooksFrom : ℕ → List LookedLog → List SetLooks → Type 0

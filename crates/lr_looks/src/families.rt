@@ -1,47 +1,95 @@
 // The looks at the families of logs.
-ghost use Rattle.std.specs.Prelude.{◌≡◌, ◌≢◌, ◌<◌, ◌++◌, ◌∷◌, [], true, OnOk, OnErr, IfOk, IfErr, Err, length};
+ghost use Rattle.std.specs.Prelude.{◌≡◌, ◌≢◌, ◌≤◌, ◌<◌, ◌++◌, ◌∷◌, [], true, OnOk, OnErr, IfOk, IfErr, Err, length};
 ghost use Rattle.lr_rules.specs.Limits.{is_format, or_none};
 ghost use Rattle.lr_host.specs.Told.{Left, Onward, Rose};
 ghost use Rattle.lr_family.specs.Stands.{IsFailedCall};
 ghost use Rattle.lr_family.specs.declared.stand.StandStop.TheVariants as stop;
 ghost use Rattle.lr_host.specs.Counted.{WentBy};
-ghost use Rattle.lr_looks.specs.Families.{looked_at, ShowsFamily, sight_of, stop_fault, LookedAtSomeFamilies};
+ghost use Rattle.lr_looks.specs.Families.{ShowsAside, ShowsNoAside, ShowsMembersIn, ShowsFamily, sight_of};
+ghost use Rattle.lr_looks.specs.Families.{looked_at, stop_fault, LookedAtSomeFamilies};
 ghost use Rattle.lr_plan.specs.Planned.{AreMembersOf};
-ghost use Rattle.lr_looks.specs.Found.{found_in, all_found_in, paths_of, HasBounds, HaveBounds};
+ghost use Rattle.lr_looks.specs.Found.{found_in, all_found_in, paths_of, HasBounds, HasLogPath, HaveBounds, HaveLogPaths};
 ghost use Rattle.lr_looks.specs.Internal.{AreListings, FamilyPart, AddsLooked, AddsFamily, AddsFamilies, LooksBySets, AreOf};
 ghost use Rattle.lr_looks.specs.Ready.{AreReady};
 ghost use Rattle.lr_looks.specs.Sets.{HaveLooks};
 
+use crate::aside::look_aside;
 use crate::found::Found;
 use crate::listing::listing_at;
 use crate::listings::Listings;
+use crate::standing::Standing;
 use indexmap::IndexMap;
-use lr_family::{Family, Stand, StandStop};
+use lr_family::{Family, Listing, Stand, StandStop};
 use lr_host::Host;
 use lr_plan::{LogLook, Looks, SetLooks};
 use lr_rules::{Fault, Listed, Memory, Path};
 use std::alloc::Global;
 
-// What stands of a family, whose directory is listed where it wasn't before.
+// What stands where the log waits, beside what stands of its family.
+fn with_aside<H: Host>(
+    alloc: Global,
+    host: &mut H,
+    family: &Family,
+    stand: Stand,
+) -> Result<Standing, StandStop>
+    requires { length family.now.log ≤ 2048 }
+    ensures told { IfOk result (λ standing. Left (ShowsAside family.now.naming.aside family.now.log standing.tmp)
+        (H.told host.old) (H.told host.new)) }
+    ensures stand { IfOk result (λ standing. standing.stand ≡ stand) }
+    ensures stopped { IfErr result (λ why. Left (ShowsNoAside family.now.naming.aside family.now.log why) (H.told host.old)
+        (H.told host.new)) }
+    ensures cause { IfErr result (λ why. IsFailedCall why → Rose (H.counts host.old).faults (H.counts host.new).faults) }
+    ensures counts { Onward (H.counts host.old) (H.counts host.new) }
+{
+    match look_aside(alloc, host, family) {
+        Ok(tmp) => Ok(Standing { stand, tmp }),
+        Err(why) => Err(why),
+    }
+}
+
+// What stands in a directory that was listed, and then what stands where the log waits.
+fn standing_in<H: Host>(
+    alloc: Global,
+    host: &mut H,
+    family: &Family,
+    listing: &Listing,
+) -> Result<Standing, StandStop>
+    requires format { or_none is_format family.now.naming.dated ≡ true }
+    requires dir { listing.now.dir ≡ family.now.naming.dir }
+    requires size { length family.now.log ≤ 2048 }
+    ensures told { Left (ShowsMembersIn family.now.log family.now.naming listing.now (sight_of result)) (H.told host.old)
+        (H.told host.new) }
+    ensures named { IfOk result (λ standing. AreMembersOf family.now.naming standing.stand.members) }
+    ensures cause { IfErr result (λ why. IsFailedCall why → Rose (H.counts host.old).faults (H.counts host.new).faults) }
+    ensures counts { Onward (H.counts host.old) (H.counts host.new) }
+{
+    match family.stand_in(alloc, host, listing) {
+        Ok(stand) => with_aside(alloc, host, family, stand),
+        Err(why) => Err(why),
+    }
+}
+
+// The same of a family whose directory is listed where it wasn't before.
 fn stand_at<H: Host>(
     alloc: Global,
     host: &mut H,
     listings: &mut Listings,
     family: &Family,
-) -> Result<Stand, StandStop>
+) -> Result<Standing, StandStop>
     requires known { AreListings listings.old }
     requires format { or_none is_format family.now.naming.dated ≡ true }
-    ensures told { result ≢ Err stop.Memory → Left (ShowsFamily listings.old.taken.items family.now.naming listings.new.taken.items
-        (sight_of result)) (H.told host.old) (H.told host.new) }
-    ensures part { Left (FamilyPart listings.old.taken.items family.now.naming (sight_of result)) (H.told host.old)
-        (H.told host.new) }
+    requires size { length family.now.log ≤ 2048 }
+    ensures told { result ≢ Err stop.Memory → Left (ShowsFamily listings.old.taken.items family.now.log family.now.naming
+        listings.new.taken.items (sight_of result)) (H.told host.old) (H.told host.new) }
+    ensures part { Left (FamilyPart listings.old.taken.items family.now.log family.now.naming (sight_of result))
+        (H.told host.old) (H.told host.new) }
     ensures known { result ≢ Err stop.Memory → AreListings listings.new }
-    ensures named { IfOk result (λ stand. AreMembersOf family.now.naming stand.members) }
+    ensures named { IfOk result (λ standing. AreMembersOf family.now.naming standing.stand.members) }
     ensures cause { IfErr result (λ why. IsFailedCall why → Rose (H.counts host.old).faults (H.counts host.new).faults) }
     ensures counts { Onward (H.counts host.old) (H.counts host.new) }
 {
     match listing_at(alloc, host, listings, &family.naming().dir) {
-        Ok(place) => family.stand_in(alloc, host, &listings.taken[place]),
+        Ok(place) => standing_in(alloc, host, family, &listings.taken[place]),
         Err(why) => Err(why),
     }
 }
@@ -69,12 +117,14 @@ fn add_look(
     alloc: Global,
     sets: &mut Vec<SetLooks>,
     found: Found,
-    stand: Stand,
+    standing: Standing,
 ) -> Result<(), Memory>
     requires set { found.set < length sets.old.items }
     requires bounds { HasBounds (found_in found) }
-    requires named { AreMembersOf found.family.naming stand.members }
-    ensures looked { OnOk result (AddsLooked (looked_at (found_in found) stand ∷ []) sets.old.items sets.new.items) }
+    requires path { HasLogPath (found_in found) }
+    requires named { AreMembersOf found.family.naming standing.stand.members }
+    ensures looked { OnOk result (AddsLooked (looked_at (found_in found) standing.stand standing.tmp ∷ []) sets.old.items
+        sets.new.items) }
     ensures many { OnOk result (length sets.new.items ≡ length sets.old.items) }
     ensures ready { OnOk result (AreReady sets.old.items → AreReady sets.new.items) }
 {
@@ -84,12 +134,14 @@ fn add_look(
         seen,
         ..
     } = found;
+    let Standing { stand, tmp } = standing;
     let path = family.log().copy(alloc)?;
     sets[set].logs.push(LogLook {
         path,
         seen,
         family,
         stand,
+        tmp,
     })?;
     Ok(())
 }
@@ -106,6 +158,7 @@ fn look_at_family<H: Host>(
     requires known { AreListings listings.old }
     requires set { found.set < length sets.old.items }
     requires bounds { HasBounds (found_in found) }
+    requires path { HasLogPath (found_in found) }
     ensures told { OnOk result (AddsFamily listings.old.taken.items listings.new.taken.items (found_in found) faults.old.items
         faults.new.items sets.old.items sets.new.items (H.told host.old) (H.told host.new)) }
     ensures some { OnErr result (Left (LookedAtSomeFamilies listings.old.taken.items (found_in found ∷ [])) (H.told host.old)
@@ -116,7 +169,7 @@ fn look_at_family<H: Host>(
     ensures went { WentBy result faults.old.items faults.new.items (H.counts host.old) (H.counts host.new) }
 {
     match stand_at(alloc, host, listings, &found.family) {
-        Ok(stand) => add_look(alloc, sets, found, stand),
+        Ok(standing) => add_look(alloc, sets, found, standing),
         Err(why) => add_stop(faults, why),
     }
 }
@@ -146,6 +199,7 @@ fn look_at_each<H: Host>(
 ) -> Result<(), Memory>
     requires sets { AreOf (length sets.old.items) (all_found_in found.items) }
     requires bounds { HaveBounds (all_found_in found.items) }
+    requires paths { HaveLogPaths (all_found_in found.items) }
     ensures told { OnOk result (AddsFamilies (all_found_in found.items) faults.old.items faults.new.items sets.old.items
         sets.new.items (H.told host.old) (H.told host.new)) }
     ensures some { OnErr result (Left (LookedAtSomeFamilies [] (all_found_in found.items)) (H.told host.old) (H.told host.new)) }
@@ -174,9 +228,9 @@ fn paths_of(alloc: Global, found: &[Found]) -> Result<Listed<Path>, Memory>
     Ok(Listed::from_vec(paths))
 }
 
-/// Looks at the families of these logs, in order: the paths of all, and the logs of each of so many definitions with what
-/// stands of their families. The faults of those of which it isn't known are added. No directory is listed twice; one that
-/// couldn't be is tried again at the next log in it.
+/// Looks at the families of these logs, in order, and behind each family at the path where its log waits that is set aside:
+/// the paths of all, and the logs of each of so many definitions with what stands of them. The faults of those of which it
+/// isn't known are added. No directory is listed twice; one that couldn't be is tried again at the next log in it.
 pub fn look_at_families<H: Host>(
     alloc: Global,
     host: &mut H,
@@ -186,6 +240,7 @@ pub fn look_at_families<H: Host>(
 ) -> Result<Looks, Memory>
     requires sets { AreOf count (all_found_in found.items) }
     requires bounds { HaveBounds (all_found_in found.items) }
+    requires paths { HaveLogPaths (all_found_in found.items) }
     ensures told { IfOk result (λ looks. LooksBySets (all_found_in found.items) faults.old.items faults.new.items looks.sets
         (H.told host.old) (H.told host.new)) }
     ensures some { OnErr result (Left (LookedAtSomeFamilies [] (all_found_in found.items)) (H.told host.old) (H.told host.new)) }

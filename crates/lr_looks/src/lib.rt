@@ -13,6 +13,7 @@
 #![tactic(auto)]
 
 mod all;
+mod aside;
 mod families;
 mod found;
 mod keeping;
@@ -20,6 +21,7 @@ mod listing;
 mod listings;
 mod naming;
 mod reserved;
+mod standing;
 mod unreserved;
 mod words;
 

@@ -1,2 +1,3 @@
-mod Aside
+mod AsidePath
+mod AsideTest
 mod FromWord

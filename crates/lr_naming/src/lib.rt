@@ -8,6 +8,8 @@
 //! ```
 #![tactic(auto)]
 
+mod aside;
 mod naming;
 
+pub use aside::aside_path;
 pub use naming::{is_aside_path, naming_of};

@@ -62,7 +62,7 @@ of_log : (ts : List Target) (logs : List LogPlan) (path : Path) → AreReadyFor 
 of_log [] [] path r i = absurd i
 of_log [] (l ∷ ls) path r i = absurd r
 of_log (t ∷ ts) [] path r i = absurd r
-of_log (t ∷ ts) (l ∷ ls) path r (inl e) = first_one t ts l ls r.0 path (inl (sym e ∙ (ap (λ (x : Ready). x.log) r.0.ready_is ∙ r.0.log_is)))
+of_log (t ∷ ts) (l ∷ ls) path r (inl e) = first_one t ts l ls r.0 path (inl (sym e ∙ r.0.log_is))
 of_log (t ∷ ts) (l ∷ ls) path r (inr (inl e)) = first_one t ts l ls r.0 path (inr (inl (sym e ∙ ap (λ (x : Ready). x.target) r.0.ready_is)))
 of_log (t ∷ ts) (l ∷ ls) path r (inr (inr i)) = later_one t ts l ls r.0 path (of_log ts ls path r.1 i)
 

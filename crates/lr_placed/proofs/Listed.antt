@@ -12,7 +12,7 @@ use Rattle.lr_host.specs.World.{world, names}
 use Rattle.lr_host.proofs.Looked.{seen_file, seen_dir}
 use Rattle.lr_plan.specs.declared.mark.Mark.{Mark}
 use Rattle.lr_plan.specs.declared.mark.Mark.TheVariants as mark
-use Rattle.lr_weave.proofs.Seen.{log_dir}
+use Rattle.lr_laws_targets.proofs.Directories.{log_dir}
 use Rattle.lr_laws_targets.specs.AllTurns.{IsItsDir}
 use Rattle.lr_laws_targets.specs.Target.{Target, IsMissingDir, IsDirSeenBy}
 use Rattle.lr_laws_rotations.proofs.Moments.{saw_one}

@@ -1,6 +1,7 @@
 -- The plan that the rules, what was seen of their logs, the table of the state, the clock of the run, `--force` and the
 -- program that mails files make together.
-use Rattle.std.specs.Prelude.{◌≡◌, ◌≤◌, ◌&&◌, ◌||◌, ℕ, Bool, true, false, not, List, [], ◌∷◌, ◌++◌, map, All, Option, Some, None}
+use Rattle.std.specs.Prelude.{◌≡◌, ◌≤◌, ◌&&◌, ◌||◌, ℕ, Bool, true, false, not, List, [], ◌∷◌, ◌++◌, length, map, All, Option}
+use Rattle.std.specs.Prelude.{Some, None}
 use Rattle.std.specs.Prelude.{if◌then◌else◌}
 use Rattle.std.specs.List.{flat_map, list_any}
 use Rattle.std.specs.Str.{bytes_eq}
@@ -8,7 +9,7 @@ use Rattle.lr_rules.specs.declared.path.Path.{Path}
 use Rattle.lr_rules.specs.declared.civil.Moment.{Moment}
 use Rattle.lr_rules.specs.declared.clock.Clock.{Clock}
 use Rattle.lr_rules.specs.declared.fault.Fault.{Fault}
-use Rattle.lr_rules.specs.declared.rule.Count.TheVariants as count
+use Rattle.lr_rules.specs.declared.fault.Fault.TheVariants as fault
 use Rattle.lr_rules.specs.declared.rule.Make.{Make}
 use Rattle.lr_rules.specs.declared.rule.Make.TheVariants as make
 use Rattle.lr_rules.specs.declared.rule.Naming.{Naming}
@@ -17,6 +18,8 @@ use Rattle.lr_rules.specs.declared.rule.Way.{Way}
 use Rattle.lr_rules.specs.declared.rule.Way.TheVariants as way
 use Rattle.lr_rules.specs.Limits.{is_format, or_none}
 use Rattle.lr_rules.specs.Names.{aside_path}
+use Rattle.lr_host.specs.declared.thing.Kind.{Kind}
+use Rattle.lr_host.specs.declared.thing.Kind.TheVariants as kind
 use Rattle.lr_host.specs.declared.thing.Seen.{Seen}
 use Rattle.lr_scripts.specs.declared.removal.Removal.{Removal}
 use Rattle.lr_due.specs.declared.answer.Due.{Due}
@@ -83,17 +86,59 @@ stand_for rule look = if makes_dir rule look then empty_stand else look.stand
 
 -- the look, as if this had been seen of the family
 abbrev pub with_stand : Stand → LogLook → LogLook
-with_stand stand look = record { path = look.path; seen = look.seen; family = look.family; stand = stand }
+with_stand stand look = record { path = look.path; seen = look.seen; family = look.family; stand = stand; tmp = look.tmp }
 
 -- the look that the rotation goes by: a directory that it makes is there, and empty
 abbrev pub standing : Rule → LogLook → LogLook
 standing rule look = with_stand (stand_for rule look) look
 
+-- ---- a log that is set aside, or was
+
+abbrev pub is_file_kind : Kind → Bool
+is_file_kind kind.File = true
+is_file_kind _ = false
+
+-- a file was seen
+abbrev pub is_file : Option Seen → Bool
+is_file None = false
+is_file (Some seen) = is_file_kind seen.kind
+
+-- another thing was seen at this path
+abbrev pub other_thing : Path → Option Seen → List Fault
+other_thing path None = []
+other_thing path (Some seen) = if is_file_kind seen.kind then [] else fault.NotFile path ∷ []
+
+-- these; where there are none, those
+abbrev pub or_else : List Fault → List Fault → List Fault
+or_else [] gs = gs
+or_else (f ∷ fs) gs = f ∷ fs
+
+-- Where the rule's way sets logs aside, and a file was seen where such a log waits, a run broke off before that was copied. It is
+-- taken up: the rotation turns it, and leaves the log.
+abbrev pub takes_up : Way → Option Seen → Bool
+takes_up way.RenameCopy tmp = is_file tmp
+takes_up _ tmp = false
+
+-- where the file stands that is turned
+abbrev pub first_path : Way → Path → Option Seen → Path
+first_path way log tmp = if takes_up way tmp then aside_path log else log
+
+-- the path to which the log is set aside, where it is
+abbrev pub aside_by : Way → Path → Option Seen → Option Path
+aside_by way.RenameCopy log tmp = if is_file tmp then None else Some (aside_path log)
+aside_by _ log tmp = None
+
 -- ---- what hinders, and what is made ready
+
+-- another thing than a file stands where the log is set aside to
+abbrev pub aside_hinders : Way → Path → Option Seen → List Fault
+aside_hinders way.RenameCopy log tmp = other_thing (aside_path log) tmp
+aside_hinders _ log tmp = []
 
 -- what hinders its rotation, of which a directory that it makes is there
 abbrev pub hindrances : Clock → Rule → LogLook → List Fault
-hindrances clock rule look = what_hinders look.family.naming rule.count clock (stand_for rule look)
+hindrances clock rule look = or_else (what_hinders look.family.naming rule.count clock (stand_for rule look))
+    (aside_hinders rule.way look.path look.tmp)
 
 -- where the log is made anew, with which mode: the one that the rule gives, else the one that was seen
 abbrev pub make_of : Make → Seen → Make
@@ -101,11 +146,27 @@ make_of make.No seen = make.No
 make_of (make.Yes None) seen = make.Yes seen.mode
 make_of (make.Yes (Some mode)) seen = make.Yes (Some mode)
 
+-- a log that stays is not made anew
+abbrev pub make_for : Rule → LogLook → Make
+make_for rule look = if takes_up rule.way look.tmp then make.No else make_of rule.create look.seen
+
 -- Its rotation, with all its paths, and with the directory that it makes; each removal is without the programs before it.
 abbrev pub ready_for : Clock → Rule → LogLook → Ready
 ready_for clock rule look =
-    with_dir (dir_of rule look) (ready_of look.path look.family.naming rule.count rule.maxage clock (make_of rule.create look.seen)
-    (stand_for rule look).members)
+    with_dir (dir_of rule look) (ready_of (first_path rule.way look.path look.tmp) look.family.naming rule.count rule.maxage clock
+    (make_for rule look) (stand_for rule look).members)
+
+-- the rotation of the file from this path
+abbrev pub with_log : Path → Ready → Ready
+with_log log ready = record {
+  leftovers = ready.leftovers;
+  dir = ready.dir;
+  moves = ready.moves;
+  log = log;
+  target = ready.target;
+  make = ready.make;
+  retire = ready.retire;
+}
 
 -- the rotation with these removals, the first ones and those at the end
 abbrev pub with_removals : List Removal → List Removal → Ready → Ready
@@ -119,10 +180,10 @@ with_removals leftovers retire ready = record {
   retire = retire;
 }
 
--- the rotation with the programs of its definition before each removal
-abbrev pub dressed : Rule → Path → Ready → Ready
-dressed rule mailer ready = with_removals (map (with_programs rule mailer ready.log) ready.leftovers)
-    (map (with_programs rule mailer ready.log) ready.retire) ready
+-- the rotation with the programs of its definition before each removal, of which a mail has the log's path as its subject
+abbrev pub dressed : Rule → Path → Path → Ready → Ready
+dressed rule mailer log ready = with_removals (map (with_programs rule mailer log) ready.leftovers)
+    (map (with_programs rule mailer log) ready.retire) ready
 
 -- the part file is among these
 abbrev pub has_part : List Path → Path → Bool
@@ -142,24 +203,40 @@ copy_job look target cut = record {
   limit = 1099511627776;
 }
 
--- The copy in place of the log's rename, where the rule's way is one; the log is emptied behind it, or stays as it is. A log that
--- the way would set aside is copied where it stands: the steps of that way aren't built, and no configuration asks for it.
+-- the same copy from another path
+abbrev pub from_path : Path → Job → Job
+from_path from job = record {
+  from = from;
+  part = job.part;
+  to = job.to;
+  dir = job.dir;
+  stale = job.stale;
+  mode = job.mode;
+  cut = job.cut;
+  limit = job.limit;
+}
+
+-- The copy in place of the log's rename, where the rule's way is one; the log is emptied behind it, or stays as it is, or is copied
+-- from where it is set aside.
 abbrev pub job_by : Way → LogLook → Path → Option Job
 job_by way.Rename look target = None
 job_by way.Copy look target = Some (copy_job look target false)
 job_by way.CopyTruncate look target = Some (copy_job look target true)
-job_by way.RenameCopy look target = Some (copy_job look target false)
+job_by way.RenameCopy look target = if is_file look.tmp then None
+    else Some (from_path (aside_path look.path) (copy_job look target false))
 
 -- what is done with it: its own scripts where the definition doesn't share them, this rotation, by rename or by copy, and with
 -- `mailfirst` the mail of the file that was the log; and what the rotation goes by, the naming, the rule's count and age, and what
 -- stands of the family
 abbrev pub plan_with : Path → Rule → LogLook → Ready → LogPlan
 plan_with mailer rule look ready = record {
+  log = look.path;
   pre = where_so (not rule.shared) (script rule.scripts.pre (look.path ∷ []));
   post = where_so (not rule.shared) (script rule.scripts.post (look.path ∷ ready.target ∷ []));
   first_mail = where_so rule.mailfirst (mail mailer rule.mail look.path ready.target);
-  ready = dressed rule mailer ready;
+  ready = dressed rule mailer look.path ready;
   job = job_by rule.way look ready.target;
+  aside = aside_by rule.way look.path look.tmp;
   naming = look.family.naming;
   count = rule.count;
   maxage = rule.maxage;
@@ -189,8 +266,16 @@ decisions_of decide looks = map (λ look. (look.path, decide look)) looks
 abbrev pub log_plans : Clock → Path → Rule → (LogLook → Due) → List LogLook → List LogPlan
 log_plans clock mailer rule decide looks = flat_map (λ look. where_due (decide look) (plans_of clock mailer rule look)) looks
 
+-- a log that is taken up is told
+abbrev pub unfinished : Way → Path → Option Seen → List Fault
+unfinished way log tmp = if takes_up way tmp then fault.Unfinished log ∷ [] else []
+
+-- of a log that is due: what hinders it, or that it is taken up
+abbrev pub faults_of : Clock → Rule → LogLook → List Fault
+faults_of clock rule look = or_else (hindrances clock rule look) (unfinished rule.way look.path look.tmp)
+
 abbrev pub log_faults : Clock → Rule → (LogLook → Due) → List LogLook → List Fault
-log_faults clock rule decide looks = flat_map (λ look. where_due (decide look) (hindrances clock rule look)) looks
+log_faults clock rule decide looks = flat_map (λ look. where_due (decide look) (faults_of clock rule look)) looks
 
 -- its scripts, of which those of the rotations are its own where they are shared, and its logs that are due
 abbrev pub set_plan : Rule → List LogPlan → SetPlan
@@ -244,9 +329,10 @@ pub record AreMembersOf (n : Naming) (members : List Member) : Type 0 where
   pub named : AreNamed n members
   pub newest : AreNewestFirst members
 
--- The look is one at the log, and its members are those of the log's naming, numbered or dated.
+-- The look is one at the log, whose path is short, and its members are those of the log's naming, numbered or dated.
 pub record CanPlan (look : LogLook) : Type 0 where
   pub log : look.family.log ≡ look.path
+  pub size : length look.path ≤ 2048
   pub start : look.family.naming.start ≤ 999999
   pub members : AreMembersOf look.family.naming look.stand.members
 

@@ -1,5 +1,5 @@
 -- The steps of a plan, in order.
-use Rattle.std.specs.Prelude.{ℕ, Bool, true, false, List, [], ◌∷◌, ◌++◌, map, Option, Some, None, slice_index_or, codes}
+use Rattle.std.specs.Prelude.{ℕ, Bool, true, false, List, [], ◌∷◌, ◌++◌, map, Option, Some, None, slice_index_or}
 use Rattle.std.specs.Prelude.{if◌then◌else◌}
 use Rattle.std.specs.List.{flat_map}
 use Rattle.lr_rules.specs.declared.path.Path.{Path}
@@ -12,7 +12,6 @@ use Rattle.lr_rules.specs.StatePath.{state_part}
 use Rattle.lr_scripts.specs.declared.command.Command.{Command}
 use Rattle.lr_scripts.specs.declared.removal.Removal.{Removal}
 use Rattle.lr_chain.specs.declared.ready.Move.{Move}
-use Rattle.lr_chain.specs.declared.ready.Ready.{Ready}
 use Rattle.lr_copy.specs.declared.job.Job.{Job}
 use Rattle.lr_plan.specs.declared.plan.LogPlan.{LogPlan}
 use Rattle.lr_plan.specs.declared.plan.SetPlan.{SetPlan}
@@ -62,34 +61,41 @@ abbrev pub copy : Job → List Step
 copy job = step_if job.stale (Removes job.part) ++ (Takes job.part job.mode ∷ Copies job.from job.part job.limit ∷ SyncsFile
     job.part ∷ Renames job.part job.to ∷ SyncsDir job.dir ∷ step_if job.cut (Truncates job.from))
 
--- how the log comes to its final path
-abbrev pub transfer : Path → Path → Option Job → List Step
-transfer log target None = Renames log target ∷ []
-transfer log target (Some job) = copy job
+-- how the log comes to its final path; or, where it is set aside, to the path where it waits for its copy, behind a sync of the
+-- family's directory
+abbrev pub transfer : Path → Path → Option Job → Option Path → List Step
+transfer log target None aside = Renames log target ∷ []
+transfer log target (Some job) None = copy job
+transfer log target (Some job) (Some path) = SyncsDir job.dir ∷ Renames log path ∷ []
 
--- the log is made anew where the rule says so; behind a copy it stands already
+-- the log is made anew where the rule says so; behind a copy of it where it stands it is there already
 abbrev pub anew : Make → Path → List Step
 anew make.No log = []
 anew (make.Yes mode) log = Creates log mode ∷ []
 
-abbrev pub made_anew : Make → Path → Option Job → List Step
-made_anew m log None = anew m log
-made_anew m log (Some job) = []
+-- behind the log's own way its path is free: the log was renamed, to its final path or aside
+abbrev pub leaves_path : Option Job → Option Path → Bool
+leaves_path None aside = true
+leaves_path (Some job) None = false
+leaves_path (Some job) (Some path) = true
+
+abbrev pub made_anew : Make → Path → Option Job → Option Path → List Step
+made_anew m log job aside = if leaves_path job aside then anew m log else []
 
 -- the rotation of a log: the leftovers, the family's directory, the chain, the log itself, and the log anew
-abbrev pub rotation : Ready → Option Job → List Step
-rotation ready job = removals ready.leftovers ++ (directory ready.dir
-    ++ (map move ready.moves ++ (transfer ready.log ready.target job ++ (Rotated ready.log ∷ made_anew ready.make ready.log job))))
-
--- its retirement, behind the postrotate: the mail of the first file, and these removals
-abbrev pub retirement : Option Command → List Removal → List Step
-retirement first_mail files = program phase.Mail first_mail ++ removals files
-
 abbrev pub rotation_of : LogPlan → List Step
-rotation_of log = rotation log.ready log.job
+rotation_of log = removals log.ready.leftovers ++ (directory log.ready.dir
+    ++ (map move log.ready.moves ++ (transfer log.ready.log log.ready.target log.job log.aside
+    ++ (Rotated log.log ∷ made_anew log.ready.make log.log log.job log.aside))))
 
+-- behind the postrotate a log that was set aside is copied to its final path, and let go
+abbrev pub finishing : Option Job → Option Path → List Step
+finishing (Some job) (Some path) = copy job ++ Removes path ∷ []
+finishing _ _ = []
+
+-- the retirement of a log: that, the mail of the first file, and the removals
 abbrev pub retirement_of : LogPlan → List Step
-retirement_of log = retirement log.first_mail log.ready.retire
+retirement_of log = finishing log.job log.aside ++ (program phase.Mail log.first_mail ++ removals log.ready.retire)
 
 -- of a log by itself
 abbrev pub steps_of_log : LogPlan → List Step

@@ -10,6 +10,7 @@ mod looks;
 mod mark;
 mod plan;
 mod step;
+mod way;
 
 pub use looks::{LogLook, Looks, SetLooks};
 pub use lr_copy::Job;

@@ -16,7 +16,7 @@ use Rattle.lr_chain.specs.Hindrances.{IsHindered}
 use Rattle.lr_plan.specs.declared.looks.LogLook.{LogLook}
 use Rattle.lr_plan.specs.declared.looks.SetLooks.{SetLooks}
 use Rattle.lr_planning.specs.Hindered.{fault_of}
-use Rattle.lr_plan.specs.Planned.{hindrances, dir_of, standing, ready_for, plan_with, log_plan, none_hinders, plans_of, decisions_of, log_plans, log_faults, set_plan, all_decisions, all_plans, all_faults, CanPlanSet, CanPlanAll}
+use Rattle.lr_plan.specs.Planned.{hindrances, aside_hinders, first_path, with_log, dir_of, standing, ready_for, plan_with, log_plan, none_hinders, plans_of, decisions_of, log_plans, log_faults, set_plan, all_decisions, all_plans, all_faults, CanPlanSet, CanPlanAll}
 
 -- where a call went well, what follows from what it ensures
 pub where_ok : {T E P Q : Type 0} (r : Result T E) → OnOk r P → (P → Q) → OnOk r Q
@@ -25,10 +25,10 @@ where_ok (Err e) p f = tt
 
 -- ---- the plan of one log
 
-pub plans_there : (clock : Clock) (mailer : Path) (rule : Rule) (look : LogLook) (ready : Ready) → with_dir (dir_of rule look) ready ≡ ready_for clock rule look → hindrances clock rule look ≡ []
-    → plan_with mailer rule (standing rule look) (with_dir (dir_of rule look) ready) ∷ [] ≡ plans_of clock mailer rule look
+pub plans_there : (clock : Clock) (mailer : Path) (rule : Rule) (look : LogLook) (ready : Ready) → with_dir (dir_of rule look) (with_log (first_path rule.way look.path look.tmp) ready) ≡ ready_for clock rule look → hindrances clock rule look ≡ aside_hinders rule.way look.path look.tmp
+    → none_hinders (aside_hinders rule.way look.path look.tmp) (plan_with mailer rule (standing rule look) (with_dir (dir_of rule look) (with_log (first_path rule.way look.path look.tmp) ready)) ∷ []) ≡ plans_of clock mailer rule look
 plans_there clock mailer rule look ready is h =
-    ap (λ (r : Ready). plan_with mailer rule (standing rule look) r ∷ []) is ∙ ap (λ (fs : List Fault). none_hinders fs (log_plan clock mailer rule look ∷ [])) (sym h)
+    ap (λ (r : Ready). none_hinders (aside_hinders rule.way look.path look.tmp) (plan_with mailer rule (standing rule look) r ∷ [])) is ∙ ap (λ (fs : List Fault). none_hinders fs (log_plan clock mailer rule look ∷ [])) (sym h)
 
 pub plans_none : (clock : Clock) (mailer : Path) (rule : Rule) (look : LogLook) (f : Fault) → hindrances clock rule look ≡ f ∷ [] → plans_of clock mailer rule look ≡ []
 plans_none clock mailer rule look f h = ap (λ (fs : List Fault). none_hinders fs (log_plan clock mailer rule look ∷ [])) h

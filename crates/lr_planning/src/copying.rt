@@ -1,9 +1,13 @@
 // The copy that stands in the place of a log's rename.
 ghost use Rattle.std.specs.Prelude.{◌≡◌, ◌≤◌, IfOk, length};
-ghost use Rattle.lr_plan.specs.Planned.{has_part, copy_job, job_by, with_stand};
+ghost use Rattle.lr_rules.specs.Names.{aside_path};
+ghost use Rattle.lr_rules.specs.declared.rule.Way.TheVariants as way;
+ghost use Rattle.lr_plan.specs.Planned.{has_part, copy_job, from_path, job_by, with_stand};
 
+use crate::aside::is_file;
 use lr_copy::{Job, part_path};
 use lr_family::Stand;
+use lr_naming::aside_path;
 use lr_plan::LogLook;
 use lr_rules::{Memory, Path, Rule, Way};
 use std::alloc::Global;
@@ -54,6 +58,34 @@ fn copy_job(
     })
 }
 
+// The same copy from where the log waits.
+fn from_aside(alloc: Global, log: &Path, job: Job) -> Result<Job, Memory>
+    requires { length log.now ≤ 2048 }
+    ensures { IfOk result (λ other. other ≡ from_path (aside_path log.now) job) }
+{
+    let mut job = job;
+    job.from = aside_path(alloc, log)?;
+    Ok(job)
+}
+
+// The copy of the log from where it is set aside, where it isn't taken up from there.
+fn aside_job(
+    alloc: Global,
+    look: &LogLook,
+    stand: &Stand,
+    target: &Path,
+) -> Result<Option<Job>, Memory>
+    requires target { length target.now ≤ 4081 }
+    requires log { length look.now.path ≤ 2048 }
+    ensures { IfOk result (λ job. job ≡ job_by way.RenameCopy (with_stand stand.now look.now) target.now) }
+{
+    if is_file(&look.tmp) {
+        return Ok(None);
+    }
+    let job = copy_job(alloc, look, stand, target, false)?;
+    Ok(Some(from_aside(alloc, &look.path, job)?))
+}
+
 /// The copy by which the log gets to this final path, where its rule's way isn't a rename, and where this stands of its
 /// family as the rotation begins.
 pub fn job_of(
@@ -63,15 +95,15 @@ pub fn job_of(
     stand: &Stand,
     target: &Path,
 ) -> Result<Option<Job>, Memory>
-    requires { length target.now ≤ 4081 }
+    requires target { length target.now ≤ 4081 }
+    requires log { length look.now.path ≤ 2048 }
     ensures { IfOk result (λ job. job ≡ job_by rule.now.way (with_stand stand.now look.now) target.now) }
 {
     let cut = match rule.way {
         Way::Rename => return Ok(None),
         Way::Copy => false,
         Way::CopyTruncate => true,
-        // The steps by which this way sets the log aside aren't built: it is copied where it stands.
-        Way::RenameCopy => false,
+        Way::RenameCopy => return aside_job(alloc, look, stand, target),
     };
     let job = copy_job(alloc, look, stand, target, cut)?;
     Ok(Some(job))

@@ -8,6 +8,7 @@
 //! ```
 #![tactic(auto)]
 
+mod aside;
 mod commands;
 mod copying;
 mod directory;

@@ -4,14 +4,17 @@ ghost use Rattle.lr_rules.specs.declared.rule.Rule.{Rule};
 ghost use Rattle.lr_plan.specs.declared.looks.LogLook.{LogLook};
 ghost use Rattle.lr_plan.specs.Asked.{asking};
 ghost use Rattle.lr_planning.specs.Hindered.{fault_of};
-ghost use Rattle.lr_plan.specs.Planned.{decision, decisions_of, hindrances, plans_of, log_plans, log_faults, set_plan, where_due};
-ghost use Rattle.lr_plan.specs.Planned.{all_decisions, all_plans, all_faults, plan_of, make_of, dir_of, stand_for, with_stand};
+ghost use Rattle.lr_plan.specs.Planned.{decision, decisions_of, plans_of, log_plans, log_faults, set_plan, where_due};
+ghost use Rattle.lr_plan.specs.Planned.{all_decisions, all_plans, all_faults, plan_of, make_of, make_for, dir_of, stand_for};
+ghost use Rattle.lr_plan.specs.Planned.{with_stand, with_log, first_path, aside_by, aside_hinders, unfinished, or_else};
+ghost use Rattle.lr_plan.specs.Planned.{none_hinders, faults_of};
 ghost use Rattle.lr_plan.specs.Planned.{standing, dressed, job_by, plan_with, CanPlan, CanPlanSet, CanPlanAll};
 ghost use Rattle.lr_chain.specs.Ready.{IsCount, with_dir};
 ghost use Rattle.lr_commands.specs.Commands.{spaced, script, where_so, mail};
 ghost use Rattle.lr_chain.specs.Hindrances.{what_hinders, IsHindered};
 ghost use Rattle.lr_chain.specs.Prepared.{ready_of};
 
+use crate::aside::{aside_hinders, aside_of, first_path, takes_up};
 use crate::commands::{outer_scripts, own_scripts, shared_scripts};
 use crate::copying::job_of;
 use crate::directory::{empty_stand, made_dir, makes_dir};
@@ -21,6 +24,7 @@ use lr_copy::Job;
 use lr_due::{Due, due};
 use lr_family::Stand;
 use lr_host::Seen;
+use lr_naming::aside_path;
 use lr_plan::{LogLook, LogPlan, Looks, Plan, SetLooks, SetPlan};
 use lr_rules::{Clock, Fault, Listed, Make, Memory, Moment, Naming, Path, Rule, Rules, Settings};
 use lr_scripts::Command;
@@ -47,6 +51,17 @@ fn hindrance(stop: PrepareStop) -> Result<Fault, Memory>
     }
 }
 
+// The same of a log that doesn't stay.
+fn made_for(rule: &Rule, look: &LogLook) -> Make
+    ensures { result ≡ make_for rule.now look.now }
+{
+    if takes_up(rule, look) {
+        Make::No
+    } else {
+        made_with(rule.create, &look.seen)
+    }
+}
+
 // Whether the log is made anew, and with which mode: the one that is given, else the one that was seen.
 fn made_with(create: Make, seen: &Seen) -> Make
     ensures { result ≡ make_of create seen.now }
@@ -58,53 +73,61 @@ fn made_with(create: Make, seen: &Seen) -> Make
     }
 }
 
-// The rotation with the programs of its definition before each removal.
+// The rotation with the programs of its definition before each removal, of which a mail has the log's path as its subject.
 fn with_all_programs(
     alloc: Global,
     rule: &Rule,
     mailer: &Path,
+    log: &Path,
     ready: Ready,
 ) -> Result<Ready, Memory>
-    ensures { IfOk result (λ full. full ≡ dressed rule.now mailer.now ready) }
+    ensures { IfOk result (λ full. full ≡ dressed rule.now mailer.now log.now ready) }
 {
     let Ready {
         leftovers,
         dir,
         moves,
-        log,
+        log: from,
         target,
         make,
         retire,
     } = ready;
-    let leftovers = with_programs(alloc, rule, mailer, &log, leftovers)?;
-    let retire = with_programs(alloc, rule, mailer, &log, retire)?;
+    let leftovers = with_programs(alloc, rule, mailer, log, leftovers)?;
+    let retire = with_programs(alloc, rule, mailer, log, retire)?;
     Ok(Ready {
         leftovers,
         dir,
         moves,
-        log,
+        log: from,
         target,
         make,
         retire,
     })
 }
 
-// The rotation with the directory that it makes, if any.
+// The rotation of the file from where it stands, with the directory that it makes, if any.
 fn with_made_dir(alloc: Global, rule: &Rule, look: &LogLook, ready: Ready) -> Result<Ready, Memory>
-    ensures { IfOk result (λ made. made ≡ with_dir (dir_of rule.now look.now) ready) }
+    requires { length look.now.path ≤ 2048 }
+    ensures { IfOk result (λ made. made ≡ with_dir (dir_of rule.now look.now) (with_log (first_path rule.now.way look.now.path look.now.tmp) ready)) }
 {
     let mut ready = ready;
+    ready.log = first_path(alloc, rule, look)?;
     ready.dir = made_dir(alloc, rule, look)?;
     Ok(ready)
 }
 
-// How the members of the log's family are named, and what stands of it.
-fn copy_family(alloc: Global, look: &LogLook, stand: &Stand) -> Result<(Naming, Stand), Memory>
-    ensures { IfOk result (λ copy. (copy.0 ≡ look.now.family.naming) × (copy.1 ≡ stand.now)) }
+// The log's path, how the members of its family are named, and what stands of it.
+fn copy_family(
+    alloc: Global,
+    look: &LogLook,
+    stand: &Stand,
+) -> Result<(Path, Naming, Stand), Memory>
+    ensures { IfOk result (λ copy. (copy.0 ≡ look.now.path) × (copy.1 ≡ look.now.family.naming) × (copy.2 ≡ stand.now)) }
 {
+    let log = look.path.copy(alloc)?;
     let naming = look.family.naming().copy(alloc)?;
     let stand = stand.copy(alloc)?;
-    Ok((naming, stand))
+    Ok((log, naming, stand))
 }
 
 // The programs around the rotation of a log that goes to this path, and with `mailfirst` the mail of the file that was it.
@@ -136,20 +159,24 @@ fn scripted(
     stand: &Stand,
     ready: Ready,
     job: Option<Job>,
+    aside: Option<Path>,
 ) -> Result<LogPlan, Memory>
     requires stand { stand.now ≡ stand_for rule.now look.now }
     requires job { job ≡ job_by rule.now.way (standing rule.now look.now) ready.target }
+    requires aside { aside ≡ aside_by rule.now.way look.now.path look.now.tmp }
     ensures { IfOk result (λ plan. plan ≡ plan_with mailer.now rule.now (standing rule.now look.now) ready) }
 {
     let (pre, post, first_mail) = log_programs(alloc, rule, mailer, &look.path, &ready.target)?;
-    let ready = with_all_programs(alloc, rule, mailer, ready)?;
-    let (naming, stand) = copy_family(alloc, look, stand)?;
+    let ready = with_all_programs(alloc, rule, mailer, &look.path, ready)?;
+    let (log, naming, stand) = copy_family(alloc, look, stand)?;
     Ok(LogPlan {
+        log,
         pre,
         post,
         first_mail,
         ready,
         job,
+        aside,
         naming,
         count: rule.count,
         maxage: rule.maxage,
@@ -169,13 +196,60 @@ fn add_plan(
 ) -> Result<(), Memory>
     requires stand { stand.now ≡ stand_for rule.now look.now }
     requires short { length ready.target ≤ 4081 }
+    requires log { length look.now.path ≤ 2048 }
     ensures { OnOk result (plans.new.items ≡ plans.old.items
-        ++ plan_with mailer.now rule.now (standing rule.now look.now) (with_dir (dir_of rule.now look.now) ready) ∷ []) }
+        ++ plan_with mailer.now rule.now (standing rule.now look.now)
+        (with_dir (dir_of rule.now look.now) (with_log (first_path rule.now.way look.now.path look.now.tmp) ready)) ∷ []) }
 {
     let job = job_of(alloc, rule, look, stand, &ready.target)?;
+    let aside = aside_of(alloc, rule, look)?;
     let ready = with_made_dir(alloc, rule, look, ready)?;
-    plans.push(scripted(alloc, rule, mailer, look, stand, ready, job)?)?;
+    plans.push(scripted(alloc, rule, mailer, look, stand, ready, job, aside)?)?;
     Ok(())
+}
+
+// Tells of a log that is taken up.
+fn add_unfinished(
+    alloc: Global,
+    rule: &Rule,
+    look: &LogLook,
+    faults: &mut Vec<Fault>,
+) -> Result<(), Memory>
+    ensures { OnOk result (faults.new.items ≡ faults.old.items ++ unfinished rule.now.way look.now.path look.now.tmp) }
+{
+    if takes_up(rule, look) {
+        faults.push(Fault::Unfinished(look.path.copy(alloc)?))?;
+    }
+    Ok(())
+}
+
+// Adds the plan of a log whose rotation is ready, and that it is taken up, if it is; or that another thing stands where the log
+// is set aside to.
+fn add_ready(
+    alloc: Global,
+    rule: &Rule,
+    mailer: &Path,
+    look: &LogLook,
+    stand: &Stand,
+    ready: Ready,
+    plans: &mut Vec<LogPlan>,
+    faults: &mut Vec<Fault>,
+) -> Result<(), Memory>
+    requires stand { stand.now ≡ stand_for rule.now look.now }
+    requires short { length ready.target ≤ 4081 }
+    requires log { length look.now.path ≤ 2048 }
+    ensures plans { OnOk result (plans.new.items ≡ plans.old.items
+        ++ none_hinders (aside_hinders rule.now.way look.now.path look.now.tmp) (plan_with mailer.now rule.now (standing rule.now look.now)
+        (with_dir (dir_of rule.now look.now) (with_log (first_path rule.now.way look.now.path look.now.tmp) ready)) ∷ [])) }
+    ensures faults { OnOk result (faults.new.items ≡ faults.old.items
+        ++ or_else (aside_hinders rule.now.way look.now.path look.now.tmp) (unfinished rule.now.way look.now.path look.now.tmp)) }
+{
+    if aside_hinders(rule, look) {
+        faults.push(Fault::NotFile(aside_path(alloc, &look.path)?))?;
+        return Ok(());
+    }
+    add_unfinished(alloc, rule, look, faults)?;
+    add_plan(alloc, rule, mailer, look, stand, ready, plans)
 }
 
 // Makes the rotation of a log ready, where this stands of its family.
@@ -189,12 +263,12 @@ fn make_ready(
     requires count { IsCount rule.now.count }
     requires look { CanPlan (with_stand stand.now look.now) }
     ensures ready { IfOk result (λ ready. ready ≡ ready_of look.now.family.log look.now.family.naming rule.now.count rule.now.maxage
-        clock.entry.now (make_of rule.now.create look.now.seen) stand.now.members) }
+        clock.entry.now (make_for rule.now look.now) stand.now.members) }
     ensures short { IfOk result (λ ready. length ready.target ≤ 4081) }
     ensures free { OnOk result (what_hinders look.now.family.naming rule.now.count clock.entry.now stand.now ≡ []) }
     ensures hindered { IfErr result (IsHindered (what_hinders look.now.family.naming rule.now.count clock.entry.now stand.now)) }
 {
-    let anew = made_with(rule.create, &look.seen);
+    let anew = made_for(rule, look);
     prepare(
         alloc,
         &look.family,
@@ -221,10 +295,10 @@ fn add_standing(
     requires look { CanPlan look.now }
     requires stand { stand.now ≡ stand_for rule.now look.now }
     ensures plans { OnOk result (plans.new.items ≡ plans.old.items ++ plans_of clock.entry.now mailer.now rule.now look.now) }
-    ensures faults { OnOk result (faults.new.items ≡ faults.old.items ++ hindrances clock.entry.now rule.now look.now) }
+    ensures faults { OnOk result (faults.new.items ≡ faults.old.items ++ faults_of clock.entry.now rule.now look.now) }
 {
     match make_ready(alloc, rule, clock, look, stand) {
-        Ok(ready) => add_plan(alloc, rule, mailer, look, stand, ready, plans),
+        Ok(ready) => add_ready(alloc, rule, mailer, look, stand, ready, plans, faults),
         Err(stop) => {
             faults.push(hindrance(stop)?)?;
             Ok(())
@@ -245,7 +319,7 @@ fn add_due(
     requires count { IsCount rule.now.count }
     requires look { CanPlan look.now }
     ensures plans { OnOk result (plans.new.items ≡ plans.old.items ++ plans_of clock.entry.now mailer.now rule.now look.now) }
-    ensures faults { OnOk result (faults.new.items ≡ faults.old.items ++ hindrances clock.entry.now rule.now look.now) }
+    ensures faults { OnOk result (faults.new.items ≡ faults.old.items ++ faults_of clock.entry.now rule.now look.now) }
 {
     if makes_dir(rule, look) {
         let stand = empty_stand(alloc);
@@ -271,7 +345,7 @@ fn add_look(
     ensures plans { OnOk result (plans.new.items ≡ plans.old.items
         ++ where_due decided (plans_of clock.entry.now mailer.now rule.now look.now)) }
     ensures faults { OnOk result (faults.new.items ≡ faults.old.items
-        ++ where_due decided (hindrances clock.entry.now rule.now look.now)) }
+        ++ where_due decided (faults_of clock.entry.now rule.now look.now)) }
 {
     match decided {
         Due::Yes(_) => add_due(alloc, rule, mailer, clock, look, plans, faults),

@@ -5,7 +5,7 @@ use Rattle.lr_rules.specs.declared.fault.CallKind.{CallKind}
 use Rattle.lr_rules.specs.declared.fault.CallKind.TheVariants as call
 use Rattle.lr_rules.specs.declared.path.Path.{Path}
 use Rattle.lr_rules.specs.declared.rule.Naming.{Naming}
-use Rattle.lr_rules.specs.Names.{IsOwnName, a_member}
+use Rattle.lr_rules.specs.Names.{IsOwnName, a_member, aside_path}
 use Rattle.lr_stamps.proofs.StampShapes.{dated_shape}
 use Rattle.lr_host.specs.declared.entry.Entry.{Entry}
 use Rattle.lr_host.specs.Lists.{IsIn}
@@ -21,7 +21,7 @@ use Rattle.lr_family.specs.Looks.{ShowsTo}
 use Rattle.lr_family.specs.Parts.{IsMember, StopsBefore, ShowsNoParts}
 use Rattle.lr_family.specs.Spots.{HasPath, AreSpots}
 use Rattle.lr_family.proofs.Names.{placed_member}
-use Rattle.lr_looks.specs.Families.{FamilySight, Stood, Stopped, ShowsMembersIn, ShowsFamily, behind_listing, with_listing, not_listed, ShowFamilies, stop_fault, family_fault, family_faults}
+use Rattle.lr_looks.specs.Families.{FamilySight, Stood, Stopped, ShowsNoAside, ShowsMembersIn, ShowsFamily, behind_listing, with_listing, not_listed, ShowFamilies, stop_fault, family_fault, family_faults}
 use Rattle.lr_looks.specs.Found.{FoundLog, Hold}
 use Rattle.lr_laws_rotations.proofs.Outside.{place_name}
 use Rattle.lr_looks.specs.Reserved.{reserved_by}
@@ -77,10 +77,17 @@ module _ (state : Path) (f : FoundLog) (free : IsFreeLog (reserved_by state) f) 
   none_in true names why ts (inr (inr s)) = parts_none state f.log.naming names why s.1.back s.1.second
   none_in false names why ts h = absurd h
 
-  members_none : (l : Listing) (s : FamilySight) (ts : List Entry) → ShowsMembersIn f.log.naming l s ts → NoneEnds state (family_fault s)
-  members_none l (Stood stand) ts h = tt
+  -- a look where the log waits that is set aside, which failed, or no memory for its path
+  aside_none : (aside : Bool) (why : StandStop) (ts : List Entry) → ShowsNoAside aside f.log.path why ts → NoneEnds state (stop_fault why)
+  aside_none true why ts (inl is, none) = subst (λ (w : StandStop). NoneEnds state (stop_fault w)) (sym is) (looking_ends state call.Look (aside_path f.log.path) tt, tt)
+  aside_none true why ts (inr is, none) = memory_none why is
+  aside_none false why ts h = absurd h
+
+  members_none : (l : Listing) (s : FamilySight) (ts : List Entry) → ShowsMembersIn f.log.path f.log.naming l s ts → NoneEnds state (family_fault s)
+  members_none l (Stood stand tmp) ts h = tt
   members_none l (Stopped why) ts (inl h) = memory_none why h.0
-  members_none l (Stopped why) ts (inr h) = none_in l.there l.names why ts h
+  members_none l (Stopped why) ts (inr (inl h)) = none_in l.there l.names why ts h
+  members_none l (Stopped why) ts (inr (inr h)) = aside_none f.log.naming.aside why h.1.back h.1.second
 
   at_looks : (dir : Path) (k : CallKind) (path : Path) (ts : List Entry) → NotListedAt dir k path ts → IsLooking k
   at_looks dir call.Look path ts h = tt
@@ -92,7 +99,7 @@ module _ (state : Path) (f : FoundLog) (free : IsFreeLog (reserved_by state) f) 
   listed_none (stop.NotFile path) ts h = (free_ends state f path free (inr h.0), tt)
   listed_none stop.Memory ts h = tt
 
-  family_none : (known after : List Listing) (s : FamilySight) (ts : List Entry) → ShowsFamily known f.log.naming after s ts → NoneEnds state (family_fault s)
+  family_none : (known after : List Listing) (s : FamilySight) (ts : List Entry) → ShowsFamily known f.log.path f.log.naming after s ts → NoneEnds state (family_fault s)
   family_none known after s ts (behind_listing l was same m) = members_none l s ts m
   family_none known after s ts (with_listing l new e same t) = members_none l s t.back t.second
   family_none known after s ts (not_listed why new same e h) = subst (λ (x : FamilySight). NoneEnds state (family_fault x)) (sym e) (listed_none why ts h)

@@ -10,7 +10,8 @@ use Rattle.lr_host.specs.Lists.{IsIn}
 use Rattle.lr_family.specs.declared.family.Family.{Family}
 use Rattle.lr_kept.specs.declared.choice.Choice.{Choice}
 use Rattle.lr_kept.specs.declared.choice.Choice.TheVariants.{Kept, Again, MemberOf, Reserved, Meets}
-use Rattle.lr_looks.specs.Choices.{names_of, found_names, IsChoiceAmong, duplicate, overlap, barred, choice_fault, choice_faults, kept_of, is_file, kind_fault, where_file}
+use Rattle.lr_plan.specs.Planned.{is_file_kind}
+use Rattle.lr_looks.specs.Choices.{names_of, found_names, IsChoiceAmong, duplicate, overlap, barred, choice_fault, choice_faults, kept_of, kind_fault, where_file}
 use Rattle.lr_looks.specs.Found.{FoundLog, Hold}
 use Rattle.lr_looks.specs.Reserved.{reserved_by}
 use Rattle.lr_seen.proofs.Apart.{kept_each}
@@ -35,7 +36,7 @@ kept_free reserved found choices c = kept_each (IsFreeLog reserved) found choice
     (c.chosen.each k Kept kept).free p.0 (record { log = b.0; path = path; at_log = b.1; at_path = p.1; named = subst (HasPath path) (sym b.2) named }))
 
 where_files : (P : FoundLog → Type 0) (f : FoundLog) (fs : List FoundLog) → P f → Hold P fs → Hold P (where_file f ++ fs)
-where_files P f fs h hs = go (is_file f.seen.kind)
+where_files P f fs h hs = go (is_file_kind f.seen.kind)
   where
     go : (b : Bool) → Hold P (cond b (f ∷ []) [] ++ fs)
     go true = (h, hs)
@@ -83,7 +84,7 @@ choices_none state reserved all (f ∷ fs) [] = tt
 choices_none state reserved all (f ∷ fs) (c ∷ cs) = none_both state (choice_fault reserved all f c) (choice_faults reserved all fs cs) (choice_none state reserved all f c) (choices_none state reserved all fs cs)
 
 kind_none : (state : Path) (f : FoundLog) → IsFreeLog (reserved_by state) f → NoneEnds state (kind_fault f)
-kind_none state f free = go (is_file f.seen.kind)
+kind_none state f free = go (is_file_kind f.seen.kind)
   where
     go : (b : Bool) → NoneEnds state (cond b [] (fault.NotFile f.log.path ∷ []))
     go true = tt

@@ -1,24 +1,28 @@
 -- No fault of the looks is one that ends a run, and a directory that a plan lacks was missed by one of them.
-use Rattle.std.proofs.Common.{◌≡◌, inl, inr, ⊎_elim, ◌+◌, ℕ, Bool, true, false, cond, eqb, List, [], ◌∷◌, ◌++◌, None, refl, sym, ap, ◌∙◌, subst}
+use Rattle.std.proofs.Common.{◌≡◌, ◌≢◌, inl, inr, ⊎_elim, ◌+◌, ℕ, Bool, true, false, cond, eqb, List, [], ◌∷◌, ◌++◌, Some, None, refl, sym, ap, ◌∙◌, subst}
 use Rattle.std.specs.Prelude.{codes}
 use Rattle.std.specs.List.{flat_map, AllByRecursion}
 use Rattle.lr_rules.specs.declared.fault.Fault.{Fault}
 use Rattle.lr_rules.specs.declared.path.Path.{Path}
 use Rattle.lr_rules.specs.declared.rule.Rule.{Rule}
+use Rattle.lr_rules.specs.Names.{set_aside, aside_path, IsName}
 use Rattle.lr_rules.specs.Path.{parent_of}
+use Rattle.lr_host.specs.declared.thing.Seen.{Seen}
 use Rattle.lr_host.specs.declared.entry.Entry.{Entry}
 use Rattle.lr_host.specs.declared.entry.Entry.TheVariants as entry
 use Rattle.lr_host.specs.Lists.{IsIn}
 use Rattle.lr_host.proofs.Lists.{in_append, in_back, in_map}
 use Rattle.lr_plan.specs.declared.looks.LogLook.{LogLook}
 use Rattle.lr_plan.specs.declared.looks.SetLooks.{SetLooks}
+use Rattle.lr_looks.specs.declared.standing.Standing.{Standing}
 use Rattle.lr_looks.specs.Asked.{asked_by}
 use Rattle.lr_looks.specs.Choices.{choice_faults, kind_fault, kept_of}
-use Rattle.lr_looks.specs.Families.{LookedLog, looked_at, family_faults}
+use Rattle.lr_looks.specs.Families.{LookedLog, looked_at, looked_of, family_faults}
 use Rattle.lr_looks.specs.Found.{FoundLog, Hold}
 use Rattle.lr_looks.specs.Sets.{where_in, of_set, looked_in, HaveLooksFrom}
 use Rattle.lr_looks.specs.Shown.{ShowsLooks}
 use Rattle.lr_looks.specs.Reserved.{reserved_by}
+use Rattle.lr_seen.proofs.Aside.{SawAside, all_aside as aside_seen}
 use Rattle.lr_seen.proofs.Coming.{in_looked}
 use Rattle.lr_seen.proofs.Free.{HasNone}
 use Rattle.lr_seen.proofs.Kept.{kept_has_none}
@@ -28,7 +32,7 @@ use Rattle.lr_reached.proofs.Ends.{none_both}
 use Rattle.lr_reached.proofs.Families.{families_none}
 use Rattle.lr_reached.proofs.Gone.{IsGone, all_gone}
 use Rattle.lr_reached.proofs.Kept.{IsFreeLog, kept_free, files_hold, choices_none, kinds_none}
-use Rattle.lr_reached.proofs.Planned.{NoneMissed}
+use Rattle.lr_reached.proofs.Planned.{IsOffState, AllOffState, NoneMissed}
 use Rattle.lr_reached.proofs.Words.{words_none}
 
 -- ---- a log of the plan was looked at whole
@@ -58,24 +62,57 @@ module _ (state : Path) (rules : List Rule) (sets : List SetLooks) (faults : Lis
       (all_gone s.kept s.entries.second.listings s.entries.second.families.sights s.entries.back s.entries.second.families.shown (looked_in w.0 look)
       (subst (IsIn (looked_in w.0 look)) s.entries.second.families.looked_are w.1) there))
 
-  pub none_missed : (IsGone ts (parent_of state) → ⊥) → NoneMissed state sets
-  none_missed stands set look at i there is = stands (subst (IsGone ts) is (missed_gone set look at i there))
+  -- ---- a log of the plan, whose names are none that the run reserves
+
+  module _ (set : SetLooks) (look : LogLook) (at : IsIn set sets) (i : IsIn look set.logs) where
+    w : (n : ℕ) × IsIn (looked_in n look) s.looked
+    w = was_looked 0 s.looked sets set look s.by_sets at i
+
+    among : IsIn (looked_in w.0 look) (looked_of s.kept s.entries.second.families.sights)
+    among = subst (IsIn (looked_in w.0 look)) s.entries.second.families.looked_are w.1
+
+    f : (f : FoundLog) × IsIn f s.kept × ((t : Standing) × (looked_in w.0 look ≡ looked_at f t.stand t.tmp))
+    f = in_looked s.kept s.entries.second.families.sights (looked_in w.0 look) among
+
+    none : HasNone (reserved_by state) f.0
+    none = kept_has_none rules sets faults ts s f.0 f.1
+
+    name : {path : Path} → look.family.naming.dir ≡ path → path ≡ f.0.log.naming.dir
+    name e = sym e ∙ ap (λ (x : LookedLog). x.naming.dir) f.2.1
+
+    -- its family's directory is aside of the state
+    dir_aside : (look.family.naming.dir ≢ state) × (look.family.naming.dir ≢ state ++ codes ".tmp")
+    dir_aside = ((λ e. none state (inl refl) (inr (name e))), (λ e. none (state ++ codes ".tmp") (inr (inl refl)) (inr (name e))))
+
+    -- where something was seen at the path to which it is set aside, that is one of its names
+    beside_named : (seen : Seen) → look.tmp ≡ Some seen → {path : Path} → aside_path look.path ≡ path → IsName f.0.log.path f.0.log.naming path
+    beside_named seen is e = inl (set_aside (ap (λ (x : LookedLog). x.naming.aside) (sym f.2.1) ∙ on look.family.naming.aside refl saw) (sym e ∙ ap (λ (x : LookedLog). aside_path x.path) f.2.1))
+      where
+        saw : SawAside look.family.naming.aside look.path look.tmp s.entries.back
+        saw = aside_seen s.entries.back [] s.kept s.entries.second.listings s.entries.second.families.sights s.entries.back (λ e j. j) s.entries.second.families.shown (looked_in w.0 look) among
+
+        on : (b : Bool) → look.family.naming.aside ≡ b → SawAside b look.path look.tmp s.entries.back → look.family.naming.aside ≡ true
+        on true e h = e
+        on false e h = absurd (let both : Some seen ≡ None = sym is ∙ h in cc)
+
+    off : IsOffState state look
+    off = λ seen is. (
+      (λ e. none state (inl refl) (beside_named seen is e)),
+      λ e. none (state ++ codes ".tmp") (inr (inl refl)) (beside_named seen is e),
+    )
 
   -- the directories of the families are aside of the state
   pub all_aside : AreAside state sets
-  all_aside set look at i = ((λ e. none state (inl refl) (inr (name e))), (λ e. none (state ++ codes ".tmp") (inr (inl refl)) (inr (name e))))
-    where
-      w : (n : ℕ) × IsIn (looked_in n look) s.looked
-      w = was_looked 0 s.looked sets set look s.by_sets at i
+  all_aside = dir_aside
 
-      f : (f : FoundLog) × IsIn f s.kept × ((stand : _) × (looked_in w.0 look ≡ looked_at f stand))
-      f = in_looked s.kept s.entries.second.families.sights (looked_in w.0 look) (subst (IsIn (looked_in w.0 look)) s.entries.second.families.looked_are w.1)
+  pub all_off : AllOffState state sets
+  all_off = off
 
-      none : HasNone (reserved_by state) f.0
-      none = kept_has_none rules sets faults ts s f.0 f.1
-
-      name : {path : Path} → look.family.naming.dir ≡ path → path ≡ f.0.log.naming.dir
-      name e = sym e ∙ ap (λ (x : LookedLog). x.naming.dir) f.2.1
+  pub none_missed : (IsGone ts (parent_of state) → ⊥) → NoneMissed state sets
+  none_missed stands set look at i = record {
+    dir = λ there is. stands (subst (IsGone ts) is (missed_gone set look at i there));
+    beside = off set look at i;
+  }
 
   free : AllByRecursion (IsFreeLog (reserved_by state)) (kept_of s.found s.keeps.choices)
   free = kept_free (reserved_by state) s.found s.keeps.choices s.keeps.chosen

@@ -12,19 +12,20 @@ use Rattle.lr_rules.specs.Path.{parent_of}
 use Rattle.lr_due.specs.declared.answer.Due.{Due}
 use Rattle.lr_due.specs.declared.answer.Due.TheVariants as due
 use Rattle.lr_host.specs.declared.entry.Entry.{Entry}
+use Rattle.lr_host.specs.Lists.{IsIn}
 use Rattle.lr_state.specs.Table.{Entry as Row}
 use Rattle.lr_looks.specs.Found.{paths_of}
 use Rattle.lr_plan.specs.Asked.{Asked}
 use Rattle.lr_plan.specs.declared.looks.LogLook.{LogLook}
 use Rattle.lr_plan.specs.declared.looks.SetLooks.{SetLooks}
 use Rattle.lr_plan.specs.declared.plan.Plan.{Plan}
-use Rattle.lr_plan.specs.Planned.{hindrances, where_due, log_faults, all_faults, decision}
+use Rattle.lr_plan.specs.Planned.{faults_of, where_due, log_faults, all_faults, decision}
 use Rattle.lr_run.specs.Dry.{Follows, Plans, PlansBy, unknown, known, Tries, unseen, not_directory, by_none, by_state}
 use Rattle.lr_reached.specs.Ending.{EndsRun, NoneEnds}
 use Rattle.lr_reached.specs.Tried.{EndsTry, NoneEndsTry, MayEndTry, SaysWhyTry}
 use Rattle.lr_reached.proofs.Known.{state_why}
-use Rattle.lr_reached.proofs.Looked.{looks_none}
-use Rattle.lr_reached.proofs.Planned.{hindered_by}
+use Rattle.lr_reached.proofs.Looked.{looks_none, all_off}
+use Rattle.lr_reached.proofs.Planned.{IsOffState, AllOffState, hindered_by}
 
 -- ---- faults
 
@@ -80,22 +81,25 @@ try_both state (x ∷ xs) ys a b = (a.0, try_both state xs ys a.1 b)
 
 -- ---- those of a plan
 
-hindered_try : (state : Path) (clock : Clock) (rule : Rule) (look : LogLook) → NoneEndsTry state (hindrances clock rule look)
-hindered_try state clock rule look = hindered_by (NoneEndsTry state) clock rule look tt (λ path. ((λ e. e), tt)) (λ path. ((λ e. e), tt)) (λ there. ((λ e. e), tt))
+hindered_try : (state : Path) (clock : Clock) (rule : Rule) (look : LogLook) → IsOffState state look → NoneEndsTry state (faults_of clock rule look)
+hindered_try state clock rule look beside = hindered_by (NoneEndsTry state) clock rule look tt (λ path. ((λ e. e), tt)) (λ path. ((λ e. e), tt)) (λ there. ((λ e. e), tt))
+    (λ seen is. (⊎_elim (beside seen is).0 (beside seen is).1, tt)) ((λ e. e), tt)
 
 due_try : (state : Path) (d : Due) (fs : List Fault) → NoneEndsTry state fs → NoneEndsTry state (where_due d fs)
 due_try state (due.Yes why) fs h = h
 due_try state (due.No why) fs h = tt
 
-logs_try : (state : Path) (clock : Clock) (rule : Rule) (decide : LogLook → Due) (looks : List LogLook) → NoneEndsTry state (log_faults clock rule decide looks)
-logs_try state clock rule decide [] = tt
-logs_try state clock rule decide (l ∷ ls) = try_both state (where_due (decide l) (hindrances clock rule l)) (log_faults clock rule decide ls) (due_try state (decide l) (hindrances clock rule l) (hindered_try state clock rule l)) (logs_try state clock rule decide ls)
+logs_try : (state : Path) (clock : Clock) (rule : Rule) (decide : LogLook → Due) (looks : List LogLook) → ((look : LogLook) → IsIn look looks → IsOffState state look) → NoneEndsTry state (log_faults clock rule decide looks)
+logs_try state clock rule decide [] off = tt
+logs_try state clock rule decide (l ∷ ls) off = try_both state (where_due (decide l) (faults_of clock rule l)) (log_faults clock rule decide ls)
+    (due_try state (decide l) (faults_of clock rule l) (hindered_try state clock rule l (off l (inl refl)))) (logs_try state clock rule decide ls (λ look i. off look (inr i)))
 
-plan_try : (state : Path) (clock : Clock) (decide : Rule → LogLook → Due) (rules : List Rule) (sets : List SetLooks) → NoneEndsTry state (all_faults clock decide rules sets)
-plan_try state clock decide [] [] = tt
-plan_try state clock decide [] (s ∷ ss) = tt
-plan_try state clock decide (r ∷ rs) [] = tt
-plan_try state clock decide (r ∷ rs) (s ∷ ss) = try_both state (log_faults clock r (decide r) s.logs) (all_faults clock decide rs ss) (logs_try state clock r (decide r) s.logs) (plan_try state clock decide rs ss)
+plan_try : (state : Path) (clock : Clock) (decide : Rule → LogLook → Due) (rules : List Rule) (sets : List SetLooks) → AllOffState state sets → NoneEndsTry state (all_faults clock decide rules sets)
+plan_try state clock decide [] [] off = tt
+plan_try state clock decide [] (s ∷ ss) off = tt
+plan_try state clock decide (r ∷ rs) [] off = tt
+plan_try state clock decide (r ∷ rs) (s ∷ ss) off = try_both state (log_faults clock r (decide r) s.logs) (all_faults clock decide rs ss)
+    (logs_try state clock r (decide r) s.logs (λ look i. off s look (inl refl) i)) (plan_try state clock decide rs ss (λ set look at i. off set look (inr at) i))
 
 -- ---- the run
 
@@ -103,13 +107,13 @@ plan_try state clock decide (r ∷ rs) (s ∷ ss) = try_both state (log_faults c
 abbrev IsNone : Option Plan → Type 0
 IsNone plan = plan ≡ None
 
-follows_try : (state : Path) (rules : List Rule) (sets : List SetLooks) (kept : List Path) (table : List Row) (clock : Clock) (asked : Asked) (plan : Option Plan) (own : List Fault) → Follows rules sets kept table clock asked plan own → (IsNone plan → ⊥) → NoneEndsTry state own
-follows_try state rules sets kept table clock asked (Some p) own f some = subst (NoneEndsTry state) (sym (f.2 ∙ ap (λ (q : Plan). q.faults) f.1)) (plan_try state clock (decision table clock.now asked.force) rules sets)
-follows_try state rules sets kept table clock asked None own f some = absurd (some refl)
+follows_try : (state : Path) (rules : List Rule) (sets : List SetLooks) (kept : List Path) (table : List Row) (clock : Clock) (asked : Asked) (plan : Option Plan) (own : List Fault) → AllOffState state sets → Follows rules sets kept table clock asked plan own → (IsNone plan → ⊥) → NoneEndsTry state own
+follows_try state rules sets kept table clock asked (Some p) own off f some = subst (NoneEndsTry state) (sym (f.2 ∙ ap (λ (q : Plan). q.faults) f.1)) (plan_try state clock (decision table clock.now asked.force) rules sets off)
+follows_try state rules sets kept table clock asked None own off f some = absurd (some refl)
 
 plans_try : (state : Path) (rules : Rules) (table : List Row) (clock : Clock) (asked : Asked) (plan : Option Plan) (own : List Fault) (ts : List Entry) → Plans state rules.sets table clock asked plan own ts → (IsNone plan → ⊥) → NoneEndsTry state own
 plans_try state rules table clock asked plan own ts p some = subst (NoneEndsTry state) (sym p.faults_are)
-    (try_both state p.of_looks p.of_plan (none_try state p.of_looks (looks_none state rules.sets p.sets p.of_looks ts p.shown)) (follows_try state rules.sets p.sets (paths_of p.shown.kept) table clock asked plan p.of_plan p.follows some))
+    (try_both state p.of_looks p.of_plan (none_try state p.of_looks (looks_none state rules.sets p.sets p.of_looks ts p.shown)) (follows_try state rules.sets p.sets (paths_of p.shown.kept) table clock asked plan p.of_plan (all_off state rules.sets p.sets p.of_looks ts p.shown) p.follows some))
 
 pub reached_try : (state : Path) (clock : Clock) (asked : Asked) (rules : Rules) (plan : Option Plan) (own : List Fault) (ts : List Entry) → Tries state rules.sets clock asked plan own ts → (IsNone plan → ⊥) → NoneEndsTry state own
 reached_try state clock asked rules plan own ts (unseen lost is none) some = absurd (some lost)

@@ -22,7 +22,7 @@ use Rattle.lr_plan.specs.declared.step.Step.{Step}
 use Rattle.lr_plan.specs.declared.step.Step.TheVariants as step
 use Rattle.lr_plan.specs.Course.{Course}
 use Rattle.lr_plan.specs.Done.{EachDone, LogsDone, SetDone, broke_off, went_on, SetsDone, is_rotated}
-use Rattle.lr_plan.specs.Steps.{on_of, program, removal, removals, directory, move, copy, transfer, made_anew, rotation_of, retirement_of, steps_of_log, shared_steps, by_logs, steps_of_set}
+use Rattle.lr_plan.specs.Steps.{on_of, program, removal, removals, directory, move, copy, transfer, anew, made_anew, finishing, rotation_of, retirement_of, steps_of_log, shared_steps, by_logs, steps_of_set}
 use Rattle.lr_acts.specs.Making.{all_of_each, all_of_set, all_of_sets}
 
 -- each course of a definition is so
@@ -147,22 +147,34 @@ module _ (Q : List Step → Type 0) (none : Q []) (on : (xs ys : List Step) → 
   all_moved [] = none
   all_moved (m ∷ ms) = on (move m ∷ []) (map move ms) (single (move m) tt) (all_moved ms)
 
-  a_transfer : (log target : Path) (job : Option Job) → ((j : Job) → job ≡ Some j → Q (copy j)) → Q (transfer log target job)
-  a_transfer log target None q = single (step.Renames log target) tt
-  a_transfer log target (Some job) q = q job refl
+  a_transfer : (log target : Path) (job : Option Job) (aside : Option Path) → ((j : Job) → job ≡ Some j → Q (copy j)) → Q (transfer log target job aside)
+  a_transfer log target None aside q = single (step.Renames log target) tt
+  a_transfer log target (Some job) None q = q job refl
+  a_transfer log target (Some job) (Some path) q = on (step.SyncsDir job.dir ∷ []) (step.Renames log path ∷ []) (single (step.SyncsDir job.dir) tt) (single (step.Renames log path) tt)
 
-  anew : (m : Make) (log : Path) (job : Option Job) → Q (made_anew m log job)
-  anew make.No log None = none
-  anew (make.Yes mode) log None = single (step.Creates log mode) tt
-  anew m log (Some job) = none
+  a_making : (m : Make) (log : Path) → Q (anew m log)
+  a_making make.No log = none
+  a_making (make.Yes mode) log = single (step.Creates log mode) tt
+
+  made : (m : Make) (log : Path) (job : Option Job) (aside : Option Path) → Q (made_anew m log job aside)
+  made m log None aside = a_making m log
+  made m log (Some job) None = none
+  made m log (Some job) (Some path) = a_making m log
+
+  a_finishing : (job : Option Job) (aside : Option Path) → ((j : Job) → job ≡ Some j → Q (copy j)) → Q (finishing job aside)
+  a_finishing None aside q = none
+  a_finishing (Some job) None q = none
+  a_finishing (Some job) (Some path) q = on (copy job) (step.Removes path ∷ []) (q job refl) (single (step.Removes path) tt)
 
   pub a_rotation : (l : LogPlan) → ((job : Job) → l.job ≡ Some job → Q (copy job)) → Q (rotation_of l)
   a_rotation l q =
       on (removals l.ready.leftovers) _ (all_removed l.ready.leftovers)
       (on (directory l.ready.dir) _ (a_directory l.ready.dir)
       (on (map move l.ready.moves) _ (all_moved l.ready.moves)
-      (on (transfer l.ready.log l.ready.target l.job) _ (a_transfer l.ready.log l.ready.target l.job q)
-      (on (step.Rotated l.ready.log ∷ []) (made_anew l.ready.make l.ready.log l.job) (single (step.Rotated l.ready.log) tt) (anew l.ready.make l.ready.log l.job)))))
+      (on (transfer l.ready.log l.ready.target l.job l.aside) _ (a_transfer l.ready.log l.ready.target l.job l.aside q)
+      (on (step.Rotated l.log ∷ []) (made_anew l.ready.make l.log l.job l.aside) (single (step.Rotated l.log) tt) (made l.ready.make l.log l.job l.aside)))))
 
-  pub a_retirement : (l : LogPlan) → Q (retirement_of l)
-  a_retirement l = on (program phase.Mail l.first_mail) (removals l.ready.retire) (a_program phase.Mail l.first_mail) (all_removed l.ready.retire)
+  pub a_retirement : (l : LogPlan) → ((job : Job) → l.job ≡ Some job → Q (copy job)) → Q (retirement_of l)
+  a_retirement l q =
+      on (finishing l.job l.aside) _ (a_finishing l.job l.aside q)
+      (on (program phase.Mail l.first_mail) (removals l.ready.retire) (a_program phase.Mail l.first_mail) (all_removed l.ready.retire))

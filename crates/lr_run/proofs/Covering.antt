@@ -28,6 +28,7 @@ use Rattle.lr_laws_targets.specs.Own.{MakesItsDir, IsOfFamily}
 use Rattle.lr_laws_targets.specs.Seen.{IsLogSeen}
 use Rattle.lr_laws_targets.specs.Target.{Target, IsReadyBy}
 use Rattle.lr_laws_targets.proofs.LogSeen.{any_names}
+use Rattle.lr_laws_targets.proofs.Waiting.{parent_same}
 use Rattle.lr_laws_targets.proofs.Own.{target_member, family_change, any_change}
 use Rattle.lr_laws_targets.proofs.PartFile.{member_parent, part_parent}
 use Rattle.lr_looks.specs.Reserved.{reserved_by}
@@ -75,9 +76,9 @@ of_changes R (e ∷ ts) calm tools a = go (is_change e) refl (λ a. of_changes R
 
 -- ---- the paths of a rotation
 
--- each path whose name the entry changes is the directory that the rotation makes, the log's, or one in the family's directory
+-- each path whose name the entry changes is the directory that the rotation makes, or one in the log's directory or the family's
 abbrev pub IsOnTarget : Target → Entry → Type 0
-IsOnTarget t e = (x : Path) → IsIn x (renamed_paths e) → IsItsDir t x ⊎ ((x ≡ t.log) ⊎ (parent_of x ≡ t.naming.dir))
+IsOnTarget t e = (x : Path) → IsIn x (renamed_paths e) → IsItsDir t x ⊎ ((parent_of x ≡ parent_of t.log) ⊎ (parent_of x ≡ t.naming.dir))
 
 -- where the entry makes that directory
 makes_on : (t : Target) (y : Path) (mode : Option ℕ) → IsItsDir t y → IsOnTarget t (entry.MakesDir y mode)
@@ -91,10 +92,11 @@ makes_its_on t _ none x i = absurd none
 all_on : (t : Target) → HasNames t → (e : Entry) → IsOf t e → IsOnTarget t e
 all_on t h e i = ⊎_elim (λ changes x j. inr (go x (changes x (renamed_changed e x j)))) (λ makes. makes_its_on t e makes) (family_change t e h i)
   where
-    go : (x : Path) → IsOfFamily t.log t.naming x → (x ≡ t.log) ⊎ (parent_of x ≡ t.naming.dir)
-    go x (inl is) = inl is
+    go : (x : Path) → IsOfFamily t.log t.naming x → (parent_of x ≡ parent_of t.log) ⊎ (parent_of x ≡ t.naming.dir)
+    go x (inl is) = inl (ap parent_of is)
     go x (inr (inl m)) = inr (member_parent t.log t.naming h.family x m)
-    go x (inr (inr p)) = inr (ap parent_of p.2 ∙ part_parent t.log t.naming h.family p.0 p.1)
+    go x (inr (inr (inl p))) = inr (ap parent_of p.2 ∙ part_parent t.log t.naming h.family p.0 p.1)
+    go x (inr (inr (inr beside))) = inl (ap parent_of beside.1 ∙ parent_same t.log)
 
 -- ---- leftovers
 
@@ -106,8 +108,8 @@ none_first (Some format) log n c maxage clock anew = refl
 no_leftovers : (clock : Clock) (t : Target) → IsReadyBy clock t → t.stand.members ≡ [] → t.ready.leftovers ≡ []
 no_leftovers clock t ready none =
     ap (λ (r : Ready). r.leftovers) ready
-    ∙ (ap (λ (ms : List Member). (ready_of t.log t.naming t.count t.maxage clock t.ready.make ms).leftovers) none
-    ∙ none_first t.naming.dated t.log t.naming t.count t.maxage clock t.ready.make)
+    ∙ (ap (λ (ms : List Member). (ready_of t.ready.log t.naming t.count t.maxage clock t.ready.make ms).leftovers) none
+    ∙ none_first t.naming.dated t.ready.log t.naming t.count t.maxage clock t.ready.make)
 
 -- ---- where they stand
 

@@ -45,7 +45,7 @@ use Rattle.lr_looks.specs.Families.{LookedLog}
 use Rattle.lr_looks.specs.Choices.{kept_of}
 use Rattle.lr_looks.specs.Sets.{looked_in}
 use Rattle.lr_looks.specs.Shown.{ShowsLooks}
-use Rattle.lr_laws_targets.specs.Target.{Target, IsJob}
+use Rattle.lr_laws_targets.specs.Target.{Target, IsJob, HasWay, source_by, source_of}
 use Rattle.lr_laws_targets.specs.Seen.{IsLogSeen, AreLogsSeen}
 use Rattle.lr_laws_targets.proofs.CallsFit.{log_paths}
 use Rattle.lr_laws_targets.proofs.LogSeen.{any_names}
@@ -161,15 +161,24 @@ seen_one rules clock looks t [] s i = absurd i
 seen_one rules clock looks t (u ∷ us) s (inl e) = subst (IsLogSeen rules clock looks) e s.0
 seen_one rules clock looks t (u ∷ us) s (inr i) = seen_one rules clock looks t us s.1 i
 
+-- a log that is emptied behind its copy was copied where it stands
+cut_source : (t : Target) (job : Job) → HasWay t → t.job ≡ Some job → job.cut ≡ true → source_of t ≡ t.log
+cut_source t job (inl stays) is cut = ap (λ (a : Option Path). source_by a t.ready.log) stays.aside_is ∙ stays.first_is
+cut_source t job (inr (asked, inl aside)) is cut = absurd (let same : Some aside.job ≡ Some job = sym aside.job_is ∙ is in clash aside.job job same aside.uncut cut)
+  where
+    clash : (a b : Job) → Some a ≡ Some b → a.cut ≡ false → b.cut ≡ true → ⊥
+    clash a b same p q = cc
+cut_source t job (inr (asked, inr taken)) is cut = absurd (let none : None ≡ Some job = sym taken.no_job ∙ is in cc)
+
 -- a copy of a plan that empties its log is one that a rule asks for
 is_copy : {reserved : List Path} (rules : Rules) (sets : List SetLooks) (faults : List Fault) (ts : List Entry) (clock : Clock) (mailer : Path) (decide : Rule → LogLook → Due) → AreMade ts → ShowsLooks reserved rules.sets sets faults ts
     → (job : Job) → IsIn job (jobs_of (all_plans clock mailer decide rules.sets sets)) → job.cut ≡ true → IsCopyBy rules.sets clock job
 is_copy rules sets faults ts clock mailer decide made s job i cut = record {
   rule = r.rule;
   among = r.among;
-  given = subst (RuleGives r.rule) (sym j.from_is) r.given;
+  given = subst (RuleGives r.rule) (sym from_log) r.given;
   way_is = cut_way r.rule r.look t.ready.target job (r.job_is ∙ o.is) cut;
-  newest = subst (λ (log : Path). IsNewest (naming_of r.rule log) clock job.to) (sym j.from_is) (subst (λ (n : Naming). IsNewest n clock job.to) (sym r.naming_is) newest);
+  newest = subst (λ (log : Path). IsNewest (naming_of r.rule log) clock job.to) (sym from_log) (subst (λ (n : Naming). IsNewest n clock job.to) (sym r.naming_is) newest);
   part_is = j.part_is;
   paths = log_paths rules clock ts t seen job o.is;
   cut = cut;
@@ -189,6 +198,10 @@ is_copy rules sets faults ts clock mailer decide made s job i cut = record {
 
     j : IsJob t job
     j = (seen.job job o.is).0
+
+    -- and what is emptied behind it is the log
+    from_log : job.from ≡ t.log
+    from_log = j.from_is ∙ cut_source t job (any_names rules clock ts t seen).way o.is cut
 
     -- the copy goes where the log would go
     newest : IsNewest t.naming clock job.to

@@ -54,9 +54,9 @@ covered_by : (t : Target) (changed more to_make later : List Path) → IsCovered
 covered_by t changed more to_make later c = record { log = in_back t.log changed more c.log; target = in_back t.ready.target changed more c.target; dir = λ x i. in_back x to_make later (c.dir x i) }
 
 -- by its plan
-covered_own : (t : Target) (log : LogPlan) → IsReadyFor t log → IsCovered (log.ready.log ∷ log.ready.target ∷ []) (made_of log.ready.dir) t
+covered_own : (t : Target) (log : LogPlan) → IsReadyFor t log → IsCovered (log.log ∷ log.ready.target ∷ []) (made_of log.ready.dir) t
 covered_own t log r = record {
-  log = inl (ap (λ (x : Ready). x.log) r.ready_is ∙ r.log_is);
+  log = inl r.log_is;
   target = inr (inl (ap (λ (x : Ready). x.target) r.ready_is));
   dir = λ x i. subst (λ (d : Option (Path × Option ℕ)). IsIn x (made_of d)) (sym (dir_is t log r ∙ i.1)) (inl refl);
 }
@@ -64,8 +64,8 @@ covered_own t log r = record {
 covered_log : (t : Target) (ts : List Target) (logs : List LogPlan) → AreReadyFor ts logs → IsIn t ts → IsCovered (changed_of logs) (to_make_of logs) t
 covered_log t [] logs r i = absurd i
 covered_log t (u ∷ us) [] r i = absurd r
-covered_log t (u ∷ us) (l ∷ ls) r (inl e) = covered_in t (l.ready.log ∷ l.ready.target ∷ []) (changed_of ls) (made_of l.ready.dir) (to_make_of ls) (subst (IsCovered (l.ready.log ∷ l.ready.target ∷ []) (made_of l.ready.dir)) e (covered_own u l r.0))
-covered_log t (u ∷ us) (l ∷ ls) r (inr i) = covered_by t (l.ready.log ∷ l.ready.target ∷ []) (changed_of ls) (made_of l.ready.dir) (to_make_of ls) (covered_log t us ls r.1 i)
+covered_log t (u ∷ us) (l ∷ ls) r (inl e) = covered_in t (l.log ∷ l.ready.target ∷ []) (changed_of ls) (made_of l.ready.dir) (to_make_of ls) (subst (IsCovered (l.log ∷ l.ready.target ∷ []) (made_of l.ready.dir)) e (covered_own u l r.0))
+covered_log t (u ∷ us) (l ∷ ls) r (inr i) = covered_by t (l.log ∷ l.ready.target ∷ []) (changed_of ls) (made_of l.ready.dir) (to_make_of ls) (covered_log t us ls r.1 i)
 
 covered : (t : Target) (groups : List (List Target)) (sets : List SetPlan) → HaveLogs groups sets → IsIn t (flat_map (λ ts. ts) groups) → IsCovered (all_changed_of sets) (all_to_make_of sets) t
 covered t [] sets h i = absurd i
@@ -148,13 +148,14 @@ module _ (sets : List SetPlan) where
       c : IsCovered (all_changed_of sets) (all_to_make_of sets) t
       c = covered t groups sets logs i
 
-      at_log : (marks : List Mark) (x : Path) → x ≡ t.log → IsSyncedAt marks x
-      at_log marks x is = subst (IsSyncedAt marks) (sym is) (record {
+      at_log : (marks : List Mark) (x : Path) → parent_of x ≡ parent_of t.log → IsSyncedAt marks x
+      at_log marks x is = record {
         path = t.log;
         touched = inl c.log;
-        beside = refl;
-        made = other_isnt (all_to_make_of sets) (made_in marks) (parent_of t.log) (stands (parent_of t.log) (says_own rules clock looks t (valid t i) l));
-      })
+        beside = sym is;
+        made = subst (λ (d : Path). is_unmade (all_to_make_of sets) (made_in marks) d ≡ false) (sym is)
+            (other_isnt (all_to_make_of sets) (made_in marks) (parent_of t.log) (stands (parent_of t.log) (says_own rules clock looks t (valid t i) l)));
+      }
 
       in_dir : (marks : List Mark) (x : Path) → parent_of x ≡ t.naming.dir → is_unmade (all_to_make_of sets) (made_in marks) t.naming.dir ≡ false → IsSyncedAt marks x
       in_dir marks x is made = record { path = t.ready.target; touched = inl c.target; beside = placed.target ∙ sym is; made = subst (λ (d : Path). is_unmade (all_to_make_of sets) (made_in marks) d ≡ false) (sym is) made }

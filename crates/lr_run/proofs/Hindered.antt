@@ -43,11 +43,13 @@ use Rattle.lr_plan.specs.declared.looks.SetLooks.{SetLooks}
 use Rattle.lr_plan.specs.declared.mark.Mark.{Mark}
 use Rattle.lr_plan.specs.Course.{Course}
 use Rattle.lr_plan.specs.Done.{SetsDone}
-use Rattle.lr_plan.specs.Planned.{is_made, dir_is_log, makes_dir, empty_stand, stand_for, hindrances, where_due, log_faults, all_faults, all_plans}
+use Rattle.lr_plan.specs.Planned.{is_made, dir_is_log, makes_dir, empty_stand, stand_for, faults_of, where_due, log_faults, all_faults, all_plans}
+use Rattle.lr_seen.proofs.Hindrances.{faults_so, free_of_members}
 use Rattle.lr_plan.specs.Steps.{steps_of_set, state_steps}
 use Rattle.lr_acts.specs.Named.{IsNamed}
 use Rattle.lr_acts.specs.Taken.{Spares, WasTaken}
 use Rattle.lr_acts.proofs.Taking.{taken_now, taken_before}
+use Rattle.lr_looks.specs.declared.standing.Standing.{Standing}
 use Rattle.lr_looks.specs.Families.{LookedLog, looked_at, looked_of}
 use Rattle.lr_looks.specs.Found.{FoundLog}
 use Rattle.lr_looks.specs.Sets.{looked_in}
@@ -168,7 +170,7 @@ record IsHindered (clock : Clock) (rules : List Rule) (sets : List SetLooks) (pa
   look : LogLook
   at_set : slice_get sets place ≡ Some set
   among : IsIn look set.logs
-  fault_in : IsIn (fault.Taken path) (hindrances clock rule look)
+  fault_in : IsIn (fault.Taken path) (what_hinders look.family.naming rule.count clock (stand_for rule look))
 
 in_due : (d : Due) (fs : List Fault) (f : Fault) → IsIn f (where_due d fs) → IsIn f fs
 in_due (due.Yes why) fs f i = i
@@ -180,10 +182,15 @@ hindered_by clock decide [] (set ∷ sets) path i = absurd i
 hindered_by clock decide (rule ∷ rules) [] path i = absurd i
 hindered_by clock decide (rule ∷ rules) (set ∷ sets) path i = ⊎_elim own (λ b. further (hindered_by clock decide rules sets path b)) (in_append (fault.Taken path) (log_faults clock rule (decide rule) set.logs) (all_faults clock decide rules sets) i)
   where
+    -- neither another thing nor a log that is taken up is such a fault
+    by_members : (look : LogLook) → IsIn (fault.Taken path) (faults_of clock rule look) → IsIn (fault.Taken path) (what_hinders look.family.naming rule.count clock (stand_for rule look))
+    by_members look = faults_so (λ fs. IsIn (fault.Taken path) fs → IsIn (fault.Taken path) (what_hinders look.family.naming rule.count clock (stand_for rule look))) clock rule look
+        (λ i. absurd i) (λ seen is i. ⊎_elim (λ e. absurd (cc)) (λ none. absurd none) i) (λ i. ⊎_elim (λ e. absurd (cc)) (λ none. absurd none) i) (λ i. i)
+
     own : IsIn (fault.Taken path) (log_faults clock rule (decide rule) set.logs) → IsHindered clock (rule ∷ rules) (set ∷ sets) path
     own a =
-        let r = in_flat (λ (look : LogLook). where_due (decide rule look) (hindrances clock rule look)) set.logs (fault.Taken path) a in
-        record { place = 0; rule = rule; set = set; look = r.0; at_set = refl; among = r.1; fault_in = in_due (decide rule r.0) (hindrances clock rule r.0) (fault.Taken path) r.2 }
+        let r = in_flat (λ (look : LogLook). where_due (decide rule look) (faults_of clock rule look)) set.logs (fault.Taken path) a in
+        record { place = 0; rule = rule; set = set; look = r.0; at_set = refl; among = r.1; fault_in = by_members r.0 (in_due (decide rule r.0) (faults_of clock rule r.0) (fault.Taken path) r.2) }
 
     further : IsHindered clock rules sets path → IsHindered clock (rule ∷ rules) (set ∷ sets) path
     further h = record { place = suc h.place; rule = h.rule; set = h.set; look = h.look; at_set = h.at_set; among = h.among; fault_in = h.fault_in }
@@ -263,7 +270,7 @@ module _ (state : Path) (rules : Rules) (sets : List SetLooks) (faults : List Fa
   own : IsOwnName h.look.path n path
   own = member_own h.look.path n path (inr day)
 
-  kept : (f : FoundLog) × IsIn f s.kept × ((stand : Stand) × (x ≡ looked_at f stand))
+  kept : (f : FoundLog) × IsIn f s.kept × ((w : Standing) × (x ≡ looked_at f w.stand w.tmp))
   kept = in_looked s.kept s.entries.second.families.sights x in_sights
 
   day_kept : IsDated kept.0.log.naming path
@@ -300,7 +307,7 @@ module _ (state : Path) (rules : Rules) (sets : List SetLooks) (faults : List Fa
           let moved : IsIn (fault.Taken path) (what_hinders m h.rule.count clock c.look.stand) = subst (λ (z : LookedLog). IsIn (fault.Taken path) (what_hinders z.naming h.rule.count clock z.stand)) (sym is) fault_of_stand in
           let there = (in_hindrances m h.rule.count clock c.look.stand path moved).1.there in
           let standing_so = subst (λ (stand : Stand). IsIn (fault.Taken path) (what_hinders m h.rule.count clock stand)) (sym (stands_as_seen c.rule c.look there)) moved in
-          let none : IsIn (fault.Taken path) [] = subst (IsIn (fault.Taken path)) (same_hindrances format.0 m h.rule.count c.rule.count clock (stand_for c.rule c.look) dated ∙ c.free) standing_so in none
+          let none : IsIn (fault.Taken path) [] = subst (IsIn (fault.Taken path)) (same_hindrances format.0 m h.rule.count c.rule.count clock (stand_for c.rule c.look) dated ∙ free_of_members clock c.rule c.look c.free) standing_so in none
 
   -- so the acts spare it
   acts_spare : (mailer : Path) (stale : Bool) (dirs : List Path) (text : List ℕ) (marks : List Mark) (of_plan of_state : List Fault) (ts : List Entry)

@@ -19,7 +19,7 @@ use Rattle.lr_plan.specs.declared.plan.LogPlan.{LogPlan}
 use Rattle.lr_plan.specs.declared.plan.SetPlan.{SetPlan}
 use Rattle.lr_plan.specs.declared.step.Step.{Step}
 use Rattle.lr_plan.specs.declared.step.Step.TheVariants as step
-use Rattle.lr_plan.specs.Steps.{on_of, program, removal, removals, directory, move, step_if, copy, transfer, made_anew, rotation_of, retirement_of, steps_of_log, shared_steps, by_logs, steps_of_set}
+use Rattle.lr_plan.specs.Steps.{on_of, program, removal, removals, directory, move, step_if, copy, transfer, anew, made_anew, finishing, rotation_of, retirement_of, steps_of_log, shared_steps, by_logs, steps_of_set}
 use Rattle.lr_acts.specs.Making.{all_of_each, all_of_set, all_of_sets}
 use Rattle.lr_acts.specs.Named.{KeepName, CreatesAt, OneCreates, LastsBehind}
 use Rattle.lr_laws_targets.specs.Target.{Target}
@@ -27,7 +27,7 @@ use Rattle.lr_laws_targets.proofs.Own.{member_own}
 use Rattle.lr_weave.specs.Fitting.{DontMeet}
 use Rattle.lr_weave.specs.Planned.{bare_removal, IsReadyFor, AreReadyFor}
 use Rattle.lr_run.proofs.Courses.{OfLog, sets_so, set_so, all_set, all_sets}
-use Rattle.lr_run.proofs.Members.{AreOfMembers, TakeMembers, HasMembers, HaveMembers, part_own, meets_none}
+use Rattle.lr_run.proofs.Members.{part_no_log, waits_no_log, AreOfMembers, TakeMembers, HasMembers, HaveMembers, part_own, meets_none}
 
 -- ---- steps
 
@@ -132,19 +132,39 @@ module _ (x : Path) where
       cut true = ((λ h. h), tt)
       cut false = tt
 
-  transfer_none : (log target : Path) (job : Option Job) → NoneCreates x (transfer log target job)
-  transfer_none log target None = ((λ h. h), tt)
-  transfer_none log target (Some job) = copy_none job
+  transfer_none : (log target : Path) (job : Option Job) (aside : Option Path) → NoneCreates x (transfer log target job aside)
+  transfer_none log target None aside = ((λ h. h), tt)
+  transfer_none log target (Some job) None = copy_none job
+  transfer_none log target (Some job) (Some path) = ((λ h. h), ((λ h. h), tt))
 
-  anew_lasts : (m : Make) (log : Path) (job : Option Job) → LastsBehind x (made_anew m log job)
-  anew_lasts make.No log None = tt
-  anew_lasts (make.Yes mode) log None = ((λ c. tt), tt)
-  anew_lasts m log (Some job) = tt
+  finishing_none : (job : Option Job) (aside : Option Path) → NoneCreates x (finishing job aside)
+  finishing_none None aside = tt
+  finishing_none (Some job) None = tt
+  finishing_none (Some job) (Some path) = none_on (copy job) (step.Removes path ∷ []) (copy_none job) ((λ h. h), tt)
 
-  anew_apart : (m : Make) (log : Path) (job : Option Job) → (log ≡ x → ⊥) → IsApart x (made_anew m log job)
-  anew_apart make.No log None other = (tt, tt)
-  anew_apart (make.Yes mode) log None other = ((other, tt), ((λ h. h), tt))
-  anew_apart m log (Some job) other = (tt, tt)
+  -- neither the part file nor the path where the log waits is this one
+  finishing_keep : (job : Option Job) (aside : Option Path) → ((j : Job) → job ≡ Some j → j.part ≡ x → ⊥) → ((path : Path) → aside ≡ Some path → path ≡ x → ⊥) → KeepName x (finishing job aside)
+  finishing_keep None aside part waits = tt
+  finishing_keep (Some job) None part waits = tt
+  finishing_keep (Some job) (Some path) part waits = keep_on (copy job) (step.Removes path ∷ []) (copy_keep job (part job refl)) (waits path refl, tt)
+
+  new_lasts : (m : Make) (log : Path) → LastsBehind x (anew m log)
+  new_lasts make.No log = tt
+  new_lasts (make.Yes mode) log = ((λ c. tt), tt)
+
+  anew_lasts : (m : Make) (log : Path) (job : Option Job) (aside : Option Path) → LastsBehind x (made_anew m log job aside)
+  anew_lasts m log None aside = new_lasts m log
+  anew_lasts m log (Some job) None = tt
+  anew_lasts m log (Some job) (Some path) = new_lasts m log
+
+  new_apart : (m : Make) (log : Path) → (log ≡ x → ⊥) → IsApart x (anew m log)
+  new_apart make.No log other = (tt, tt)
+  new_apart (make.Yes mode) log other = ((other, tt), ((λ h. h), tt))
+
+  anew_apart : (m : Make) (log : Path) (job : Option Job) (aside : Option Path) → (log ≡ x → ⊥) → IsApart x (made_anew m log job aside)
+  anew_apart m log None aside other = new_apart m log other
+  anew_apart m log (Some job) None other = (tt, tt)
+  anew_apart m log (Some job) (Some path) other = new_apart m log other
 
   -- ---- one log
 
@@ -161,19 +181,31 @@ module _ (x : Path) where
       lasts_later (removals l.ready.leftovers) _ (removal_none l.ready.leftovers)
       (lasts_later (directory l.ready.dir) _ (directory_apart l.ready.dir).0
       (lasts_later (map move l.ready.moves) _ (moves_none l.ready.moves)
-      (lasts_later (transfer l.ready.log l.ready.target l.job) _ (transfer_none l.ready.log l.ready.target l.job) ((λ h. absurd h), anew_lasts l.ready.make l.ready.log l.job))))
+      (lasts_later (transfer l.ready.log l.ready.target l.job l.aside) _ (transfer_none l.ready.log l.ready.target l.job l.aside) ((λ h. absurd h), anew_lasts l.ready.make l.log l.job l.aside))))
 
   module _ (t : Target) (l : LogPlan) (h : HasMembers t) (r : IsReadyFor t l) where
     abbrev n : Naming
     n = t.naming
 
-    retire_apart : (IsMember n x → ⊥) → IsApart x (retirement_of l)
-    retire_apart out = apart_on (program phase.Mail l.first_mail) (removals l.ready.retire) (program_apart phase.Mail l.first_mail)
-        (removal_none l.ready.retire, removal_keep n out l.ready.retire (subst (AreOfMembers n) (sym (ap (λ (y : Ready). y.retire) r.ready_is)) h.retire))
+    -- neither the part file of its copy nor the path where it waits is this one
+    record IsOff : Type 0 where
+      part : (job : Job) → l.job ≡ Some job → job.part ≡ x → ⊥
+      waits : (path : Path) → l.aside ≡ Some path → path ≡ x → ⊥
+
+    retire_apart : (IsMember n x → ⊥) → IsOff → IsApart x (retirement_of l)
+    retire_apart out off = apart_on (finishing l.job l.aside) _ (finishing_none l.job l.aside, finishing_keep l.job l.aside off.part off.waits)
+        (apart_on (program phase.Mail l.first_mail) (removals l.ready.retire) (program_apart phase.Mail l.first_mail)
+        (removal_none l.ready.retire, removal_keep n out l.ready.retire (subst (AreOfMembers n) (sym (ap (λ (y : Ready). y.retire) r.ready_is)) h.retire)))
 
     -- the path is its own
     log_lasts : x ≡ t.log → IsLast l
-    log_lasts is = (rotation_lasts l, retire_apart (λ m. h.no_log (subst (IsMember n) is m)))
+    log_lasts is = (
+      rotation_lasts l,
+      retire_apart (λ m. h.no_log (subst (IsMember n) is m)) (record {
+        part = λ job has same. part_no_log t h job (sym r.job_is ∙ has) (same ∙ is);
+        waits = λ path has same. waits_no_log t h path (sym r.aside_is ∙ has) (same ∙ is);
+      }),
+    )
 
     -- the path is no name of it
     log_aside : (IsName t.log n x → ⊥) → IsAside l
@@ -181,20 +213,30 @@ module _ (x : Path) where
       apart_on (removals l.ready.leftovers) _ (removal_none l.ready.leftovers, removal_keep n no_member l.ready.leftovers (subst (AreOfMembers n) (sym (ap (λ (y : Ready). y.leftovers) r.ready_is)) h.leftovers))
           (apart_on (directory l.ready.dir) _ (directory_apart l.ready.dir)
           (apart_on (map move l.ready.moves) _ (moves_none l.ready.moves, moves_keep n no_member l.ready.moves (subst (TakeMembers n) (sym (ap (λ (y : Ready). y.moves) r.ready_is)) h.taken))
-          (apart_on (transfer l.ready.log l.ready.target l.job) _ (transfer_none l.ready.log l.ready.target l.job, by l.job refl)
-          (apart_on (step.Rotated l.ready.log ∷ []) (made_anew l.ready.make l.ready.log l.job) (((λ h. h), tt), ((λ h. h), tt)) (anew_apart l.ready.make l.ready.log l.job no_log))))),
-      retire_apart no_member,
+          (apart_on (transfer l.ready.log l.ready.target l.job l.aside) _ (transfer_none l.ready.log l.ready.target l.job l.aside, by l.job l.aside refl refl)
+          (apart_on (step.Rotated l.log ∷ []) (made_anew l.ready.make l.log l.job l.aside) (((λ h. h), tt), ((λ h. h), tt)) (anew_apart l.ready.make l.log l.job l.aside no_log))))),
+      retire_apart no_member (record { part = no_part; waits = no_wait }),
     )
       where
         no_member : IsMember n x → ⊥
         no_member m = other (inl (member_own t.log n x m))
 
-        no_log : l.ready.log ≡ x → ⊥
-        no_log same = other (inl (the_log (sym same ∙ (ap (λ (y : Ready). y.log) r.ready_is ∙ r.log_is))))
+        no_log : l.log ≡ x → ⊥
+        no_log same = other (inl (the_log (sym same ∙ r.log_is)))
 
-        by : (j : Option Job) → l.job ≡ j → KeepName x (transfer l.ready.log l.ready.target j)
-        by None e = (no_log, tt)
-        by (Some job) e = copy_keep job (λ same. other (inl (subst (IsOwnName t.log n) same (part_own t h job (sym r.job_is ∙ e)))))
+        no_first : l.ready.log ≡ x → ⊥
+        no_first same = other (inl (subst (IsOwnName t.log n) (sym (ap (λ (y : Ready). y.log) r.ready_is) ∙ same) h.first_own))
+
+        no_part : (job : Job) → l.job ≡ Some job → job.part ≡ x → ⊥
+        no_part job e same = other (inl (subst (IsOwnName t.log n) same (part_own t h job (sym r.job_is ∙ e))))
+
+        no_wait : (path : Path) → l.aside ≡ Some path → path ≡ x → ⊥
+        no_wait path e same = other (inl (subst (IsOwnName t.log n) same (h.waits_own path (sym r.aside_is ∙ e))))
+
+        by : (j : Option Job) (a : Option Path) → l.job ≡ j → l.aside ≡ a → KeepName x (transfer l.ready.log l.ready.target j a)
+        by None a e f = (no_first, tt)
+        by (Some job) None e f = copy_keep job (no_part job e)
+        by (Some job) (Some path) e f = ((λ h. h), (no_first, tt))
 
   -- ---- the logs of a plan
 
@@ -335,16 +377,21 @@ module _ (ts : List Target) where
     among_on (removals l.ready.leftovers) _ (among_none (removals l.ready.leftovers) (λ x. removal_none x l.ready.leftovers))
         (among_on (directory l.ready.dir) _ (among_none (directory l.ready.dir) (λ x. (directory_apart x l.ready.dir).0))
         (among_on (map move l.ready.moves) _ (among_none (map move l.ready.moves) (λ x. moves_none x l.ready.moves))
-        (among_on (transfer l.ready.log l.ready.target l.job) _ (among_none (transfer l.ready.log l.ready.target l.job) (λ x. transfer_none x l.ready.log l.ready.target l.job))
-        (among_on (step.Rotated l.ready.log ∷ []) (made_anew l.ready.make l.ready.log l.job) (among_none (step.Rotated l.ready.log ∷ []) (λ x. ((λ h. h), tt))) (anew l.ready.make l.job))))),
-    among_on (program phase.Mail l.first_mail) (removals l.ready.retire) (among_none (program phase.Mail l.first_mail) (λ x. (program_apart x phase.Mail l.first_mail).0)) (among_none (removals l.ready.retire) (λ x. removal_none x l.ready.retire)),
+        (among_on (transfer l.ready.log l.ready.target l.job l.aside) _ (among_none (transfer l.ready.log l.ready.target l.job l.aside) (λ x. transfer_none x l.ready.log l.ready.target l.job l.aside))
+        (among_on (step.Rotated l.log ∷ []) (made_anew l.ready.make l.log l.job l.aside) (among_none (step.Rotated l.log ∷ []) (λ x. ((λ h. h), tt))) (made l.ready.make l.job l.aside))))),
+    among_on (finishing l.job l.aside) _ (among_none (finishing l.job l.aside) (λ x. finishing_none x l.job l.aside))
+        (among_on (program phase.Mail l.first_mail) (removals l.ready.retire) (among_none (program phase.Mail l.first_mail) (λ x. (program_apart x phase.Mail l.first_mail).0)) (among_none (removals l.ready.retire) (λ x. removal_none x l.ready.retire))),
   )
     where
-      anew : (m : Make) (job : Option Job) → AllAmong ts (made_anew m l.ready.log job)
-      anew make.No None x c = absurd c
-      anew (make.Yes mode) None x (inl is) = (t, one, sym is ∙ (ap (λ (y : Ready). y.log) r.ready_is ∙ r.log_is))
-      anew (make.Yes mode) None x (inr none) = absurd none
-      anew m (Some job) x c = absurd c
+      new : (m : Make) → AllAmong ts (anew m l.log)
+      new make.No x c = absurd c
+      new (make.Yes mode) x (inl is) = (t, one, sym is ∙ r.log_is)
+      new (make.Yes mode) x (inr none) = absurd none
+
+      made : (m : Make) (job : Option Job) (aside : Option Path) → AllAmong ts (made_anew m l.log job aside)
+      made m None aside x c = new m x c
+      made m (Some job) None x c = absurd c
+      made m (Some job) (Some path) x c = new m x c
 
   logs_among : (us : List Target) (ls : List LogPlan) → AreReadyFor us ls → ((t : Target) → IsIn t us → IsIn t ts) → AllByRecursion (OfLog (AllAmong ts) (λ x c. absurd c) among_on among_runs) ls
   logs_among [] [] r k = tt

@@ -1,9 +1,10 @@
 -- The paths that a log's rotation takes and gives are members', and the part file of its copy is none.
-use Rattle.std.proofs.Common.{◌≡◌, inl, inr, ap, ◌∙◌, subst, List, [], ◌∷◌, Some}
+use Rattle.std.proofs.Common.{◌≡◌, ◌≢◌, inl, inr, sym, ap, ◌∙◌, subst, List, [], ◌∷◌, Some}
 use Rattle.std.specs.Prelude.{All}
 use Rattle.std.specs.List.{flat_map, AllByRecursion}
 use Rattle.std.proofs.lemmas.List.Elements.{All-head, All-tail}
 use Rattle.lr_rules.specs.declared.clock.Clock.{Clock}
+use Rattle.lr_rules.specs.declared.path.Path.{Path}
 use Rattle.lr_rules.specs.declared.rule.Naming.{Naming}
 use Rattle.lr_rules.specs.declared.rules.Rules.{Rules}
 use Rattle.lr_rules.specs.Names.{IsOwnName, Meet}
@@ -16,11 +17,13 @@ use Rattle.lr_chain.specs.declared.ready.Move.{Move}
 use Rattle.lr_laws_targets.specs.Apart.{HasNames}
 use Rattle.lr_laws_targets.specs.Rotation.{paths_in}
 use Rattle.lr_laws_targets.specs.Seen.{IsLogSeen}
-use Rattle.lr_laws_targets.specs.Target.{Target, HasDir, HasJob}
+use Rattle.lr_laws_targets.specs.Target.{Target, source_of, HasWay, HasDir, HasJob}
 use Rattle.lr_laws_targets.proofs.LogSeen.{any_names}
 use Rattle.lr_laws_targets.proofs.Own.{named_own, target_member}
 use Rattle.lr_laws_targets.proofs.PartFile.{part_no_member}
-use Rattle.lr_laws_targets.proofs.Plan.{plan_is_one, any_log}
+use Rattle.lr_laws_targets.proofs.Plan.{plan_is_one}
+use Rattle.lr_laws_targets.proofs.Waiting.{beside_other}
+use Rattle.lr_laws_targets.proofs.Way.{aside_is, first_own, aside_own, source_apart}
 use Rattle.lr_plan.specs.declared.plan.SetPlan.{SetPlan}
 use Rattle.lr_weave.specs.Fitting.{NoneMeets}
 use Rattle.lr_weave.specs.Planned.{AreReadyFor, HaveLogs}
@@ -38,9 +41,11 @@ GiveMembers n ms = AllByRecursion (λ (m : Move). IsMember n m.to) ms
 abbrev pub TakeMembers : Naming → List Move → Type 0
 TakeMembers n ms = AllByRecursion (λ (m : Move). IsMember n m.from) ms
 
--- It is the log that the rotation brings to its path. The removals of the rotation are of members, its moves take members' paths and give them, and the log comes to one; so does its copy, where it is copied. The part file of that path is no member, nor is the log. The directory that is made, if any, is that of the family, and no other name of it.
+-- The file of the log stands at a path of its own on its way. The removals of the rotation are of members, its moves take members' paths and give them, and the log comes to one; so does its copy, where it is copied. The part file of that path is no member, nor is the log. The directory that is made, if any, is that of the family, and no other name of it.
 pub record HasMembers (t : Target) : Type 0 where
-  pub log : t.ready.log ≡ t.log
+  pub way : HasWay t
+  pub first_own : IsOwnName t.log t.naming t.ready.log
+  pub waits_own : (path : Path) → t.aside ≡ Some path → IsOwnName t.log t.naming path
   pub leftovers : AreOfMembers t.naming t.ready.leftovers
   pub moves : GiveMembers t.naming t.ready.moves
   pub taken : TakeMembers t.naming t.ready.moves
@@ -50,6 +55,8 @@ pub record HasMembers (t : Target) : Type 0 where
   pub job : HasJob t
   pub apart : IsMember t.naming (part_of t.ready.target) → ⊥
   pub no_log : IsMember t.naming t.log → ⊥
+  pub no_source : IsMember t.naming (source_of t) → ⊥
+  pub no_part : part_of t.ready.target ≢ t.log
 
 -- of each of these logs
 abbrev pub HaveMembers : List Target → Type 0
@@ -70,7 +77,15 @@ module _ (t : Target) (h : HasMembers t) (job : Job) (is : t.job ≡ Some job) w
 
   -- so it is a name of the log
   pub part_own : IsOwnName t.log t.naming job.part
-  part_own = named_own t.log t.naming job.part (inr (inr part_is_members))
+  part_own = named_own t.log t.naming job.part (inr (inr (inl part_is_members)))
+
+  -- and not the log's path
+  pub part_no_log : job.part ≢ t.log
+  part_no_log e = h.no_part (sym job_part ∙ e)
+
+-- where the log is set aside, it waits at another path than its own
+pub waits_no_log : (t : Target) → HasMembers t → (path : Path) → t.aside ≡ Some path → path ≢ t.log
+waits_no_log t h path is e = beside_other t.log (sym e ∙ (aside_is t path h.way is).1)
 
 -- ---- the rotation of a log
 
@@ -94,7 +109,11 @@ pub has_members : (t : Target) → HasNames t → HasMembers t
 has_members t h =
     let paths = (plan_is_one t h).members in
     record {
-      log = any_log t h;
+      way = h.way;
+      first_own = named_own t.log t.naming t.ready.log (first_own t h);
+      waits_own = λ path is. named_own t.log t.naming path (aside_own t h path is);
+      no_source = source_apart t h;
+      no_part = h.parts t.ready.target (target_member t h);
       leftovers = of_paths t.naming t.ready.leftovers paths.early;
       moves = give t.naming t.ready.moves paths.moves;
       taken = take t.naming t.ready.moves paths.moves;

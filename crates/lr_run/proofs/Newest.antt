@@ -31,6 +31,6 @@ target_newest clock t h free ready = go t.naming.dated refl
     go (Some format) dated = (
       next_serial t.stand.members (clock_seconds t.naming.dated clock),
       subst (IsDatedAt t.naming (clock_seconds t.naming.dated clock) (next_serial t.stand.members (clock_seconds t.naming.dated clock)))
-          (sym (ap (λ (r : Ready). r.target) (ready ∙ ready_dates t.log t.naming t.count t.maxage clock t.ready.make t.stand.members format dated)))
+          (sym (ap (λ (r : Ready). r.target) (ready ∙ ready_dates t.ready.log t.naming t.count t.maxage clock t.ready.make t.stand.members format dated)))
           (target_at t.naming t.count clock t.stand free format dated h.family.format h.named),
     )

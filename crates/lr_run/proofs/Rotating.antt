@@ -29,9 +29,8 @@ use Rattle.lr_laws_targets.specs.AllTurns.{dir_paths, other_paths, paths_beside}
 use Rattle.lr_laws_targets.specs.Target.{Target, HasDir}
 use Rattle.lr_laws_family.specs.Turned.{IsRotation}
 use Rattle.lr_laws_targets.specs.Rotation.{rotation_by}
-use Rattle.lr_laws_targets.specs.Own.{LieOutside}
 use Rattle.lr_laws_targets.specs.Apart.{HasNames, HaveNames}
-use Rattle.lr_laws_targets.proofs.Beside.{name_out, all_outside}
+use Rattle.lr_laws_targets.proofs.Beside.{none_own}
 use Rattle.lr_laws_targets.specs.Runs.{AllTurnedBy}
 use Rattle.lr_laws_targets.proofs.Plan.{plan_is_one}
 use Rattle.lr_laws_targets.proofs.LogSeen.{any_names, log_among}
@@ -149,6 +148,6 @@ module _ (state : Path) (asked : Asked) (clock : Clock) (rules : Rules) (own : L
   pub is_one : IsRotation t.naming (rotation_by t)
   is_one = plan_is_one t names_any
 
-  -- the paths beside it are neither the log's nor a member's
-  pub paths_out : LieOutside (paths_beside state t targets) t.log t.naming
-  paths_out x j = ⊎_elim (λ k. name_out t.log t.naming x (dir_apart t names_any.dir x k)) (λ k. all_outside t.log t.naming state targets named others_apart no_state no_part x k) (in_append x (dir_paths t.ready.dir) (other_paths state t.log targets) j)
+  -- the paths beside it are no names of its own
+  pub paths_no_own : (x : Path) → IsIn x (paths_beside state t targets) → IsOwnName t.log t.naming x → ⊥
+  paths_no_own x j own = ⊎_elim (λ k. dir_apart t names_any.dir x k own) (λ k. none_own t.log t.naming state targets named others_apart no_state no_part x k own) (in_append x (dir_paths t.ready.dir) (other_paths state t.log targets) j)

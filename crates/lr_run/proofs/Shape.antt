@@ -123,7 +123,7 @@ written_whole state clock rules ts us t a = record {
 among_later : (P : List Entry → Type 0) (xs ys : List Entry) → Among P ys → Among P (xs ++ ys)
 among_later P xs ys a = record { before = xs ++ a.before; part = a.part; after = a.after; joined = ap (λ zs. xs ++ zs) a.joined ∙ sym (append_assoc xs a.before (a.part ++ a.after)); is = a.is }
 
-given_later : {rules : List Rule} {log : Path} {n : Naming} {c : Count} {maxage : Option ℕ} {job : Option Job} (xs looks : List Entry) → IsGiven rules looks log n c maxage job → IsGiven rules (xs ++ looks) log n c maxage job
+given_later : {rules : List Rule} {t : Target} (xs looks : List Entry) → IsGiven rules looks t → IsGiven rules (xs ++ looks) t
 given_later xs looks g = record {
   rule = g.rule;
   word = g.word;
@@ -152,9 +152,14 @@ pub seen_later : (rules : Rules) (clock : Clock) (xs looks : List Entry) (ts : L
 seen_later rules clock xs looks [] s = tt
 seen_later rules clock xs looks (t ∷ ts) s = (
   record {
+    path = s.0.path;
     given = given_later xs looks s.0.given;
     family = s.0.family;
     log_seen = among_later (Sees t.log IsFile) xs looks s.0.log_seen;
+    way_seen = record {
+      first = among_later (Sees t.ready.log IsFile) xs looks s.0.way_seen.first;
+      free = λ path is. in_back _ xs looks (s.0.way_seen.free path is);
+    };
     seen = shown_more t.naming t.stand.members looks (xs ++ looks) (λ e i. in_back e xs looks i) s.0.seen;
     free = s.0.free;
     ready = s.0.ready;

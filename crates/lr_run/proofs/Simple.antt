@@ -1,5 +1,7 @@
 -- The steps of a plan: unlinks, renames, makings of logs, the steps of copies, programs and marks alone.
 use Rattle.std.proofs.Common.{ℕ, Bool, true, false, not, List, [], ◌∷◌, ◌++◌, map, Option, Some, None, refl}
+use Rattle.std.specs.Prelude.{if◌then◌else◌}
+use Rattle.lr_rules.specs.Names.{aside_path}
 use Rattle.std.specs.List.{flat_map}
 use Rattle.lr_rules.specs.declared.clock.Clock.{Clock}
 use Rattle.lr_rules.specs.declared.fault.Fault.{Fault}
@@ -19,14 +21,15 @@ use Rattle.lr_chain.specs.declared.ready.Move.{Move}
 use Rattle.lr_chain.specs.declared.ready.Ready.{Ready}
 use Rattle.lr_scripts.specs.declared.removal.Removal.{Removal}
 use Rattle.lr_commands.specs.Commands.{script, where_so, mail, with_programs}
+use Rattle.lr_copy.specs.declared.job.Job.{Job}
 use Rattle.lr_plan.specs.declared.looks.LogLook.{LogLook}
 use Rattle.lr_plan.specs.declared.looks.SetLooks.{SetLooks}
 use Rattle.lr_plan.specs.declared.plan.LogPlan.{LogPlan}
 use Rattle.lr_plan.specs.declared.plan.SetPlan.{SetPlan}
 use Rattle.lr_plan.specs.declared.step.Step.{Step}
 use Rattle.lr_plan.specs.declared.step.Step.TheVariants.{Runs, Removes, MakesDir, Renames, Creates, Takes, Copies, SyncsFile, SyncsDir, Truncates, Rotated}
-use Rattle.lr_plan.specs.Planned.{copy_job, job_by, hindrances, standing, ready_for, plan_with, log_plan, none_hinders, plans_of, where_due, log_plans, set_plan, all_plans}
-use Rattle.lr_plan.specs.Steps.{program, removal, removals, directory, move, step_if, copy, transfer, anew, made_anew, rotation_of, retirement_of, steps_of_log, shared_steps, by_logs, steps_of_set}
+use Rattle.lr_plan.specs.Planned.{is_file, aside_by, from_path, copy_job, job_by, hindrances, standing, ready_for, plan_with, log_plan, none_hinders, plans_of, where_due, log_plans, set_plan, all_plans}
+use Rattle.lr_plan.specs.Steps.{program, removal, removals, directory, move, step_if, copy, transfer, anew, made_anew, finishing, rotation_of, retirement_of, steps_of_log, shared_steps, by_logs, steps_of_set}
 use Rattle.lr_acts.specs.Making.{all_of_each, all_of_set, all_of_sets}
 
 -- ---- what holds of each of some steps
@@ -108,22 +111,35 @@ module _ (P : Step → Type 0) (Q : Option (List ℕ) → Type 0) (k : IsOfSteps
   step_where true s p = (p, tt)
   step_where false s p = tt
 
-  copy_so : (look : LogLook) (target : Path) (cut : Bool) → EachStep P (copy (copy_job look target cut))
-  copy_so look target cut = step_both P (step_if (copy_job look target cut).stale (Removes (copy_job look target cut).part)) _ (step_where (copy_job look target cut).stale _ (k.removes _))
+  copy_so : (from : Path) (look : LogLook) (target : Path) (cut : Bool) → EachStep P (copy (from_path from (copy_job look target cut)))
+  copy_so from look target cut = step_both P (step_if (copy_job look target cut).stale (Removes (copy_job look target cut).part)) _ (step_where (copy_job look target cut).stale _ (k.removes _))
       (k.takes target _, (k.copies _ _ _, (k.syncs_file _, (k.renames _ _, (k.syncs_dir _, step_where cut _ (k.truncates _))))))
 
-  -- by rename or by copy
-  transfer_so : (w : Way) (look : LogLook) (log target : Path) → EachStep P (transfer log target (job_by w look target))
+  -- by rename or by copy, or set aside
+  transfer_so : (w : Way) (look : LogLook) (log target : Path) → EachStep P (transfer log target (job_by w look target) (aside_by w look.path look.tmp))
   transfer_so way.Rename look log target = (k.renames log target, tt)
-  transfer_so way.Copy look log target = copy_so look target false
-  transfer_so way.CopyTruncate look log target = copy_so look target true
-  transfer_so way.RenameCopy look log target = copy_so look target false
+  transfer_so way.Copy look log target = copy_so look.path look target false
+  transfer_so way.CopyTruncate look log target = copy_so look.path look target true
+  transfer_so way.RenameCopy look log target = go (is_file look.tmp)
+    where
+      go : (b : Bool) → EachStep P (transfer log target (if b then None else Some (from_path (aside_path look.path) (copy_job look target false))) (if b then None else Some (aside_path look.path)))
+      go true = (k.renames log target, tt)
+      go false = (k.syncs_dir _, (k.renames log _, tt))
 
-  made_so : (w : Way) (look : LogLook) (target : Path) (m : Make) (log : Path) → EachStep P (made_anew m log (job_by w look target))
-  made_so way.Rename look target m log = anew_so m log
-  made_so way.Copy look target m log = tt
-  made_so way.CopyTruncate look target m log = tt
-  made_so way.RenameCopy look target m log = tt
+  made_so : (m : Make) (log : Path) (job : Option Job) (aside : Option Path) → EachStep P (made_anew m log job aside)
+  made_so m log None aside = anew_so m log
+  made_so m log (Some job) None = tt
+  made_so m log (Some job) (Some path) = anew_so m log
+
+  finishing_so : (w : Way) (look : LogLook) (target : Path) → EachStep P (finishing (job_by w look target) (aside_by w look.path look.tmp))
+  finishing_so way.Rename look target = tt
+  finishing_so way.Copy look target = tt
+  finishing_so way.CopyTruncate look target = tt
+  finishing_so way.RenameCopy look target = go (is_file look.tmp)
+    where
+      go : (b : Bool) → EachStep P (finishing (if b then None else Some (from_path (aside_path look.path) (copy_job look target false))) (if b then None else Some (aside_path look.path)))
+      go true = tt
+      go false = step_both P (copy (from_path (aside_path look.path) (copy_job look target false))) (Removes (aside_path look.path) ∷ []) (copy_so (aside_path look.path) look target false) (k.removes _, tt)
 
   -- of each log: its rotation, its retirement, and its programs
   record IsLogSo (log : LogPlan) : Type 0 where
@@ -139,14 +155,15 @@ module _ (P : Step → Type 0) (Q : Option (List ℕ) → Type 0) (k : IsOfSteps
   -- by a rotation
   with_so : (mailer : Path) (rule : Rule) (look : LogLook) (ready : Ready) → IsOfScripts Q rule → IsLogSo (plan_with mailer rule look ready)
   with_so mailer rule look ready h = record {
-    rotation = step_both P (removals (map (with_programs rule mailer ready.log) ready.leftovers)) _ (removals_so mailer rule ready.log ready.leftovers h)
+    rotation = step_both P (removals (map (with_programs rule mailer look.path) ready.leftovers)) _ (removals_so mailer rule look.path ready.leftovers h)
         (step_both P (directory ready.dir) _ (directory_so ready.dir)
         (step_both P (map move ready.moves) _ (moves_so ready.moves)
-        (step_both P (transfer ready.log ready.target (job_by rule.way look ready.target)) _ (transfer_so rule.way look ready.log ready.target)
-        (k.rotated _, made_so rule.way look ready.target ready.make ready.log))));
-    retirement = step_both P (program phase.Mail (where_so rule.mailfirst (mail mailer rule.mail look.path ready.target))) _
+        (step_both P (transfer ready.log ready.target (job_by rule.way look ready.target) (aside_by rule.way look.path look.tmp)) _ (transfer_so rule.way look ready.log ready.target)
+        (k.rotated _, made_so ready.make look.path (job_by rule.way look ready.target) (aside_by rule.way look.path look.tmp)))));
+    retirement = step_both P (finishing (job_by rule.way look ready.target) (aside_by rule.way look.path look.tmp)) _ (finishing_so rule.way look ready.target)
+        (step_both P (program phase.Mail (where_so rule.mailfirst (mail mailer rule.mail look.path ready.target))) _
         (where_mails rule.mailfirst mailer rule.mail look.path ready.target h.mail)
-        (removals_so mailer rule ready.log ready.retire h);
+        (removals_so mailer rule look.path ready.retire h));
     pre = where_runs (not rule.shared) phase.Pre rule.scripts.pre _ h.pre;
     post = where_runs (not rule.shared) phase.Post rule.scripts.post _ h.post;
   }

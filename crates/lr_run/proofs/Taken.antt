@@ -19,7 +19,7 @@ use Rattle.lr_glob.specs.declared.found.GlobStop.{GlobStop}
 use Rattle.lr_glob.specs.declared.found.GlobStop.TheVariants as glob
 use Rattle.lr_kept.specs.declared.choice.Choice.{Choice}
 use Rattle.lr_kept.specs.declared.choice.Choice.TheVariants.{Kept, Again, MemberOf, Reserved, Meets}
-use Rattle.lr_looks.specs.Choices.{duplicate, overlap, barred, choice_fault, choice_faults, is_file, kind_fault, kept_of}
+use Rattle.lr_looks.specs.Choices.{duplicate, overlap, barred, choice_fault, choice_faults, kind_fault, kept_of}
 use Rattle.lr_looks.specs.Families.{FamilySight, Stood, Stopped, stop_fault, family_faults}
 use Rattle.lr_looks.specs.Found.{FoundLog}
 use Rattle.lr_looks.specs.Asked.{Word}
@@ -28,7 +28,7 @@ use Rattle.lr_looks.specs.Shown.{ShowsLooks, LooksAtAll}
 use Rattle.lr_plan.specs.Asked.{Asked}
 use Rattle.lr_plan.specs.declared.looks.Looks.{Looks}
 use Rattle.lr_plan.specs.declared.looks.SetLooks.{SetLooks}
-use Rattle.lr_plan.specs.Planned.{decision}
+use Rattle.lr_plan.specs.Planned.{is_file_kind, decision}
 use Rattle.lr_plan.specs.Steps.{steps_of_plan}
 use Rattle.lr_plan.specs.Course.{Course}
 use Rattle.lr_plan.specs.Done.{SetsDone, rotated_logs}
@@ -116,7 +116,7 @@ choices_none reserved all (f ∷ fs) (c ∷ cs) = no_on (choice_fault reserved a
 
 kinds_none : (fs : List FoundLog) → NoneOfNew (flat_map kind_fault fs)
 kinds_none [] = no_more
-kinds_none (f ∷ fs) = no_on (kind_fault f) (flat_map kind_fault fs) (go (is_file f.seen.kind)) (kinds_none fs)
+kinds_none (f ∷ fs) = no_on (kind_fault f) (flat_map kind_fault fs) (go (is_file_kind f.seen.kind)) (kinds_none fs)
   where
     go : (b : Bool) → NoneOfNew (cond b [] (fault.NotFile f.log.path ∷ []))
     go true = no_more
@@ -129,7 +129,7 @@ stop_none halt.Memory = no_more
 
 families_none : (ss : List FamilySight) → NoneOfNew (family_faults ss)
 families_none [] = no_more
-families_none (Stood s ∷ ss) = families_none ss
+families_none (Stood stand tmp ∷ ss) = families_none ss
 families_none (Stopped why ∷ ss) = no_on (stop_fault why) (family_faults ss) (stop_none why) (families_none ss)
 
 pub looks_none : (reserved : List Path) (rules : List Rule) (sets : List SetLooks) (own : List Fault) (ts : List Entry) → ShowsLooks reserved rules sets own ts → NoneOfNew own

@@ -4,6 +4,7 @@ use Rattle.lr_rules.specs.declared.clock.Clock.{Clock}
 use Rattle.lr_rules.specs.declared.fault.Fault.{Fault}
 use Rattle.lr_rules.specs.declared.path.Path.{Path}
 use Rattle.lr_rules.specs.declared.rules.Rules.{Rules}
+use Rattle.lr_rules.specs.Names.{IsOwnName, the_log}
 use Rattle.lr_host.specs.declared.entry.Entry.{Entry}
 use Rattle.lr_host.specs.declared.entry.Entry.TheVariants as entry
 use Rattle.lr_host.specs.Lists.{IsIn}
@@ -19,10 +20,13 @@ use Rattle.lr_emptied.specs.Emptied.{EmptiesCopied}
 use Rattle.lr_emptied.proofs.Acts.{state_copying}
 use Rattle.lr_emptied.proofs.Entries.{none_empties, both_empty}
 use Rattle.lr_laws_targets.specs.AllTurns.{paths_beside}
-use Rattle.lr_laws_targets.specs.Target.{Target, IsJob}
+use Rattle.lr_laws_targets.specs.Apart.{HasNames}
+use Rattle.lr_laws_targets.specs.Target.{Target, source_of, IsJob}
 use Rattle.lr_laws_targets.specs.Runs.{AllTurnedBy}
 use Rattle.lr_laws_targets.specs.Seen.{IsLogSeen}
 use Rattle.lr_laws_targets.proofs.CallsFit.{log_paths}
+use Rattle.lr_laws_targets.proofs.Own.{named_own, member_own}
+use Rattle.lr_laws_targets.proofs.Way.{source_own}
 use Rattle.lr_weave.specs.Planned.{HaveLogs, AreApart}
 use Rattle.lr_turned.proofs.Stands.{stands_first, plan_stands, plan_empties}
 use Rattle.lr_seen.specs.Targets.{groups_of}
@@ -30,16 +34,17 @@ use Rattle.lr_seen.proofs.Apart.{targets_apart}
 use Rattle.lr_seen.proofs.Ready.{plans_have_logs}
 use Rattle.lr_looks.specs.Inside.{Inside}
 use Rattle.lr_run.specs.Runs.{Worked, plan_in}
-use Rattle.lr_run.proofs.Members.{HasMembers, job_part, has_members}
+use Rattle.lr_run.proofs.Members.{HasMembers, job_part, part_no_log, has_members}
 use Rattle.lr_run.proofs.Rotating as rotating
-use Rattle.lr_laws_family.specs.Made.{HasJob, AreOutside, RotatesAmong}
+use Rattle.lr_laws_family.specs.Made.{AreOutside, RotatesAmong}
 use Rattle.lr_laws_family.specs.Members.{IsNoMember}
-use Rattle.lr_laws_family.specs.Rotation.{Rotation, By, Copy, part_paths, way_of}
+use Rattle.lr_laws_family.specs.Rotation.{Rotation, By, Rename, Copy, Aside, part_paths, way_of}
 use Rattle.lr_laws_family.proofs.Whole.{turned as family_turned}
 use Rattle.lr_laws_targets.specs.Rotation.{by_of, rotation_by}
 use Rattle.lr_laws_targets.proofs.Whole.{rotates}
 use Rattle.lr_turned.specs.Copied.{CopyStands, IsSameFor}
 use Rattle.lr_turned.proofs.Rotates.{copied_among}
+use Rattle.lr_turned.proofs.Ways.{has_job}
 use Rattle.lr_run.specs.Rotated.{rotated_in, IsTurnedAmong}
 
 module _ (state : Path) (asked : Asked) (clock : Clock) (rules : Rules) (own : List Fault) (p q : Past) (es reads acts : List Entry) (made : Made p es q) (journal : IsJournal p) (joined : reverse es ≡ reads ++ acts) (quiet : AreQuiet reads)
@@ -59,26 +64,39 @@ module _ (state : Path) (asked : Asked) (clock : Clock) (rules : Rules) (own : L
   abbrev r : Rotation
   r = rotation_by t
 
+  names : HasNames t
+  names = rotating.names_any state asked clock rules own p q es reads acts made journal joined quiet i met_none t one
+
   members : HasMembers t
-  members = has_members t (rotating.names_any state asked clock rules own p q es reads acts made journal joined quiet i met_none t one)
+  members = has_members t names
 
-  log_is : t.ready.log ≡ t.log
-  log_is = members.log
+  source_named : IsOwnName t.log t.naming (source_of t)
+  source_named = named_own t.log t.naming (source_of t) (source_own t names)
 
-  no_source : IsNoMember t.naming t.ready.log
-  no_source = subst (IsNoMember t.naming) (sym log_is) seen.family.apart
+  -- what is no name of the log's is none of its way, and no member's
+  none_of_way : (by : By) (x : Path) → (IsOwnName t.log t.naming x → ⊥) → IsIn x (way_of r by) → ⊥
+  none_of_way Rename x apart (inl same) = apart (subst (IsOwnName t.log t.naming) same source_named)
+  none_of_way Rename x apart (inr none) = none
+  none_of_way (Copy job) x apart (inl same) = apart (subst (IsOwnName t.log t.naming) same source_named)
+  none_of_way (Copy job) x apart (inr none) = none
+  none_of_way (Aside job) x apart (inl same) = apart (the_log (sym same))
+  none_of_way (Aside job) x apart (inr (inl same)) = apart (subst (IsOwnName t.log t.naming) same source_named)
+  none_of_way (Aside job) x apart (inr (inr none)) = none
 
-  -- what is neither the log nor a member is none of the log's way
-  none_of_way : (x : Path) → x ≢ t.log → IsIn x (t.ready.log ∷ []) → ⊥
-  none_of_way x other (inl same) = other (sym same ∙ log_is)
-  none_of_way x other (inr none) = none
+  no_own : (x : Path) → IsIn x others → IsOwnName t.log t.naming x → ⊥
+  no_own = rotating.paths_no_own state asked clock rules own p q es reads acts made journal joined quiet i met_none t one
+
+  outside_others : (by : By) (x : Path) → IsIn x others → (IsIn x (way_of r by) → ⊥) × IsNoMember t.naming x
+  outside_others by x j = (none_of_way by x (no_own x j), λ m. no_own x j (member_own t.log t.naming x m))
 
   -- ---- where it is renamed
 
   module _ (none : t.job ≡ None) where
-    renamed_outside : AreOutside (part_paths (by_of t.job) ++ others) t.naming r
-    renamed_outside = subst (λ (j : Option Job). (x : Path) → IsIn x (part_paths (by_of j) ++ others) → (IsIn x (way_of r (by_of j)) → ⊥) × IsNoMember t.naming x) (sym none)
-        (λ x j. let o = rotating.paths_out state asked clock rules own p q es reads acts made journal joined quiet i met_none t one x j in (none_of_way x o.0, o.1))
+    by_rename : by_of t.job t.aside ≡ Rename
+    by_rename = ap (λ (j : Option Job). by_of j t.aside) none
+
+    renamed_outside : AreOutside (part_paths (by_of t.job t.aside) ++ others) t.naming r
+    renamed_outside = subst (λ (by : By). (x : Path) → IsIn x (part_paths by ++ others) → (IsIn x (way_of r by) → ⊥) × IsNoMember t.naming x) (sym by_rename) (outside_others Rename)
 
     renamed : RotatesAmong others t.naming r (reverse es)
     renamed = subst (RotatesAmong others t.naming r) (sym (rotating.whole_run state asked clock rules own p q es reads acts made journal joined quiet i met_none t one)) (rotates state clock rules (reads ++ i.before) _ all t (rotating.quiet_first state asked clock rules own p q es reads acts made journal joined quiet i met_none t one) one none)
@@ -88,15 +106,15 @@ module _ (state : Path) (asked : Asked) (clock : Clock) (rules : Rules) (own : L
       made = made;
       journal = journal;
       family = seen.family;
-      no_source = no_source;
+      no_source = members.no_source;
       rotation = rotating.is_one state asked clock rules own p q es reads acts made journal joined quiet i met_none t one;
-      job = subst (λ (j : Option Job). HasJob (by_of j) r) (sym none) tt;
+      job = has_job rules clock all.turns.looks t seen;
       attached = spared;
       outside = renamed_outside;
       over = renamed;
     })
 
-  -- ---- where it is copied
+  -- ---- where it is copied, from where it stands or from where it is set aside
 
   module _ (job : Job) (job_is : t.job ≡ Some job) where
     is_job : IsJob t job
@@ -118,42 +136,54 @@ module _ (state : Path) (asked : Asked) (clock : Clock) (rules : Rules) (own : L
     stands = stands_first job (w.acted.entries.entries.front ++ w.acted.entries.entries.back) (entry.Ends ∷ []) _ refl
         (stands_first job w.acted.entries.entries.front w.acted.entries.entries.back _ refl (plan_stands t job _ _ w.acted.marks [] w.acted.entries.entries.front logs one job_is refl done))
 
-    copies : EmptiesCopied (IsSameFor job) all.turns.acts
-    copies = both_empty (IsSameFor job) (w.acted.entries.entries.front ++ w.acted.entries.entries.back) (entry.Ends ∷ [])
-        (both_empty (IsSameFor job) w.acted.entries.entries.front w.acted.entries.entries.back
-        (plan_empties t job _ _ w.acted.marks [] w.acted.entries.entries.front logs apart one job_is (sym is_job.from_is) done)
-        (state_copying (IsSameFor job) state w.looked.remembered.stale _ _ [] w.acted.entries.of_state w.acted.entries.entries.back w.acted.entries.entries.second))
-        (none_empties (IsSameFor job) (entry.Ends ∷ []) (tt, tt))
+    copies : EmptiesCopied (IsSameFor t.log job) all.turns.acts
+    copies = both_empty (IsSameFor t.log job) (w.acted.entries.entries.front ++ w.acted.entries.entries.back) (entry.Ends ∷ [])
+        (both_empty (IsSameFor t.log job) w.acted.entries.entries.front w.acted.entries.entries.back
+        (plan_empties t job _ _ w.acted.marks [] w.acted.entries.entries.front logs apart one job_is done)
+        (state_copying (IsSameFor t.log job) state w.looked.remembered.stale _ _ [] w.acted.entries.of_state w.acted.entries.entries.back w.acted.entries.entries.second))
+        (none_empties (IsSameFor t.log job) (entry.Ends ∷ []) (tt, tt))
 
-    -- the part file is no member
+    -- the part file is no member, and the log stands at another path all its way
     part_out : IsNoMember t.naming job.part
     part_out = subst (IsNoMember t.naming) (sym (job_part t members job job_is)) members.apart
 
-    outside : (y : Path) → IsIn y (job.part ∷ others) → (y ≢ t.log) × IsNoMember t.naming y
-    outside y (inl same) = ((λ e. paths.part_apart (same ∙ (e ∙ sym is_job.from_is))), subst (IsNoMember t.naming) same part_out)
-    outside y (inr j) = rotating.paths_out state asked clock rules own p q es reads acts made journal joined quiet i met_none t one y j
+    part_no_source : r.source ≢ job.part
+    part_no_source same = paths.part_apart (sym same ∙ sym is_job.from_is)
 
-    by_is : by_of t.job ≡ Copy job
-    by_is = ap by_of job_is
+    part_off : (by : By) → IsIn job.part (way_of r by) → ⊥
+    part_off Rename (inl same) = part_no_source same
+    part_off Rename (inr none) = none
+    part_off (Copy other) (inl same) = part_no_source same
+    part_off (Copy other) (inr none) = none
+    part_off (Aside other) (inl same) = part_no_log t members job job_is (sym same)
+    part_off (Aside other) (inr (inl same)) = part_no_source same
+    part_off (Aside other) (inr (inr none)) = none
 
-    copy_outside : AreOutside (part_paths (by_of t.job) ++ others) t.naming r
-    copy_outside = subst (λ (by : By). (x : Path) → IsIn x (part_paths by ++ others) → (IsIn x (way_of r by) → ⊥) × IsNoMember t.naming x) (sym by_is)
-        (λ x j. let o = outside x j in (none_of_way x o.0, o.1))
+    outside : AreOutside (job.part ∷ others) t.naming r
+    outside y (inl same) = subst (λ (x : Path). (IsIn x (way_of r r.by) → ⊥) × IsNoMember t.naming x) same (part_off r.by, part_out)
+    outside y (inr j) = outside_others r.by y j
+
+    one_part : (aside : Option Path) → part_paths (by_of (Some job) aside) ≡ job.part ∷ []
+    one_part None = refl
+    one_part (Some path) = refl
+
+    part_is : part_paths (by_of t.job t.aside) ≡ job.part ∷ []
+    part_is = ap (λ (j : Option Job). part_paths (by_of j t.aside)) job_is ∙ one_part t.aside
 
     copied : RotatesAmong others t.naming r (reverse es)
     copied = subst (RotatesAmong others t.naming r) (sym (rotating.whole_run state asked clock rules own p q es reads acts made journal joined quiet i met_none t one))
-        (copied_among state clock rules (reads ++ i.before) _ all t job (rotating.quiet_first state asked clock rules own p q es reads acts made journal joined quiet i met_none t one) one job_is (rotating.is_one state asked clock rules own p q es reads acts made journal joined quiet i met_none t one).members (λ y j. (outside y j).1) stands copies)
+        (copied_among state clock rules (reads ++ i.before) _ all t job (rotating.quiet_first state asked clock rules own p q es reads acts made journal joined quiet i met_none t one) one job_is (rotating.is_one state asked clock rules own p q es reads acts made journal joined quiet i met_none t one).members outside stands copies)
 
     pub copy_turned : IsTurnedAmong state (rotated_in state rules.sets i.between i.within.looked clock asked) p q t
     copy_turned = λ spared. family_turned others t.naming r p q es (record {
       made = made;
       journal = journal;
       family = seen.family;
-      no_source = no_source;
+      no_source = members.no_source;
       rotation = rotating.is_one state asked clock rules own p q es reads acts made journal joined quiet i met_none t one;
-      job = subst (λ (by : By). HasJob by r) (sym by_is) (record { from_is = is_job.from_is ∙ sym log_is; to_is = is_job.to_is; paths = paths });
+      job = has_job rules clock all.turns.looks t seen;
       attached = spared;
-      outside = copy_outside;
+      outside = subst (λ (ps : List Path). AreOutside (ps ++ others) t.naming r) (sym part_is) outside;
       over = copied;
     })
 

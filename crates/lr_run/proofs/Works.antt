@@ -33,7 +33,7 @@ use Rattle.lr_plan.specs.declared.step.Step.{Step}
 use Rattle.lr_host.specs.Counted.{AddsFaults}
 use Rattle.lr_plan.specs.Cut.{SetsCut}
 use Rattle.lr_plan.specs.Asking.{asks, CanMake, CanEach, CanSet, CanSets}
-use Rattle.lr_plan.specs.Planned.{decision, stand_for, hindrances, where_due, log_faults, all_plans, all_faults, plan_of}
+use Rattle.lr_plan.specs.Planned.{decision, stand_for, faults_of, where_due, log_faults, all_plans, all_faults, plan_of}
 use Rattle.lr_plan.specs.Steps.{steps_of_set, steps_of_plan}
 use Rattle.lr_host.proofs.Counts.{AreFree, free_none, free_on, adds_on, adds_free, adds_call}
 use Rattle.lr_acts.specs.declared.progress.Progress.{Progress}
@@ -53,7 +53,8 @@ use Rattle.lr_weave.proofs.Sets.{can_sets}
 use Rattle.lr_looks.specs.Reserved.{reserved_by}
 use Rattle.lr_seen.specs.Targets.{groups_of, all_targets}
 use Rattle.lr_seen.proofs.Apart.{targets_dont_meet}
-use Rattle.lr_seen.proofs.Hindrances.{each_hindrance}
+use Rattle.lr_rules.specs.Names.{aside_path}
+use Rattle.lr_seen.proofs.Hindrances.{each_hindrance, faults_so}
 use Rattle.lr_seen.proofs.Quiet.{whole_quiet}
 use Rattle.lr_seen.proofs.Ready.{plans_have_logs, plans_read_own}
 use Rattle.lr_seen.proofs.Seen.{targets_seen, targets_have_names, targets_have_paths}
@@ -75,8 +76,15 @@ high_free path = record { calls = refl; scripts = refl; none_around = ((λ h. h)
 taken_free : (path : Path) → AreFree (fault.Taken path ∷ [])
 taken_free path = record { calls = refl; scripts = refl; none_around = ((λ h. h), tt) }
 
-hindered_free : (clock : Clock) (rule : Rule) (look : LogLook) → AreFree (hindrances clock rule look)
-hindered_free clock rule look = each_hindrance AreFree free_none high_free taken_free look.family.naming rule.count clock (stand_for rule look) (λ none. no_dir_free look.family.naming.dir)
+not_file_free : (path : Path) → AreFree (fault.NotFile path ∷ [])
+not_file_free path = record { calls = refl; scripts = refl; none_around = ((λ h. h), tt) }
+
+unfinished_free : (path : Path) → AreFree (fault.Unfinished path ∷ [])
+unfinished_free path = record { calls = refl; scripts = refl; none_around = ((λ h. h), tt) }
+
+look_free : (clock : Clock) (rule : Rule) (look : LogLook) → AreFree (faults_of clock rule look)
+look_free clock rule look = faults_so AreFree clock rule look free_none (λ seen is. not_file_free (aside_path look.path)) (unfinished_free look.path)
+    (each_hindrance AreFree free_none high_free taken_free look.family.naming rule.count clock (stand_for rule look) (λ none. no_dir_free look.family.naming.dir))
 
 due_free : (d : Due) (fs : List Fault) → AreFree fs → AreFree (where_due d fs)
 due_free (due.Yes why) fs h = h
@@ -84,7 +92,7 @@ due_free (due.No why) fs h = free_none
 
 logs_free : (clock : Clock) (rule : Rule) (decide : LogLook → Due) (looks : List LogLook) → AreFree (log_faults clock rule decide looks)
 logs_free clock rule decide [] = free_none
-logs_free clock rule decide (l ∷ ls) = free_on (where_due (decide l) (hindrances clock rule l)) (log_faults clock rule decide ls) (due_free (decide l) (hindrances clock rule l) (hindered_free clock rule l)) (logs_free clock rule decide ls)
+logs_free clock rule decide (l ∷ ls) = free_on (where_due (decide l) (faults_of clock rule l)) (log_faults clock rule decide ls) (due_free (decide l) (faults_of clock rule l) (look_free clock rule l)) (logs_free clock rule decide ls)
 
 pub plan_free : (clock : Clock) (decide : Rule → LogLook → Due) (rules : List Rule) (sets : List SetLooks) → AreFree (all_faults clock decide rules sets)
 plan_free clock decide [] [] = free_none

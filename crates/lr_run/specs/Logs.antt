@@ -1,16 +1,14 @@
 -- Why a run may rotate its logs: the words of its rules.
-use Rattle.std.specs.Prelude.{◌≡◌, ◌↔◌, ℕ, List, None, Contains}
+use Rattle.std.specs.Prelude.{◌≡◌, ℕ, List, Contains}
 use Rattle.lr_rules.specs.declared.rule.Rule.{Rule}
-use Rattle.lr_rules.specs.declared.rule.Way.TheVariants.{Rename}
 use Rattle.lr_rules.specs.Match.{WordGives}
 use Rattle.lr_rules.specs.Names.{naming_of}
 use Rattle.lr_host.specs.Lists.{IsIn}
 use Rattle.lr_plan.specs.declared.plan.Plan.{Plan}
-use Rattle.lr_laws_targets.specs.Target.{Target}
+use Rattle.lr_laws_targets.specs.Target.{Target, GoesBy}
 use Rattle.lr_seen.specs.Planned.{targets_in}
 
--- A word of one of the rules gives the log, with this naming, count and age; it is copied where the rule's way is another than the
--- rename.
+-- A word of one of the rules gives the log, with this naming, count and age, and the log goes by the rule's way.
 pub record IsGivenBy (rules : List Rule) (t : Target) : Type 0 where
   pub rule : Rule
   pub word : List ℕ
@@ -20,7 +18,7 @@ pub record IsGivenBy (rules : List Rule) (t : Target) : Type 0 where
   pub naming_is : naming_of rule t.log ≡ t.naming
   pub count_is : rule.count ≡ t.count
   pub maxage_is : rule.maxage ≡ t.maxage
-  pub way_is : (rule.way ≡ Rename) ↔ (t.job ≡ None)
+  pub way_is : GoesBy rule.way t
 
 -- so is each log of this plan
 abbrev pub AreGivenBy : List Rule → Plan → Type 0

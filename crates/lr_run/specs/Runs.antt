@@ -42,7 +42,7 @@ use Rattle.lr_synced.specs.Synced.{all_to_make_of, AreSynced}
 
 -- the logs that it rotates
 abbrev pub logs_of : List LogPlan → List Path
-logs_of logs = map (λ log. log.ready.log) logs
+logs_of logs = map (λ log. log.log) logs
 
 abbrev pub all_logs_of : List SetPlan → List Path
 all_logs_of sets = flat_map (λ set. logs_of set.logs) sets

@@ -10,7 +10,7 @@ fn add_logs(alloc: Global, logs: &[LogPlan], paths: &mut Vec<Path>) -> Result<()
     ensures { OnOk result (paths.new.items ≡ paths.old.items ++ logs_of logs.now) }
 {
     for log in logs {
-        paths.push(log.ready.log.copy(alloc)?)?;
+        paths.push(log.log.copy(alloc)?)?;
     }
     Ok(())
 }

@@ -19,8 +19,8 @@ use Rattle.lr_kept.specs.Chosen.{IsKept}
 use Rattle.lr_kept.proofs.Finding.{meet_back}
 use Rattle.lr_plan.specs.declared.looks.LogLook.{LogLook}
 use Rattle.lr_plan.specs.declared.looks.SetLooks.{SetLooks}
-use Rattle.lr_plan.specs.Planned.{hindrances, where_due}
-use Rattle.lr_looks.specs.Choices.{names_of, found_names, is_wild, IsChoiceAmong, kept_of, is_file, where_file}
+use Rattle.lr_plan.specs.Planned.{is_file_kind, hindrances, where_due}
+use Rattle.lr_looks.specs.Choices.{names_of, found_names, is_wild, IsChoiceAmong, kept_of, where_file}
 use Rattle.lr_looks.specs.Families.{FamilySight, Stood, Stopped, LookedLog, looked_at, looked_of}
 use Rattle.lr_looks.specs.Found.{FoundLog}
 use Rattle.lr_looks.specs.Sets.{where_in, of_set, looked_in, HaveLooksFrom}
@@ -116,7 +116,7 @@ kept_pairs (f ∷ fs) (Meets j ∷ cs) h = kept_pairs fs cs (λ i k a b lt. h (s
 
 -- the regular files among them
 files_pairs : (fs : List FoundLog) → Pairs OffFound fs → Pairs OffFound (flat_map where_file fs)
-files_pairs fs p = pairs_flat OffFound OffFound where_file fs (λ f. alone f (is_file f.seen.kind))
+files_pairs fs p = pairs_flat OffFound OffFound where_file fs (λ f. alone f (is_file_kind f.seen.kind))
     (λ f g a b h i j. subst (λ (x : FoundLog). OffFound x b) (in_file f a i).0 (subst (λ (x : FoundLog). OffFound f x) (in_file g b j).0 h)) p
   where
     alone : (f : FoundLog) (b : Bool) → Pairs OffFound (cond b (f ∷ []) [])
@@ -130,8 +130,8 @@ looked_pairs [] [] p = tt
 looked_pairs [] (s ∷ ss) p = tt
 looked_pairs (f ∷ fs) [] p = tt
 looked_pairs (f ∷ fs) (Stopped why ∷ ss) p = looked_pairs fs ss p.1
-looked_pairs (f ∷ fs) (Stood stand ∷ ss) p = (
-  each_in (OffLooked (looked_at f stand)) (looked_of fs ss) (λ x i. let r = in_looked fs ss x i in subst (λ (y : LookedLog). OffLooked (looked_at f stand) y) (sym r.2.1) (in_each (OffFound f) fs r.0 p.0 r.1)),
+looked_pairs (f ∷ fs) (Stood stand tmp ∷ ss) p = (
+  each_in (OffLooked (looked_at f stand tmp)) (looked_of fs ss) (λ x i. let r = in_looked fs ss x i in subst (λ (y : LookedLog). OffLooked (looked_at f stand tmp) y) (sym r.2.1) (in_each (OffFound f) fs r.0 p.0 r.1)),
   looked_pairs fs ss p.1,
 )
 

@@ -4,7 +4,9 @@ use Rattle.std.specs.List.{flat_map}
 use Rattle.lr_rules.specs.declared.clock.Clock.{Clock}
 use Rattle.lr_rules.specs.declared.fault.Fault.{Fault}
 use Rattle.lr_rules.specs.declared.path.Path.{Path}
+use Rattle.lr_rules.specs.declared.rule.Naming.{Naming}
 use Rattle.lr_rules.specs.declared.rule.Rule.{Rule}
+use Rattle.lr_rules.specs.Names.{is_aside}
 use Rattle.lr_due.specs.declared.answer.Due.{Due}
 use Rattle.lr_due.specs.declared.answer.Due.TheVariants as due
 use Rattle.lr_host.specs.declared.entry.Entry.{Entry}
@@ -16,11 +18,13 @@ use Rattle.lr_glob.specs.declared.found.Found.{Found as Match}
 use Rattle.lr_glob.specs.Words.{Comes as WordComes}
 use Rattle.lr_kept.specs.declared.choice.Choice.{Choice}
 use Rattle.lr_kept.specs.declared.choice.Choice.TheVariants.{Kept, Again, MemberOf, Reserved, Meets}
+use Rattle.lr_kept.proofs.Elements.{same_read}
 use Rattle.lr_plan.specs.declared.looks.LogLook.{LogLook}
 use Rattle.lr_plan.specs.declared.looks.SetLooks.{SetLooks}
-use Rattle.lr_plan.specs.Planned.{hindrances, where_due}
+use Rattle.lr_plan.specs.Planned.{is_file_kind, hindrances, where_due}
+use Rattle.lr_looks.specs.declared.standing.Standing.{Standing}
 use Rattle.lr_looks.specs.Asked.{Word, word_of, words_of, words_from, asked_by}
-use Rattle.lr_looks.specs.Choices.{kept_of, is_file, where_file}
+use Rattle.lr_looks.specs.Choices.{kept_of, where_file}
 use Rattle.lr_looks.specs.Families.{FamilySight, Stood, Stopped, LookedLog, looked_at, looked_of}
 use Rattle.lr_looks.specs.Found.{FoundLog}
 use Rattle.lr_looks.specs.Sets.{where_in, of_set, looked_in, HaveLooksFrom}
@@ -111,26 +115,26 @@ at_set k (suc j) logs (s ∷ ss) set h e = subst (λ (n : ℕ). map (looked_in n
 pub was_looked : (k j : ℕ) (logs : List LookedLog) (sets : List SetLooks) (set : SetLooks) (look : LogLook) → HaveLooksFrom k logs sets → slice_get sets j ≡ Some set → IsIn look set.logs → IsIn (looked_in (k + j) look) logs
 was_looked k j logs sets set look h e i = in_set (k + j) logs (looked_in (k + j) look) (subst (IsIn (looked_in (k + j) look)) (at_set k j logs sets set h e) (in_map (looked_in (k + j)) look set.logs i))
 
--- such a log is one that was kept, and what stands of its family
-pub in_looked : (fs : List FoundLog) (ss : List FamilySight) (x : LookedLog) → IsIn x (looked_of fs ss) → (f : FoundLog) × IsIn f fs × ((stand : _) × (x ≡ looked_at f stand))
+-- such a log is one that was kept, and what stands of it
+pub in_looked : (fs : List FoundLog) (ss : List FamilySight) (x : LookedLog) → IsIn x (looked_of fs ss) → (f : FoundLog) × IsIn f fs × ((w : Standing) × (x ≡ looked_at f w.stand w.tmp))
 in_looked [] [] x h = absurd h
 in_looked [] (s ∷ ss) x h = absurd h
 in_looked (f ∷ fs) [] x h = absurd h
-in_looked (f ∷ fs) (Stood stand ∷ ss) x (inl e) = (f, inl refl, (stand, sym e))
-in_looked (f ∷ fs) (Stood stand ∷ ss) x (inr i) = let r = in_looked fs ss x i in (r.0, inr r.1, r.2)
+in_looked (f ∷ fs) (Stood stand tmp ∷ ss) x (inl e) = (f, inl refl, (record { stand = stand; tmp = tmp }, sym e))
+in_looked (f ∷ fs) (Stood stand tmp ∷ ss) x (inr i) = let r = in_looked fs ss x i in (r.0, inr r.1, r.2)
 in_looked (f ∷ fs) (Stopped why ∷ ss) x i = let r = in_looked fs ss x i in (r.0, inr r.1, r.2)
 
 -- ---- a log that was found and kept
 
-file_is : (k : Kind) → is_file k ≡ true → k ≡ kind.File
+file_is : (k : Kind) → is_file_kind k ≡ true → k ≡ kind.File
 file_is kind.File e = refl
 file_is kind.Dir e = absurd (cc)
 file_is kind.Other e = absurd (cc)
 
 pub in_file : (f g : FoundLog) → IsIn g (where_file f) → (f ≡ g) × (f.seen.kind ≡ kind.File)
-in_file f g h = go (is_file f.seen.kind) refl h
+in_file f g h = go (is_file_kind f.seen.kind) refl h
   where
-    go : (b : Bool) → is_file f.seen.kind ≡ b → IsIn g (cond b (f ∷ []) []) → (f ≡ g) × (f.seen.kind ≡ kind.File)
+    go : (b : Bool) → is_file_kind f.seen.kind ≡ b → IsIn g (cond b (f ∷ []) []) → (f ≡ g) × (f.seen.kind ≡ kind.File)
     go true e (inl same) = (same, file_is f.seen.kind e)
     go true e (inr none) = absurd none
     go false e none = absurd none
@@ -258,7 +262,7 @@ came_from rules sets faults ts s x i = (
   kept.0,
 )
   where
-    f : (g : FoundLog) × IsIn g s.kept × ((stand : _) × (x ≡ looked_at g stand))
+    f : (g : FoundLog) × IsIn g s.kept × ((w : Standing) × (x ≡ looked_at g w.stand w.tmp))
     f = in_looked s.kept s.entries.second.families.sights x (subst (IsIn x) s.entries.second.families.looked_are i)
 
     kept : IsIn f.0 (kept_of s.found s.keeps.choices) × (f.0.seen.kind ≡ kind.File)
@@ -275,3 +279,22 @@ came_from rules sets faults ts s x i = (
       where
         none_more : (n : ℕ) → 0 + n ≡ n
         none_more n = omega arith
+
+-- ---- the naming of a look
+
+-- Each look of a definition is at a log whose naming is by the way of its rule.
+abbrev pub AskSo : List Rule → List SetLooks → Type 0
+AskSo rules sets = (k : ℕ) (rule : Rule) (set : SetLooks) (look : LogLook) → slice_get rules k ≡ Some rule → slice_get sets k ≡ Some set → IsIn look set.logs → look.family.naming.aside ≡ is_aside rule.way
+
+pub asks_so : {reserved : List Path} (rules : List Rule) (sets : List SetLooks) (faults : List Fault) (ts : List Entry) → ShowsLooks reserved rules sets faults ts → AskSo rules sets
+asks_so rules sets faults ts s k rule set look at_rule at i =
+    sym (ap (λ (n : Naming). n.aside) o.naming_is) ∙ (ap (λ (g : FoundLog). g.log.naming.aside) o.by_word.is ∙ ap (λ (r : Rule). is_aside r.way) (sym same))
+  where
+    o : IsFrom rules s.entries.front s.found (looked_in (0 + k) look)
+    o = (came_from rules sets faults ts s (looked_in (0 + k) look) (was_looked 0 k s.looked sets set look s.by_sets at i)).0
+
+    none_more : (n : ℕ) → 0 + n ≡ n
+    none_more n = omega arith
+
+    same : rule ≡ o.by_word.word.rule
+    same = same_read rules k rule o.by_word.word.rule at_rule (subst (λ (n : ℕ). slice_get rules n ≡ Some o.by_word.word.rule) (none_more k) o.at)

@@ -16,6 +16,7 @@ use Rattle.lr_kept.specs.declared.choice.Choice.{Choice}
 use Rattle.lr_kept.specs.declared.choice.Choice.TheVariants.{Kept}
 use Rattle.lr_plan.specs.declared.looks.LogLook.{LogLook}
 use Rattle.lr_plan.specs.declared.looks.SetLooks.{SetLooks}
+use Rattle.lr_looks.specs.declared.standing.Standing.{Standing}
 use Rattle.lr_looks.specs.Choices.{names_of, found_names, IsChoiceAmong, kept_of}
 use Rattle.lr_looks.specs.Families.{LookedLog, looked_at}
 use Rattle.lr_looks.specs.Found.{FoundLog}
@@ -54,7 +55,7 @@ target_free {reserved} rules sets faults ts clock t s c = subst (IsFreeOf reserv
     x : LookedLog
     x = looked_in (0 + c.place) c.look
 
-    f : (g : FoundLog) × IsIn g s.kept × ((stand : _) × (x ≡ looked_at g stand))
+    f : (g : FoundLog) × IsIn g s.kept × ((w : Standing) × (x ≡ looked_at g w.stand w.tmp))
     f = in_looked s.kept s.entries.second.families.sights x (subst (IsIn x) s.entries.second.families.looked_are (was_looked 0 c.place s.looked sets c.set c.look s.by_sets c.at_set c.among))
 
     kept : IsIn f.0 (kept_of s.found s.keeps.choices)

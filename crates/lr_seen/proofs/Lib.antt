@@ -1,4 +1,5 @@
 pub mod Apart
+pub mod Aside
 pub mod Coming
 mod Directory
 pub mod Elements

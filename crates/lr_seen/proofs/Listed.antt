@@ -40,16 +40,16 @@ abbrev AreTold : List Entry → List Listing → Type 0
 AreTold all known = (l : Listing) → IsIn l known → IsTold all l.dir l.there l.parent l.names
 
 -- those that are known behind a family were told, as those before it were
-told_next : (all : List Entry) (known : List Listing) (n : Naming) (after : List Listing) (s : FamilySight) (ts : List Entry) → ((e : Entry) → IsIn e ts → IsIn e all) → AreTold all known → ShowsFamily known n after s ts → AreTold all after
-told_next all known n after s ts in_all told (behind_listing l was same m) = subst (AreTold all) (sym same) told
-told_next all known n after s ts in_all told (with_listing l new e same t) = subst (AreTold all) (sym same) (λ k i. ⊎_elim
+told_next : (all : List Entry) (known : List Listing) (log : Path) (n : Naming) (after : List Listing) (s : FamilySight) (ts : List Entry) → ((e : Entry) → IsIn e ts → IsIn e all) → AreTold all known → ShowsFamily known log n after s ts → AreTold all after
+told_next all known log n after s ts in_all told (behind_listing l was same m) = subst (AreTold all) (sym same) told
+told_next all known log n after s ts in_all told (with_listing l new e same t) = subst (AreTold all) (sym same) (λ k i. ⊎_elim
     (λ a. told k a)
     (λ b. ⊎_elim (λ is. subst (λ (x : Listing). IsTold all x.dir x.there x.parent x.names) is now) (λ none. absurd none) b)
     (in_append k known (l ∷ []) i))
   where
     now : IsTold all l.dir l.there l.parent l.names
     now = subst (λ (x : Path). IsTold all x l.there l.parent l.names) (sym e) (record { ts = t.front; in_all = λ x j. in_all x (subst (IsIn x) (sym t.joined) (in_front x t.front t.back j)); shown = t.first })
-told_next all known n after s ts in_all told (not_listed why new same e h) = subst (AreTold all) (sym same) told
+told_next all known log n after s ts in_all told (not_listed why new same e h) = subst (AreTold all) (sym same) told
 
 module _ (all : List Entry) (dir : Path) (parent : Bool) (names : List (List ℕ)) where
   -- the directory was seen
@@ -145,15 +145,17 @@ told_by all n l stand ts in_all told shows = go l.there there told h.first h.sec
     )
 
 -- a family, whether its directory was listed before or is listed now
-family_told : (all : List Entry) (known : List Listing) (n : Naming) (after : List Listing) (stand : Stand) (s : FamilySight) (ts : List Entry) → s ≡ Stood stand → ((e : Entry) → IsIn e ts → IsIn e all) → AreTold all known → AreTold all after
-    → ShowsFamily known n after s ts → WasTold n stand all
-family_told all known n after stand s ts is in_all told next f = go (subst (λ (x : FamilySight). ShowsFamily known n after x ts) is f)
+family_told : (all : List Entry) (known : List Listing) (log : Path) (n : Naming) (after : List Listing) (stand : Stand) (tmp : Option Seen) (s : FamilySight) (ts : List Entry) → s ≡ Stood stand tmp → ((e : Entry) → IsIn e ts → IsIn e all) → AreTold all known → AreTold all after
+    → ShowsFamily known log n after s ts → WasTold n stand all
+family_told all known log n after stand tmp s ts is in_all told next f = go (subst (λ (x : FamilySight). ShowsFamily known log n after x ts) is f)
   where
-    go : ShowsFamily known n after (Stood stand) ts → WasTold n stand all
-    go (behind_listing l was same m) = told_by all n l stand ts in_all (subst (λ (x : Path). IsTold all x l.there l.parent l.names) was.same (told l (in_list known was.place l was.there))) m
+    go : ShowsFamily known log n after (Stood stand tmp) ts → WasTold n stand all
+    go (behind_listing l was same m) =
+        told_by all n l stand m.front (λ x i. in_all x (subst (IsIn x) (sym m.joined) (in_front x m.front m.back i)))
+        (subst (λ (x : Path). IsTold all x l.there l.parent l.names) was.same (told l (in_list known was.place l was.there))) m.first
     go (with_listing l new e same t) =
-        told_by all n l stand t.back (λ x i. in_all x (subst (IsIn x) (sym t.joined) (in_back x t.front t.back i)))
-        (subst (λ (x : Path). IsTold all x l.there l.parent l.names) e (next l (subst (IsIn l) (sym same) (in_back l known (l ∷ []) (inl refl))))) t.second
+        told_by all n l stand t.second.front (λ x i. in_all x (subst (IsIn x) (sym t.joined) (in_back x t.front t.back (subst (IsIn x) (sym t.second.joined) (in_front x t.second.front t.second.back i)))))
+        (subst (λ (x : Path). IsTold all x l.there l.parent l.names) e (next l (subst (IsIn l) (sym same) (in_back l known (l ∷ []) (inl refl))))) t.second.first
     go (not_listed why new same e h) = absurd (cc)
 
 -- of each log that was looked at whole
@@ -171,11 +173,11 @@ families_told all known (f ∷ fs) after (s ∷ ss) ts in_all told h x i = ⊎_e
     in_front_all e j = in_all e (subst (IsIn e) (sym h.1.joined) (in_front e h.1.front h.1.back j))
 
     next : AreTold all h.0
-    next = told_next all known f.log.naming h.0 s h.1.front in_front_all told h.1.first
+    next = told_next all known f.log.path f.log.naming h.0 s h.1.front in_front_all told h.1.first
 
     own : (r : FamilySight) → s ≡ r → IsIn x (looked_by f r) → WasTold x.naming x.stand all
-    own (Stood stand) is (inl e) = subst (λ (y : LookedLog). WasTold y.naming y.stand all) e (family_told all known f.log.naming h.0 stand s h.1.front is in_front_all told next h.1.first)
-    own (Stood stand) is (inr none) = absurd none
+    own (Stood stand tmp) is (inl e) = subst (λ (y : LookedLog). WasTold y.naming y.stand all) e (family_told all known f.log.path f.log.naming h.0 stand tmp s h.1.front is in_front_all told next h.1.first)
+    own (Stood stand tmp) is (inr none) = absurd none
     own (Stopped why) is none = absurd none
 
 pub all_told : (all : List Entry) (fs : List FoundLog) (after : List Listing) (ss : List FamilySight) (ts : List Entry) → ((e : Entry) → IsIn e ts → IsIn e all) → ShowFamilies [] fs after ss ts

@@ -13,12 +13,11 @@ use Rattle.lr_plan.specs.Asked.{Asked}
 use Rattle.lr_plan.specs.declared.looks.LogLook.{LogLook}
 use Rattle.lr_plan.specs.declared.looks.SetLooks.{SetLooks}
 use Rattle.lr_plan.specs.declared.plan.LogPlan.{LogPlan}
-use Rattle.lr_plan.specs.Planned.{decision, stand_for, standing, ready_for, job_by, hindrances, log_plan, none_hinders, plans_of, where_due, log_plans, all_plans, plan_of}
+use Rattle.lr_plan.specs.Planned.{decision, stand_for, standing, ready_for, job_by, aside_by, hindrances, log_plan, none_hinders, plans_of, where_due, log_plans, all_plans, plan_of}
 use Rattle.lr_laws_targets.specs.Target.{Target}
-use Rattle.lr_weave.specs.Planned.{IsReadyFor}
 use Rattle.lr_seen.specs.Planned.{target_in, targets_of_sets, targets_in}
 use Rattle.lr_seen.specs.Targets.{target_of, where_free, targets_of, all_targets}
-use Rattle.lr_seen.proofs.Ready.{ready_log}
+use Rattle.lr_seen.proofs.Ready.{bare_log}
 
 module _ (clock : Clock) (mailer : Path) where
   -- the target of a look with this log and this rotation
@@ -31,14 +30,12 @@ module _ (clock : Clock) (mailer : Path) where
     stand = stand_for rule look;
     ready = ready;
     job = job_by rule.way (standing rule look) (ready_for clock rule look).target;
+    aside = aside_by rule.way look.path look.tmp;
   }
 
   -- a log
-  ready_so : (rule : Rule) (look : LogLook) → IsReadyFor (target_of clock rule look) (log_plan clock mailer rule look) → target_in (log_plan clock mailer rule look) ≡ target_of clock rule look
-  ready_so rule look is = ap (part rule look (ready_for clock rule look).log) is.ready_is ∙ ap (λ (log : Path). part rule look log (ready_for clock rule look)) is.log_is
-
   same_log : (rule : Rule) (look : LogLook) → target_in (log_plan clock mailer rule look) ≡ target_of clock rule look
-  same_log rule look = ready_so rule look (ready_log clock rule look mailer)
+  same_log rule look = ap (part rule look look.path) (bare_log clock rule look mailer)
 
   same_free : (fs : List Fault) (rule : Rule) (look : LogLook) → map target_in (none_hinders fs (log_plan clock mailer rule look ∷ [])) ≡ where_free fs (target_of clock rule look)
   same_free [] rule look = ap (λ (t : Target). t ∷ []) (same_log rule look)

@@ -1,5 +1,5 @@
 -- All entries of the looks are looks and listings, so they change nothing.
-use Rattle.std.proofs.Common.{◌≡◌, inl, inr, ℕ, ◌+◌, ◌-◌, Bool, true, false, List, [], ◌∷◌, map, Option, Some, None, Ok, Err, take, length, sym, subst}
+use Rattle.std.proofs.Common.{◌≡◌, inl, inr, ℕ, ◌+◌, ◌-◌, Bool, true, false, List, [], ◌∷◌, Option, Ok, Err, take, length, sym, subst}
 use Rattle.lr_rules.specs.declared.path.Path.{Path}
 use Rattle.lr_rules.specs.declared.rule.Naming.{Naming}
 use Rattle.lr_rules.specs.declared.rule.Rule.{Rule}
@@ -7,6 +7,7 @@ use Rattle.lr_rules.specs.declared.fault.CallKind.{CallKind}
 use Rattle.lr_rules.specs.declared.fault.CallKind.TheVariants as call
 use Rattle.lr_rules.specs.declared.fault.Fault.{Fault}
 use Rattle.lr_rules.specs.Path.{parent_of}
+use Rattle.lr_host.specs.declared.thing.Seen.{Seen}
 use Rattle.lr_host.specs.declared.entry.Entry.{Entry}
 use Rattle.lr_host.specs.Looks.{Sees, IsNothing, IsDir, IsNoDir, IsNoFile, is_dir}
 use Rattle.lr_host.specs.Quiet.{AreQuiet}
@@ -16,9 +17,10 @@ use Rattle.lr_host.specs.declared.entry.Entry.TheVariants as entry
 use Rattle.lr_family.specs.declared.listing.Listing.{Listing}
 use Rattle.lr_family.specs.declared.spot.Spot.{Spot}
 use Rattle.lr_family.specs.declared.stand.Member.{Member}
+use Rattle.lr_family.specs.declared.stand.Stand.{Stand}
 use Rattle.lr_family.specs.declared.stand.StandStop.{StandStop}
 use Rattle.lr_family.specs.declared.stand.StandStop.TheVariants as stop
-use Rattle.lr_family.specs.Among.{ShowsMembers, ShowsNoneIn}
+use Rattle.lr_family.specs.Among.{ShowsMembers, ShowsIn, ShowsNoneIn}
 use Rattle.lr_family.specs.Listed.{HasListed, ShowsListing, NotListedAt, NotListed}
 use Rattle.lr_family.specs.Looks.{ShowsTo}
 use Rattle.lr_family.specs.Stops.{SomeStopped}
@@ -27,7 +29,7 @@ use Rattle.lr_glob.specs.Looking.{IsLooking as GlobIsLooking, AreLooking as Glob
 use Rattle.lr_glob.proofs.OnlyLooks.{comes_looks, stopped_looks}
 use Rattle.lr_plan.specs.declared.looks.SetLooks.{SetLooks}
 use Rattle.lr_looks.specs.Asked.{Word, asked_by}
-use Rattle.lr_looks.specs.Families.{FamilySight, Stood, Stopped, ShowsMembersIn, ShowsFamily, behind_listing, with_listing, not_listed, ShowFamilies}
+use Rattle.lr_looks.specs.Families.{FamilySight, Stood, Stopped, ShowsAside, ShowsNoAside, ShowsMembersIn, ShowsFamily, behind_listing, with_listing, not_listed, ShowFamilies}
 use Rattle.lr_looks.specs.Found.{FoundLog}
 use Rattle.lr_looks.specs.Shown.{ShowsLooks, ShowsSomeLooks, at_words, at_families}
 use Rattle.lr_looks.specs.Sights.{WordSight, found_by, ShowsWord, ShowWords}
@@ -73,10 +75,23 @@ looking_none_in n true names why ts (inr (inl s)) = looking_stops s.spots why ts
 looking_none_in n true names why ts (inr (inr b)) = looking_both ts (looking_members n true names b.0) (looking_no_parts n names why) b.1
 looking_none_in n false names why ts h = absurd h
 
-looking_members_in : (n : Naming) (l : Listing) (s : FamilySight) (ts : List Entry) → ShowsMembersIn n l s ts → AreLooking ts
-looking_members_in n l (Stood stand) ts h = looking_both ts (looking_members n l.there l.names stand.members) (looking_shown_parts n l.there l.names stand.parts) h.2
-looking_members_in n l (Stopped why) ts (inl h) = looking_none ts h.1
-looking_members_in n l (Stopped why) ts (inr h) = looking_none_in n l.there l.names why ts h
+looking_in : (n : Naming) (l : Listing) (stand : Stand) (ts : List Entry) → ShowsIn n l.there l.parent l.names stand ts → AreLooking ts
+looking_in n l stand ts h = looking_both ts (looking_members n l.there l.names stand.members) (looking_shown_parts n l.there l.names stand.parts) h.2
+
+-- the look where the log waits
+looking_aside : (aside : Bool) (log : Path) (tmp : Option Seen) (ts : List Entry) → ShowsAside aside log tmp ts → AreLooking ts
+looking_aside true log tmp ts h = subst AreLooking (sym h) (tt, tt)
+looking_aside false log tmp ts h = looking_none ts h.1
+
+looking_no_aside : (aside : Bool) (log : Path) (why : StandStop) (ts : List Entry) → ShowsNoAside aside log why ts → AreLooking ts
+looking_no_aside true log why ts h = looking_none ts h.1
+looking_no_aside false log why ts h = absurd h
+
+looking_members_in : (log : Path) (n : Naming) (l : Listing) (s : FamilySight) (ts : List Entry) → ShowsMembersIn log n l s ts → AreLooking ts
+looking_members_in log n l (Stood stand tmp) ts h = looking_both ts (looking_in n l stand) (looking_aside n.aside log tmp) h
+looking_members_in log n l (Stopped why) ts (inl h) = looking_none ts h.1
+looking_members_in log n l (Stopped why) ts (inr (inl h)) = looking_none_in n l.there l.names why ts h
+looking_members_in log n l (Stopped why) ts (inr (inr h)) = looking_both ts (looking_in n l h.0) (looking_no_aside n.aside log why) h.1
 
 -- ---- the looks at directories
 
@@ -102,16 +117,16 @@ looking_not dir stop.Memory ts (inr (inr s)) = looking_sees dir IsDir ts s
 
 -- ---- the looks at families
 
-looking_family : (known : List Listing) (n : Naming) (after : List Listing) (s : FamilySight) (ts : List Entry) → ShowsFamily known n after s ts → AreLooking ts
-looking_family known n after s ts (behind_listing l was same m) = looking_members_in n l s ts m
-looking_family known n after s ts (with_listing l new e same t) = looking_both ts (looking_listing n.dir l.there l.parent l.names) (looking_members_in n l s) t
-looking_family known n after s ts (not_listed why new same e h) = looking_not n.dir why ts h
+looking_family : (known : List Listing) (log : Path) (n : Naming) (after : List Listing) (s : FamilySight) (ts : List Entry) → ShowsFamily known log n after s ts → AreLooking ts
+looking_family known log n after s ts (behind_listing l was same m) = looking_members_in log n l s ts m
+looking_family known log n after s ts (with_listing l new e same t) = looking_both ts (looking_listing n.dir l.there l.parent l.names) (looking_members_in log n l s) t
+looking_family known log n after s ts (not_listed why new same e h) = looking_not n.dir why ts h
 
 looking_families : (known : List Listing) (fs : List FoundLog) (after : List Listing) (ss : List FamilySight) (ts : List Entry) → ShowFamilies known fs after ss ts → AreLooking ts
 looking_families known [] after [] ts h = looking_none ts h.1
 looking_families known [] after (s ∷ ss) ts h = absurd h
 looking_families known (f ∷ fs) after [] ts h = absurd h
-looking_families known (f ∷ fs) after (s ∷ ss) ts h = looking_both ts (looking_family known f.log.naming h.0 s) (λ us g. looking_families h.0 fs after ss us g) h.1
+looking_families known (f ∷ fs) after (s ∷ ss) ts h = looking_both ts (looking_family known f.log.path f.log.naming h.0 s) (λ us g. looking_families h.0 fs after ss us g) h.1
 
 -- ---- all of them, and a first part
 

@@ -1,5 +1,5 @@
 -- Each log that a plan rotates was seen, with its members.
-use Rattle.std.proofs.Common.{◌≡◌, ◌≢◌, ◌↔◌, inl, inr, ℕ, ◌+◌, ◌&&◌, ◌||◌, bytes_eq, Bool, true, false, not, if◌then◌else◌, true≢false, List, [], ◌∷◌, ◌++◌, Option, Some, None, slice_get, refl, sym, ap, ◌∙◌, subst, arith}
+use Rattle.std.proofs.Common.{◌≡◌, ◌≢◌, inl, inr, ℕ, ◌+◌, ◌&&◌, ◌||◌, bytes_eq, Bool, true, false, not, if◌then◌else◌, true≢false, List, [], ◌∷◌, ◌++◌, Option, Some, None, slice_get, refl, sym, ap, ◌∙◌, subst, arith}
 use Rattle.std.specs.List.{list_any}
 use Rattle.std.specs.List.Sorted.{IsStrictlySortedBy}
 use Rattle.std.proofs.lemmas.Bool.{and_parts, not-true, or_left, or_right}
@@ -10,9 +10,9 @@ use Rattle.lr_rules.specs.declared.path.Path.{Path}
 use Rattle.lr_rules.specs.declared.rule.Naming.{Naming}
 use Rattle.lr_rules.specs.declared.rule.Rule.{Rule}
 use Rattle.lr_rules.specs.declared.rule.Way.{Way}
-use Rattle.lr_rules.specs.declared.rule.Way.TheVariants.{Rename}
+use Rattle.lr_rules.specs.declared.rule.Way.TheVariants as way
 use Rattle.lr_rules.specs.declared.rules.Rules.{Rules}
-use Rattle.lr_rules.specs.Names.{aside_path, naming_of}
+use Rattle.lr_rules.specs.Names.{aside_path, is_aside, naming_of}
 use Rattle.lr_rules.specs.Limits.{is_format, or_none, meets_limits}
 use Rattle.lr_rules.specs.Path.{path_fault, parent_of}
 use Rattle.lr_due.specs.declared.answer.Due.{Due}
@@ -30,10 +30,11 @@ use Rattle.lr_family.specs.Stands.{AreNewestFirst}
 use Rattle.lr_glob.proofs.Seeking.{found_were_seen}
 use Rattle.lr_kept.specs.declared.choice.Choice.TheVariants.{Kept}
 use Rattle.lr_kept.proofs.Elements.{same_read}
+use Rattle.lr_chain.specs.Hindrances.{what_hinders}
 use Rattle.lr_copy.specs.declared.job.Job.{Job}
 use Rattle.lr_plan.specs.declared.looks.LogLook.{LogLook}
 use Rattle.lr_plan.specs.declared.looks.SetLooks.{SetLooks}
-use Rattle.lr_plan.specs.Planned.{is_made, mode_of, dir_is_log, makes_dir, empty_stand, stand_for, with_stand, standing, ready_for, job_by}
+use Rattle.lr_plan.specs.Planned.{is_made, mode_of, dir_is_log, makes_dir, empty_stand, stand_for, with_stand, standing, ready_for, job_by, hindrances, takes_up, aside_by}
 use Rattle.lr_looks.specs.Asked.{CanAsk}
 use Rattle.lr_looks.specs.Families.{LookedLog}
 use Rattle.lr_looks.specs.Choices.{kept_of}
@@ -41,7 +42,7 @@ use Rattle.lr_looks.specs.Found.{FoundLog, HasLogPath, HaveLogPaths}
 use Rattle.lr_looks.specs.Sets.{looked_in}
 use Rattle.lr_looks.specs.Shown.{ShowsLooks}
 use Rattle.lr_looks.proofs.Kindred.{kin_of}
-use Rattle.lr_laws_targets.specs.Target.{Target, IsDirSeenBy, Gives}
+use Rattle.lr_laws_targets.specs.Target.{Target, IsDirSeenBy, IsWaySeen, GoesBy, Gives}
 use Rattle.lr_laws_family.specs.Weave.{Among}
 use Rattle.lr_laws_family.specs.Members.{IsFamily}
 use Rattle.lr_laws_family.specs.Shown.{SawDir, no_dir, Shown}
@@ -52,12 +53,13 @@ use Rattle.lr_laws_targets.proofs.LogSeen.{have_names}
 use Rattle.lr_seen.specs.Targets.{target_of, all_targets}
 use Rattle.lr_seen.proofs.Elements.{in_list}
 use Rattle.lr_seen.proofs.Apart.{kept_at}
-use Rattle.lr_seen.proofs.Coming.{Comes, comes_from, was_looked, in_kept, IsFrom, came_from}
+use Rattle.lr_seen.proofs.Aside.{SawAside, all_aside}
+use Rattle.lr_seen.proofs.Coming.{asks_so, Comes, comes_from, was_looked, in_kept, IsFrom, came_from}
 use Rattle.lr_seen.proofs.Directory.{dir_apart}
 use Rattle.lr_seen.proofs.Gives.{all_in, gives_kept}
-use Rattle.lr_seen.proofs.Hindrances.{there_of}
+use Rattle.lr_seen.proofs.Hindrances.{there_of, free_of_members, nothing_aside, file_aside}
 use Rattle.lr_seen.proofs.Listed.{SawParent, WasShown, all_shown}
-use Rattle.lr_seen.proofs.Ready.{by_copy, by_rename, target_job, ready_by_clock}
+use Rattle.lr_seen.proofs.Ready.{by_copy, begins_at, goes_by_rule, target_job, ready_by_clock}
 
 -- ---- the family
 
@@ -135,7 +137,7 @@ has_in x (y ∷ ys) h = go (λ k. has_in x ys k) (bytes_eq x y) refl h
 -- one that goes before the copy stood as the rotation begins
 stale_stands : (clock : Clock) (rule : Rule) (look : LogLook) (job : Job) → (target_of clock rule look).job ≡ Some job → job.stale ≡ true → IsIn job.part (stand_for rule look).parts
 stale_stands clock rule look job is stale = let by = by_copy rule.way (standing rule look) (ready_for clock rule look).target job is in
-    subst (λ (j : Job). IsIn j.part (stand_for rule look).parts) by.1 (has_in (part_of (ready_for clock rule look).target) (stand_for rule look).parts (ap (λ (j : Job). j.stale) by.1 ∙ stale))
+    subst (λ (j : Job). IsIn j.part (stand_for rule look).parts) by.is (has_in (part_of (ready_for clock rule look).target) (stand_for rule look).parts (ap (λ (j : Job). j.stale) by.is ∙ stale))
 
 -- ---- what stands as the rotation begins
 
@@ -187,7 +189,7 @@ parent_seen dir parent ts saw there = go saw.0 (saw.1 ∙ there) saw.2
     go (Some seen) is i = (seen, dir_kind seen.kind is, i)
 
 none_stale : (look : LogLook) (way : Way) (target : Path) (job : Job) → job_by way (with_stand empty_stand look) target ≡ Some job → job.stale ≡ false
-none_stale look way target job is = let by = by_copy way (with_stand empty_stand look) target job is in sym (ap (λ (j : Job). j.stale) by.1)
+none_stale look way target job is = let by = by_copy way (with_stand empty_stand look) target job is in sym (ap (λ (j : Job). j.stale) by.is)
 
 module _ (rule : Rule) (look : LogLook) (ts : List Entry) (shown : WasShown look.family.naming look.stand ts) where
   -- the members that stand as the rotation begins were seen
@@ -216,10 +218,42 @@ module _ (rule : Rule) (look : LogLook) (ts : List Entry) (shown : WasShown look
         not_stale = λ job is_job. none_stale look rule.way target job is_job;
       }
 
+-- ---- the way of the log
+
+-- where the rule's way sets logs aside, the look there is among these
+look_aside : (aside : Bool) (log : Path) (tmp : Option Seen) (ts : List Entry) → aside ≡ true → SawAside aside log tmp ts → IsIn (entry.Look (aside_path log) tmp) ts
+look_aside true log tmp ts on saw = saw
+look_aside false log tmp ts off saw = absurd (cc)
+
+-- only that way names a path to set the log aside to
+by_way : (w : Way) (log : Path) (tmp : Option Seen) (path : Path) → aside_by w log tmp ≡ Some path → is_aside w ≡ true
+by_way way.Rename log tmp path is = absurd (cc)
+by_way way.Copy log tmp path is = absurd (cc)
+by_way way.CopyTruncate log tmp path is = absurd (cc)
+by_way way.RenameCopy log tmp path is = refl
+
+module _ (clock : Clock) (rule : Rule) (look : LogLook) (ts : List Entry) (asks : look.family.naming.aside ≡ is_aside rule.way) (beside : SawAside look.family.naming.aside look.path look.tmp ts) where
+  -- a file was seen where the log's file stands at first
+  first_seen : (b : Bool) → takes_up rule.way look.tmp ≡ b → Among (Sees look.path IsFile) ts → Among (Sees (if b then aside_path look.path else look.path) IsFile) ts
+  first_seen false up log = log
+  first_seen true up log =
+      let f = file_aside rule look up in
+      sees_file (aside_path look.path) f.1.0 ts f.1.2 (subst (λ (o : Option Seen). IsIn (entry.Look (aside_path look.path) o) ts) f.1.1
+      (look_aside look.family.naming.aside look.path look.tmp ts (asks ∙ ap is_aside f.0) beside))
+
+  way_was_seen : Among (Sees look.path IsFile) ts → hindrances clock rule look ≡ [] → IsWaySeen (target_of clock rule look) ts
+  way_was_seen log free = record {
+    first = subst (λ (p : Path). Among (Sees p IsFile) ts) (sym (begins_at clock rule look)) (first_seen (takes_up rule.way look.tmp) refl log);
+    free = λ path is. let none = nothing_aside clock rule look path free is in
+        subst (λ (p : Path). IsIn (entry.Look p None) ts) (sym none.1) (subst (λ (o : Option Seen). IsIn (entry.Look (aside_path look.path) o) ts) none.0
+        (look_aside look.family.naming.aside look.path look.tmp ts (asks ∙ by_way rule.way look.path look.tmp path is) beside));
+  }
+
 -- ---- one log, and all
 
 target_seen : {reserved : List Path} (rules : Rules) (sets : List SetLooks) (faults : List Fault) (ts : List Entry) (clock : Clock) (t : Target) → (s : ShowsLooks reserved rules.sets sets faults ts) → Comes clock rules.sets sets t → IsLogSeen rules clock ts t
 target_seen rules sets faults ts clock t s c = subst (IsLogSeen rules clock ts) (sym c.is) (record {
+  path = subst (λ (p : Path). path_fault p ≡ None) o.path_is (fits rules sets faults ts x s looked).path;
   given = record {
     rule = o.by_word.word.rule;
     word = o.by_word.word.text;
@@ -235,12 +269,13 @@ target_seen rules sets faults ts clock t s c = subst (IsLogSeen rules clock ts) 
     naming_is = ap (naming_of o.by_word.word.rule) (sym o.path_is) ∙ (by_rule rules sets faults ts x s looked ∙ o.naming_is);
     count_is = ap (λ (r : Rule). r.count) (sym same);
     maxage_is = ap (λ (r : Rule). r.maxage) (sym same);
-    way_is = subst (λ (r : Rule). (r.way ≡ Rename) ↔ ((target_of clock c.rule c.look).job ≡ None)) same (by_rename c.rule.way (standing c.rule c.look) (ready_for clock c.rule c.look).target);
+    way_is = subst (λ (r : Rule). GoesBy r.way (target_of clock c.rule c.look)) same (goes_by_rule clock c.rule c.look asks);
   };
   family = looked_family rules sets faults ts x s looked;
-  log_seen = sees_file x.path o.found.seen ts o.file (subst (λ (p : Path). IsIn (entry.Look p (Some o.found.seen)) ts) o.path_is look);
+  log_seen = log_seen;
+  way_seen = way_was_seen clock c.rule c.look ts asks beside log_seen c.free;
   seen = stand_shown c.rule c.look ts shown (makes_dir c.rule c.look) refl there;
-  free = c.free;
+  free = free;
   ready = ready_by_clock clock c.rule c.look;
   dir = dir_seen c.rule c.look ts shown (ready_for clock c.rule c.look).target (looked_format rules sets faults ts x s looked) (makes_dir c.rule c.look) refl there;
   job = λ job is. (target_job clock c.rule c.look job is, λ stale. let old = shown.1 job.part (part_stood c.rule c.look ts shown (makes_dir c.rule c.look) job.part (stale_stands clock c.rule c.look job is stale)) in sees_file job.part old.0 ts old.1 old.2);
@@ -263,14 +298,25 @@ target_seen rules sets faults ts clock t s c = subst (IsLogSeen rules clock ts) 
     shown = all_shown ts s.kept s.entries.second.listings s.entries.second.families.sights s.entries.back (λ e i. subst (IsIn e) (sym s.entries.joined) (in_back e s.entries.front s.entries.back i)) s.entries.second.families.shown
         x (subst (IsIn x) s.entries.second.families.looked_are looked)
 
+    free : what_hinders c.look.family.naming c.rule.count clock (stand_for c.rule c.look) ≡ []
+    free = free_of_members clock c.rule c.look c.free
+
     there : (stand_for c.rule c.look).there ≡ true
-    there = there_of c.look.family.naming c.rule.count clock (stand_for c.rule c.look) c.free
+    there = there_of c.look.family.naming c.rule.count clock (stand_for c.rule c.look) free
 
     none_more : (n : ℕ) → 0 + n ≡ n
     none_more n = omega arith
 
     same : c.rule ≡ o.by_word.word.rule
     same = same_read rules.sets c.place c.rule o.by_word.word.rule c.at_rule (subst (λ (n : ℕ). slice_get rules.sets n ≡ Some o.by_word.word.rule) (none_more c.place) o.at)
+
+    -- its naming is that of the rule's way
+    asks : c.look.family.naming.aside ≡ is_aside c.rule.way
+    asks = asks_so rules.sets sets faults ts s c.place c.rule c.set c.look c.at_rule c.at_set c.among
+
+    beside : SawAside c.look.family.naming.aside c.look.path c.look.tmp ts
+    beside = all_aside ts [] s.kept s.entries.second.listings s.entries.second.families.sights s.entries.back (λ e i. subst (IsIn e) (sym s.entries.joined) (in_back e s.entries.front s.entries.back i)) s.entries.second.families.shown
+        x (subst (IsIn x) s.entries.second.families.looked_are looked)
 
     -- a look of its word saw it
     look : IsIn (entry.Look o.found.log.path (Some o.found.seen)) ts
@@ -280,6 +326,9 @@ target_seen rules sets faults ts clock t s c = subst (IsLogSeen rules clock ts) 
         subst (IsIn e) (sym s.entries.joined) (in_front e s.entries.front s.entries.back
         (subst (IsIn e) (sym b.shown.joined) (in_back e b.shown.before (b.shown.part ++ b.shown.after) (in_front e b.shown.part b.shown.after
         (subst (λ (g : FoundLog). IsIn (entry.Look g.log.path (Some g.seen)) b.shown.part) (sym b.is) (found_were_seen b.word.text b.room b.matches b.shown.part b.shown.is b.one b.has))))))
+
+    log_seen : Among (Sees x.path IsFile) ts
+    log_seen = sees_file x.path o.found.seen ts o.file (subst (λ (p : Path). IsIn (entry.Look p (Some o.found.seen)) ts) o.path_is look)
 
 each_seen : (rules : Rules) (clock : Clock) (ts : List Entry) (us : List Target) → ((t : Target) → IsIn t us → IsLogSeen rules clock ts t) → AreLogsSeen rules clock ts us
 each_seen rules clock ts [] h = tt

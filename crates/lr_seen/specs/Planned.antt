@@ -10,13 +10,14 @@ use Rattle.lr_weave.specs.Planned.{bare}
 -- a log, with its rotation, of which each removal is without the programs before it
 abbrev pub target_in : LogPlan → Target
 target_in log = record {
-  log = log.ready.log;
+  log = log.log;
   naming = log.naming;
   count = log.count;
   maxage = log.maxage;
   stand = log.stand;
   ready = bare log.ready;
   job = log.job;
+  aside = log.aside;
 }
 
 -- the logs of these definitions, and of all

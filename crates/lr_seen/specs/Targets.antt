@@ -7,11 +7,11 @@ use Rattle.lr_rules.specs.declared.rule.Rule.{Rule}
 use Rattle.lr_due.specs.declared.answer.Due.{Due}
 use Rattle.lr_plan.specs.declared.looks.LogLook.{LogLook}
 use Rattle.lr_plan.specs.declared.looks.SetLooks.{SetLooks}
-use Rattle.lr_plan.specs.Planned.{standing, stand_for, ready_for, job_by, hindrances, where_due}
+use Rattle.lr_plan.specs.Planned.{standing, stand_for, ready_for, job_by, aside_by, hindrances, where_due}
 use Rattle.lr_laws_targets.specs.Target.{Target}
 
 -- A log with the count and the age of its rule, what stands of its family as its rotation begins (a directory that this makes is
--- there, and empty), its rotation, and its copy where the rule asks for one.
+-- there, and empty), its rotation, its copy where the rule asks for one, and where it is set aside.
 abbrev pub target_of : Clock → Rule → LogLook → Target
 target_of clock rule look = record {
   log = look.path;
@@ -21,6 +21,7 @@ target_of clock rule look = record {
   stand = stand_for rule look;
   ready = ready_for clock rule look;
   job = job_by rule.way (standing rule look) (ready_for clock rule look).target;
+  aside = aside_by rule.way look.path look.tmp;
 }
 
 -- where nothing hinders

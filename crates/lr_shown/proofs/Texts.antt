@@ -6,7 +6,6 @@ use Rattle.std.proofs.lemmas.Grind.{flat_map-append}
 use Rattle.lr_rules.specs.declared.fault.Phase.{Phase}
 use Rattle.lr_rules.specs.declared.fault.Phase.TheVariants as phase
 use Rattle.lr_scripts.specs.declared.command.Command.{Command}
-use Rattle.lr_rules.specs.declared.path.Path.{Path}
 use Rattle.lr_copy.specs.declared.job.Job.{Job}
 use Rattle.lr_plan.specs.declared.step.Step.{Step}
 use Rattle.lr_plan.specs.declared.step.Step.TheVariants as step
@@ -51,7 +50,3 @@ copy_lines job =
 -- three parts, and what follows
 pub regrouped : (a b c d : List Step) → lines_of (a ++ (b ++ c)) ++ lines_of d ≡ lines_of (a ++ (b ++ (c ++ d)))
 regrouped a b c d = lines_on (a ++ (b ++ c)) d ∙ ap lines_of (append_assoc a (b ++ c) d ∙ ap (λ t. a ++ t) (append_assoc b c d))
-
--- a log counts as rotated without a line
-pub unmarked : (log : Path) (x y : List Step) → lines_of (x ++ y) ≡ lines_of (x ++ (step.Rotated log ∷ y))
-unmarked log x y = sym (lines_on x y) ∙ lines_on x (step.Rotated log ∷ y)

@@ -62,7 +62,7 @@ clears_copy x job seen = by (bytes_eq job.part x) refl
 
 -- so are the courses of the log
 pub clears_log : (x : Path) (l : LogPlan) → ((job : Job) → l.job ≡ Some job → job.part ≡ x → job.stale ≡ true) → ClearsFirst x (rotation_of l) × ClearsFirst x (retirement_of l)
-clears_log x l seen = (a_rotation (ClearsFirst x) tt (clears_on x) (clears_one x) l (λ job is. clears_copy x job (seen job is)), a_retirement (ClearsFirst x) tt (clears_on x) (clears_one x) l)
+clears_log x l seen = (a_rotation (ClearsFirst x) tt (clears_on x) (clears_one x) l (λ job is. clears_copy x job (seen job is)), a_retirement (ClearsFirst x) tt (clears_on x) (clears_one x) l (λ job is. clears_copy x job (seen job is)))
 
 removes_it : (x : Path) (s : Step) (ts : List Entry) → RemovesAt x s → Succeeds s ts → IsIn (Unlinks x) ts
 removes_it x (step.Removes path) ts same w = subst (IsIn (Unlinks x)) (sym w) (inl (subst (λ (y : Path). Unlinks path ≡ Unlinks y) same refl))

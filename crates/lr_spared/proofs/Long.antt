@@ -59,7 +59,7 @@ module _ (C : Path → ℕ → Type 0) where
       cut false = tt
 
   pub fit_log : (l : LogPlan) → ((job : Job) → l.job ≡ Some job → C job.from job.limit) → FitCopies C (rotation_of l) × FitCopies C (retirement_of l)
-  fit_log l c = (a_rotation (FitCopies C) tt fit_on fit_one l (λ job is. fit_copy job (c job is)), a_retirement (FitCopies C) tt fit_on fit_one l)
+  fit_log l c = (a_rotation (FitCopies C) tt fit_on fit_one l (λ job is. fit_copy job (c job is)), a_retirement (FitCopies C) tt fit_on fit_one l (λ job is. fit_copy job (c job is)))
 
 -- ---- the last read
 

@@ -19,7 +19,7 @@ use Rattle.lr_plan.specs.declared.plan.LogPlan.{LogPlan}
 use Rattle.lr_plan.specs.declared.plan.SetPlan.{SetPlan}
 use Rattle.lr_plan.specs.declared.step.Step.{Step}
 use Rattle.lr_plan.specs.declared.step.Step.TheVariants as step
-use Rattle.lr_plan.specs.Steps.{on_of, program, removal, removals, directory, move, step_if, copy, transfer, made_anew, rotation_of, retirement_of, steps_of_log, shared_steps, by_logs, steps_of_set}
+use Rattle.lr_plan.specs.Steps.{on_of, program, removal, removals, directory, move, step_if, copy, transfer, anew, made_anew, finishing, rotation_of, retirement_of, steps_of_log, shared_steps, by_logs, steps_of_set}
 use Rattle.lr_acts.specs.Making.{all_of_each, all_of_set, all_of_sets}
 use Rattle.lr_laws_targets.specs.AllTurns.{IsItsDir}
 use Rattle.lr_laws_targets.specs.Target.{Target}
@@ -27,17 +27,19 @@ use Rattle.lr_laws_targets.proofs.Own.{member_own}
 use Rattle.lr_weave.specs.Fitting.{DontMeet}
 use Rattle.lr_weave.specs.Planned.{bare_removal, IsReadyFor, AreReadyFor}
 use Rattle.lr_run.proofs.Courses.{set_so, all_set}
-use Rattle.lr_run.proofs.Members.{AreOfMembers, GiveMembers, HasMembers, HaveMembers, job_to, job_part, part_own, meets_none}
+use Rattle.lr_laws_targets.proofs.PartFile.{part_no_waiting}
+use Rattle.lr_laws_targets.proofs.Way.{aside_is}
+use Rattle.lr_run.proofs.Members.{AreOfMembers, GiveMembers, HasMembers, HaveMembers, job_to, job_part, part_own, part_no_log, meets_none}
 use Rattle.lr_spared.proofs.Steps.{NoneTouches, OnceNamed, none_on, none_once, once_first, once_later}
 
 -- ---- one log
 
--- neither its rotation touches the path nor its retirement; its rotation names it once
+-- neither its rotation touches the path nor its retirement; one of the two names it once
 abbrev pub IsAside : Path → LogPlan → Type 0
 IsAside x l = NoneTouches x (rotation_of l) × NoneTouches x (retirement_of l)
 
 abbrev IsOnce : Path → LogPlan → Type 0
-IsOnce x l = OnceNamed x (rotation_of l) × NoneTouches x (retirement_of l)
+IsOnce x l = (OnceNamed x (rotation_of l) × NoneTouches x (retirement_of l)) ⊎ (NoneTouches x (rotation_of l) × OnceNamed x (retirement_of l))
 
 module _ (x : Path) where
   runs_none : (p : Phase) (about : List ℕ) (c : Command) → NoneTouches x (step.Runs p about c ∷ [])
@@ -89,18 +91,27 @@ module _ (x : Path) where
       go true = (λ named. absurd named, taken)
       go false = taken
 
-  anew_none : (m : Make) (log : Path) (job : Option Job) → (log ≡ x → ⊥) → NoneTouches x (made_anew m log job)
-  anew_none make.No log None other = tt
-  anew_none (make.Yes mode) log None other = (other, λ h. h, tt)
-  anew_none m log (Some job) other = tt
+  new_none : (m : Make) (log : Path) → (log ≡ x → ⊥) → NoneTouches x (anew m log)
+  new_none make.No log other = tt
+  new_none (make.Yes mode) log other = (other, λ h. h, tt)
+
+  anew_none : (m : Make) (log : Path) (job : Option Job) (aside : Option Path) → (log ≡ x → ⊥) → NoneTouches x (made_anew m log job aside)
+  anew_none m log None aside other = new_none m log other
+  anew_none m log (Some job) None other = tt
+  anew_none m log (Some job) (Some path) other = new_none m log other
+
+  finishing_none : (j : Option Job) (a : Option Path) → ((job : Job) → j ≡ Some job → (job.part ≡ x → ⊥) × (job.to ≡ x → ⊥)) → ((path : Path) → a ≡ Some path → path ≡ x → ⊥) → NoneTouches x (finishing j a)
+  finishing_none None a copied waits = tt
+  finishing_none (Some job) None copied waits = tt
+  finishing_none (Some job) (Some path) copied waits = none_on x (copy job) (step.Removes path ∷ []) (copy_none job (copied job refl).0 (copied job refl).1) ((λ h. h), waits path refl, tt)
 
   -- what a log does, by its target
   module _ (t : Target) (l : LogPlan) (h : HasMembers t) (r : IsReadyFor t l) where
     abbrev n : Naming
     n = t.naming
 
-    log_is : l.ready.log ≡ t.log
-    log_is = ap (λ (y : Ready). y.log) r.ready_is ∙ r.log_is
+    log_is : l.log ≡ t.log
+    log_is = r.log_is
 
     target_is : l.ready.target ≡ t.ready.target
     target_is = ap (λ (y : Ready). y.target) r.ready_is
@@ -119,9 +130,12 @@ module _ (x : Path) where
       chain_none : NoneTouches x (map move l.ready.moves)
       chain_none = moves_none n out l.ready.moves (subst (GiveMembers n) (sym (ap (λ (y : Ready). y.moves) r.ready_is)) h.moves)
 
-      retire_none : NoneTouches x (retirement_of l)
-      retire_none = none_on x (program phase.Mail l.first_mail) (removals l.ready.retire) (program_none phase.Mail l.first_mail)
+      removing_none : NoneTouches x (program phase.Mail l.first_mail ++ removals l.ready.retire)
+      removing_none = none_on x (program phase.Mail l.first_mail) (removals l.ready.retire) (program_none phase.Mail l.first_mail)
           (removals_none n out l.ready.retire (subst (AreOfMembers n) (sym (ap (λ (y : Ready). y.retire) r.ready_is)) h.retire))
+
+      retire_none : NoneTouches x (finishing l.job l.aside) → NoneTouches x (retirement_of l)
+      retire_none a = none_on x (finishing l.job l.aside) _ a removing_none
 
       -- what the log comes to is another path
       to_other : (to : Path) → to ≡ t.ready.target → to ≡ x → ⊥
@@ -129,10 +143,10 @@ module _ (x : Path) where
 
       -- around the way of the log to its final path
       abbrev way : List Step
-      way = transfer l.ready.log l.ready.target l.job
+      way = transfer l.ready.log l.ready.target l.job l.aside
 
       abbrev last : List Step
-      last = step.Rotated l.ready.log ∷ made_anew l.ready.make l.ready.log l.job
+      last = step.Rotated l.log ∷ made_anew l.ready.make l.log l.job l.aside
 
       around_none : NoneTouches x way → NoneTouches x last → NoneTouches x (rotation_of l)
       around_none a b = none_on x (removals l.ready.leftovers) _ leftovers_none (none_on x (directory l.ready.dir) _ dir_none (none_on x (map move l.ready.moves) _ chain_none (none_on x way last a b)))
@@ -142,7 +156,10 @@ module _ (x : Path) where
 
     -- the path is no name of the log
     pub log_aside : (IsName t.log n x → ⊥) → IsAside x l
-    log_aside other = (around_none no_member no_dir (by l.job refl) ((λ h. h), (λ h. h), anew_none l.ready.make l.ready.log l.job (λ same. other (inl (the_log (sym same ∙ log_is))))), retire_none no_member no_dir)
+    log_aside other = (
+      around_none no_member no_dir (by l.job l.aside refl refl) ((λ h. h), (λ h. h), anew_none l.ready.make l.log l.job l.aside (λ same. other (inl (the_log (sym same ∙ log_is))))),
+      retire_none no_member no_dir (finishing_none l.job l.aside (λ job e. (no_part job e, no_to job e)) no_wait),
+    )
       where
         no_member : IsMember n x → ⊥
         no_member m = other (inl (member_own t.log n x m))
@@ -150,29 +167,60 @@ module _ (x : Path) where
         no_dir : IsItsDir t x → ⊥
         no_dir d = other (inr (h.dir x d.0 d.1).0)
 
-        by : (j : Option Job) → l.job ≡ j → NoneTouches x (transfer l.ready.log l.ready.target j)
-        by None e = (to_other no_member no_dir l.ready.target target_is, λ h. h, tt)
-        by (Some job) e = let is : t.job ≡ Some job = sym r.job_is ∙ e in
-            copy_none job (λ same. other (inl (subst (IsOwnName t.log n) same (part_own t h job is)))) (to_other no_member no_dir job.to (job_to t h job is))
+        no_part : (job : Job) → l.job ≡ Some job → job.part ≡ x → ⊥
+        no_part job e same = other (inl (subst (IsOwnName t.log n) same (part_own t h job (sym r.job_is ∙ e))))
 
-    -- the path is that of the part file of its copy
+        no_to : (job : Job) → l.job ≡ Some job → job.to ≡ x → ⊥
+        no_to job e = to_other no_member no_dir job.to (job_to t h job (sym r.job_is ∙ e))
+
+        no_wait : (path : Path) → l.aside ≡ Some path → path ≡ x → ⊥
+        no_wait path e same = other (inl (subst (IsOwnName t.log n) same (h.waits_own path (sym r.aside_is ∙ e))))
+
+        by : (j : Option Job) (a : Option Path) → l.job ≡ j → l.aside ≡ a → NoneTouches x (transfer l.ready.log l.ready.target j a)
+        by None a e f = (to_other no_member no_dir l.ready.target target_is, λ h. h, tt)
+        by (Some job) None e f = copy_none job (no_part job e) (no_to job e)
+        by (Some job) (Some path) e f = ((λ h. h), (λ h. h), (no_wait path f, (λ h. h), tt))
+
+    -- the path is that of the part file of its copy, which stands in its rotation, or behind the scripts where it is set aside
     log_once : (job : Job) → t.job ≡ Some job → job.part ≡ x → IsOnce x l
-    log_once job is same = (around_once out away (by l.job (r.job_is ∙ is)) (last_none l.job (r.job_is ∙ is)), retire_none out away)
+    log_once job is same = go l.job l.aside refl refl
       where
+        same_job : (a b : Job) → Some a ≡ Some b → a ≡ b
+        same_job a b e = cc
+
         out : IsMember n x → ⊥
         out m = h.apart (subst (IsMember n) (sym same ∙ job_part t h job is) m)
 
         away : IsItsDir t x → ⊥
         away d = (h.dir x d.0 d.1).1 (subst (IsOwnName t.log n) same (part_own t h job is))
 
-        by : (j : Option Job) → j ≡ Some job → OnceNamed x (transfer l.ready.log l.ready.target j)
-        by None e = absurd (cc)
-        by (Some other) e = let one : other ≡ job = cc in
-            subst (λ (k : Job). OnceNamed x (copy k)) (sym one) (copy_once job (to_other out away job.to (job_to t h job is)))
+        wanted : Option Job → Option Path → Type 0
+        wanted j a = (OnceNamed x (transfer l.ready.log l.ready.target j a) × NoneTouches x (finishing j a)) ⊎ (NoneTouches x (transfer l.ready.log l.ready.target j a) × OnceNamed x (finishing j a))
 
-        last_none : (j : Option Job) → j ≡ Some job → NoneTouches x (step.Rotated l.ready.log ∷ made_anew l.ready.make l.ready.log j)
-        last_none None e = absurd (cc)
-        last_none (Some other) e = ((λ h. h), (λ h. h), tt)
+        waits_other : (path : Path) → l.aside ≡ Some path → path ≡ x → ⊥
+        waits_other path e here = part_no_waiting t.ready.target t.log (sym (job_part t h job is) ∙ (same ∙ (sym here ∙ (aside_is t path h.way (sym r.aside_is ∙ e)).1)))
+
+        by : (j : Option Job) (a : Option Path) → l.job ≡ j → l.aside ≡ a → wanted j a
+        by None a e f = absurd (let none : None ≡ Some job = sym e ∙ (r.job_is ∙ is) in cc)
+        by (Some other) None e f = let one : other ≡ job = same_job other job (sym e ∙ (r.job_is ∙ is)) in
+            inl (subst (λ (k : Job). OnceNamed x (copy k)) (sym one) (copy_once job (to_other out away job.to (job_to t h job is))), tt)
+        by (Some other) (Some path) e f = let one : other ≡ job = same_job other job (sym e ∙ (r.job_is ∙ is)) in
+            inr (
+              ((λ h. h), (λ h. h), (waits_other path f, (λ h. h), tt)),
+              subst (λ (k : Job). OnceNamed x (copy k ++ step.Removes path ∷ [])) (sym one) (once_first x (copy job) (step.Removes path ∷ []) (copy_once job (to_other out away job.to (job_to t h job is))) ((λ h. h), waits_other path f, tt)),
+            )
+
+        last_none : NoneTouches x (step.Rotated l.log ∷ made_anew l.ready.make l.log l.job l.aside)
+        last_none = ((λ h. h), (λ h. h), anew_none l.ready.make l.log l.job l.aside (λ here. part_no_log t h job is (same ∙ (sym here ∙ log_is))))
+
+        rest_none : NoneTouches x (program phase.Mail l.first_mail ++ removals l.ready.retire)
+        rest_none = removing_none out away
+
+        go : (j : Option Job) (a : Option Path) → l.job ≡ j → l.aside ≡ a → IsOnce x l
+        go j a e f = ⊎_elim
+            (λ w. inl (around_once out away w.0 last_none, retire_none out away w.1))
+            (λ w. inr (around_none out away w.0 last_none, once_first x (finishing l.job l.aside) _ w.1 rest_none))
+            (by l.job l.aside refl refl)
 
 -- ---- the logs of a plan
 
@@ -231,19 +279,24 @@ module _ (x : Path) where
   rotations_aside [] a = tt
   rotations_aside (l ∷ ls) a = none_on x (rotation_of l) (flat_map rotation_of ls) a.0.0 (rotations_aside ls a.1)
 
-  rotations_once : (ls : List LogPlan) → OneAtMost x ls → OnceNamed x (flat_map rotation_of ls)
-  rotations_once [] m = tt
-  rotations_once (l ∷ ls) (inl one) = once_first x (rotation_of l) (flat_map rotation_of ls) one.0.0 (rotations_aside ls one.1)
-  rotations_once (l ∷ ls) (inr later) = once_later x (rotation_of l) (flat_map rotation_of ls) later.0.0 (rotations_once ls later.1)
-
   retirements_aside : (ls : List LogPlan) → AreAside x ls → NoneTouches x (flat_map retirement_of ls)
   retirements_aside [] a = tt
   retirements_aside (l ∷ ls) a = none_on x (retirement_of l) (flat_map retirement_of ls) a.0.1 (retirements_aside ls a.1)
 
-  retirements_none : (ls : List LogPlan) → OneAtMost x ls → NoneTouches x (flat_map retirement_of ls)
-  retirements_none [] m = tt
-  retirements_none (l ∷ ls) (inl one) = none_on x (retirement_of l) (flat_map retirement_of ls) one.0.1 (retirements_aside ls one.1)
-  retirements_none (l ∷ ls) (inr later) = none_on x (retirement_of l) (flat_map retirement_of ls) later.0.1 (retirements_none ls later.1)
+  -- once by all rotations, or once by all retirements
+  abbrev InOneHalf : List LogPlan → Type 0
+  InOneHalf ls = (OnceNamed x (flat_map rotation_of ls) × NoneTouches x (flat_map retirement_of ls)) ⊎ (NoneTouches x (flat_map rotation_of ls) × OnceNamed x (flat_map retirement_of ls))
+
+  halves : (ls : List LogPlan) → OneAtMost x ls → InOneHalf ls
+  halves [] m = inl (tt, tt)
+  halves (l ∷ ls) (inl one) = ⊎_elim
+      (λ h. inl (once_first x (rotation_of l) (flat_map rotation_of ls) h.0 (rotations_aside ls one.1), none_on x (retirement_of l) (flat_map retirement_of ls) h.1 (retirements_aside ls one.1)))
+      (λ h. inr (none_on x (rotation_of l) (flat_map rotation_of ls) h.0 (rotations_aside ls one.1), once_first x (retirement_of l) (flat_map retirement_of ls) h.1 (retirements_aside ls one.1)))
+      one.0
+  halves (l ∷ ls) (inr later) = ⊎_elim
+      (λ h. inl (once_later x (rotation_of l) (flat_map rotation_of ls) later.0.0 h.0, none_on x (retirement_of l) (flat_map retirement_of ls) later.0.1 h.1))
+      (λ h. inr (none_on x (rotation_of l) (flat_map rotation_of ls) later.0.0 h.0, once_later x (retirement_of l) (flat_map retirement_of ls) later.0.1 h.1))
+      (halves ls later.1)
 
   behind_rotation : (l : LogPlan) → NoneTouches x (retirement_of l) → NoneTouches x (program phase.Post l.post ++ retirement_of l)
   behind_rotation l a = none_on x (program phase.Post l.post) (retirement_of l) (program_none x phase.Post l.post) a
@@ -256,7 +309,10 @@ module _ (x : Path) where
   logs_once : (ls : List LogPlan) → OneAtMost x ls → OnceNamed x (all_of_each (map steps_of_log ls))
   logs_once [] m = tt
   logs_once (l ∷ ls) (inl one) = once_first x (steps_of_log l) (all_of_each (map steps_of_log ls))
-      (once_later x (program phase.Pre l.pre) _ (program_none x phase.Pre l.pre) (once_first x (rotation_of l) _ one.0.0 (behind_rotation l one.0.1))) (logs_none ls one.1)
+      (once_later x (program phase.Pre l.pre) _ (program_none x phase.Pre l.pre) (⊎_elim
+      (λ h. once_first x (rotation_of l) _ h.0 (behind_rotation l h.1))
+      (λ h. once_later x (rotation_of l) _ h.0 (once_later x (program phase.Post l.post) (retirement_of l) (program_none x phase.Post l.post) h.1))
+      one.0)) (logs_none ls one.1)
   logs_once (l ∷ ls) (inr later) = once_later x (steps_of_log l) (all_of_each (map steps_of_log ls))
       (none_on x (program phase.Pre l.pre) _ (program_none x phase.Pre l.pre) (none_on x (rotation_of l) _ later.0.0 (behind_rotation l later.0.1))) (logs_once ls later.1)
 
@@ -264,9 +320,14 @@ module _ (x : Path) where
   shared_once set m =
       once_later x (program phase.First set.first) _ (program_none x phase.First set.first)
       (once_later x (program phase.Pre set.pre) _ (program_none x phase.Pre set.pre)
-      (once_first x (flat_map rotation_of set.logs) _ (rotations_once set.logs m)
+      (⊎_elim
+      (λ h. once_first x (flat_map rotation_of set.logs) _ h.0
       (none_on x (program phase.Post set.post) _ (program_none x phase.Post set.post)
-      (none_on x (flat_map retirement_of set.logs) (program phase.Last set.last) (retirements_none set.logs m) (program_none x phase.Last set.last)))))
+      (none_on x (flat_map retirement_of set.logs) (program phase.Last set.last) h.1 (program_none x phase.Last set.last))))
+      (λ h. once_later x (flat_map rotation_of set.logs) _ h.0
+      (once_later x (program phase.Post set.post) _ (program_none x phase.Post set.post)
+      (once_first x (flat_map retirement_of set.logs) (program phase.Last set.last) h.1 (program_none x phase.Last set.last))))
+      (halves set.logs m)))
 
   set_once : (set : SetPlan) → OneAtMost x set.logs → OnceNamed x (all_of_set (steps_of_set set))
   set_once set m = go set.shared set.logs

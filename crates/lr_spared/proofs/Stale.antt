@@ -22,7 +22,7 @@ use Rattle.lr_family.specs.Parts.{part_of, IsMembersPart}
 use Rattle.lr_copy.specs.declared.job.Job.{Job}
 use Rattle.lr_plan.specs.declared.looks.LogLook.{LogLook}
 use Rattle.lr_plan.specs.declared.looks.SetLooks.{SetLooks}
-use Rattle.lr_plan.specs.Planned.{is_made, makes_dir, empty_stand, stand_for, standing, copy_job, ready_for}
+use Rattle.lr_plan.specs.Planned.{is_made, makes_dir, empty_stand, stand_for, standing, ready_for}
 use Rattle.lr_looks.specs.Sets.{looked_in}
 use Rattle.lr_looks.specs.Shown.{ShowsLooks}
 use Rattle.lr_looks.specs.Sights.{WordSight}
@@ -35,7 +35,7 @@ use Rattle.lr_laws_targets.specs.Target.{Target}
 use Rattle.lr_seen.proofs.Coming.{Comes, was_looked}
 use Rattle.lr_seen.proofs.Elements.{in_list}
 use Rattle.lr_seen.proofs.Listed.{WasShown, all_shown}
-use Rattle.lr_seen.proofs.Ready.{by_copy}
+use Rattle.lr_seen.proofs.Ready.{IsCopyOf, by_copy}
 use Rattle.lr_stood.specs.True.{IsTrueFamily, AreTrue}
 use Rattle.lr_run.proofs.Members.{HasMembers, part_is_members}
 
@@ -59,7 +59,7 @@ module _ {reserved : List Path} {clock : Clock} (rules : List Rule) (sets : List
   looked = was_looked 0 c.place s.looked sets c.set c.look s.by_sets c.at_set c.among
 
   -- its copy is the one that the look asks for, by what stands as the rotation begins
-  copied : (job : Job) → t.job ≡ Some job → (cut : Bool) × (copy_job (standing c.rule c.look) (ready_for clock c.rule c.look).target cut ≡ job)
+  copied : (job : Job) → t.job ≡ Some job → IsCopyOf c.rule.way (standing c.rule c.look) (ready_for clock c.rule c.look).target job
   copied job is = by_copy c.rule.way (standing c.rule c.look) (ready_for clock c.rule c.look).target job (sym (ap (λ (u : Target). u.job) c.is) ∙ is)
 
   -- each part file that was seen stands then: where the directory was missing none was
@@ -75,7 +75,7 @@ module _ {reserved : List Path} {clock : Clock} (rules : List Rule) (sets : List
       go true is = absurd (subst (IsIn x) (shown.2 (made_gone c.rule c.look is)).parts i)
 
   pub part_seen : (sights : List WordSight) (p q : Past) → AreTrue rules sights sets p q → HasMembers t → (job : Job) → t.job ≡ Some job → IsFileAt (names (world p)) job.part → job.stale ≡ true
-  part_seen sights p q a h job is file = subst (λ (k : Job). k.stale ≡ true) by.1 (in_has (part_of to) (stand_for c.rule c.look).parts (stands_then (part_of to)
+  part_seen sights p q a h job is file = subst (λ (k : Job). k.stale ≡ true) by.is (in_has (part_of to) (stand_for c.rule c.look).parts (stands_then (part_of to)
       (f.parts (part_of to)
       (subst (IsMembersPart c.look.family.naming) part (subst (λ (n : Naming). IsMembersPart n job.part) (ap (λ (u : Target). u.naming) c.is) (part_is_members t h job is)))
       (subst (IsFileAt (names (world p))) part file))))
@@ -83,14 +83,14 @@ module _ {reserved : List Path} {clock : Clock} (rules : List Rule) (sets : List
       to : Path
       to = (ready_for clock c.rule c.look).target
 
-      by : (cut : Bool) × (copy_job (standing c.rule c.look) (ready_for clock c.rule c.look).target cut ≡ job)
+      by : IsCopyOf c.rule.way (standing c.rule c.look) to job
       by = copied job is
 
       f : IsTrueFamily c.look.family.naming c.look.stand p q
       f = a.families c.set c.look (in_list sets c.place c.set c.at_set) c.among
 
       part : job.part ≡ part_of to
-      part = ap (λ (k : Job). k.part) (sym by.1)
+      part = ap (λ (k : Job). k.part) (sym by.is)
 
 -- ---- the part file of the state
 

@@ -131,7 +131,7 @@ takes_copy x job t = ⊎_elim (λ a. absurd (cleared job.stale a)) (λ b. ⊎_el
 
 -- a step of the log needs it: the copy of its job, into this part file
 pub log_takes : (F : Type 0) (x : Path) (l : LogPlan) → ((job : Job) → l.job ≡ Some job → job.part ≡ x → F) → (OneTakes x (rotation_of l) → F) × (OneTakes x (retirement_of l) → F)
-log_takes F x l found = (a_rotation Q none on single l (λ job is t. found job is (takes_copy x job t)), a_retirement Q none on single l)
+log_takes F x l found = (a_rotation Q none on single l (λ job is t. found job is (takes_copy x job t)), a_retirement Q none on single l (λ job is t. found job is (takes_copy x job t)))
   where
     Q : List Step → Type 0
     Q ss = OneTakes x ss → F

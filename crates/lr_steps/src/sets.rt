@@ -15,7 +15,7 @@ fn add_rest(alloc: Global, steps: &mut Vec<Step>, log: &LogPlan) -> Result<(), M
     ensures { OnOk result (steps.new.items ≡ steps.old.items ++ (program phase.Post log.now.post ++ retirement_of log.now)) }
 {
     add_program(alloc, steps, Phase::Post, &log.post)?;
-    add_retirement(alloc, steps, &log.first_mail, log.ready.retire.as_slice())
+    add_retirement(alloc, steps, log)
 }
 
 // Adds the steps of a log by itself.
@@ -23,7 +23,7 @@ fn add_log(alloc: Global, steps: &mut Vec<Step>, log: &LogPlan) -> Result<(), Me
     ensures { OnOk result (steps.new.items ≡ steps.old.items ++ steps_of_log log.now) }
 {
     add_program(alloc, steps, Phase::Pre, &log.pre)?;
-    add_rotation(alloc, steps, &log.ready, &log.job)?;
+    add_rotation(alloc, steps, log)?;
     add_rest(alloc, steps, log)
 }
 
@@ -55,8 +55,8 @@ fn add_parts(
     ensures rotation { OnOk result (steps.new.items ≡ steps.old.items ++ rotation_of log.now) }
     ensures retirement { OnOk result (rest.new.items ≡ rest.old.items ++ retirement_of log.now) }
 {
-    add_rotation(alloc, steps, &log.ready, &log.job)?;
-    add_retirement(alloc, rest, &log.first_mail, log.ready.retire.as_slice())
+    add_rotation(alloc, steps, log)?;
+    add_retirement(alloc, rest, log)
 }
 
 // Adds the rotations of all logs to the one list, and their retirements to the other.

@@ -1,14 +1,14 @@
 // The steps of a plan, made before the first of them is taken. They hold copies of what the plan names.
-ghost use Rattle.std.specs.Prelude.{◌≡◌, ◌∷◌, ◌++◌, [], None, map, slice_index_or, option_copied, OnOk, IfOk};
+ghost use Rattle.std.specs.Prelude.{◌≡◌, ◌∷◌, ◌++◌, [], Some, map, slice_index_or, option_copied, OnOk, IfOk};
 ghost use Rattle.lr_rules.specs.declared.fault.Phase.TheVariants as phase;
 ghost use Rattle.lr_plan.specs.declared.step.Step.TheVariants as step;
-ghost use Rattle.lr_plan.specs.Steps.{input_of, on_of, program, removal, removals, directory, move, copy, transfer, made_anew};
-ghost use Rattle.lr_plan.specs.Steps.{rotation, retirement, step_if};
+ghost use Rattle.lr_plan.specs.Steps.{input_of, on_of, program, removal, removals, directory, move, copy, transfer, anew, made_anew};
+ghost use Rattle.lr_plan.specs.Steps.{rotation_of, finishing, retirement_of, step_if};
 
 use lr_chain::{Move, Ready};
 use lr_commands::text_of;
 use lr_copy::Job;
-use lr_plan::Step;
+use lr_plan::{LogPlan, Step};
 use lr_rules::{Make, Memory, Path, Phase, Text};
 use lr_scripts::{Command, Removal};
 use std::alloc::Global;
@@ -185,47 +185,80 @@ fn add_copy(alloc: Global, steps: &mut Vec<Step>, job: &Job) -> Result<(), Memor
     add_final_name(alloc, steps, job)
 }
 
-// Adds how the log comes to its final path, and is made anew.
+// Adds how the log goes to where it waits for its copy.
+fn add_setting_aside(
+    alloc: Global,
+    steps: &mut Vec<Step>,
+    log: &Path,
+    dir: &Path,
+    path: &Path,
+) -> Result<(), Memory>
+    ensures { OnOk result (steps.new.items ≡ steps.old.items ++ (step.SyncsDir dir.now ∷ step.Renames log.now path.now ∷ [])) }
+{
+    steps.push(Step::SyncsDir {
+        path: dir.copy(alloc)?,
+    })?;
+    steps.push(rename_step(alloc, log, path)?)?;
+    Ok(())
+}
+
+// Adds how the log that is copied comes to its final path, or to where it waits.
+fn add_copied(
+    alloc: Global,
+    steps: &mut Vec<Step>,
+    ready: &Ready,
+    job: &Job,
+    aside: &Option<Path>,
+) -> Result<(), Memory>
+    ensures { OnOk result (steps.new.items ≡ steps.old.items ++ transfer ready.now.log ready.now.target (Some job.now) aside.now) }
+{
+    match aside {
+        Some(path) => add_setting_aside(alloc, steps, &ready.log, &job.dir, path),
+        None => add_copy(alloc, steps, job),
+    }
+}
+
+// Adds how the log comes to its final path, or to where it waits.
 fn add_transfer(
     alloc: Global,
     steps: &mut Vec<Step>,
     ready: &Ready,
     job: &Option<Job>,
+    aside: &Option<Path>,
 ) -> Result<(), Memory>
-    ensures { OnOk result (steps.new.items ≡ steps.old.items
-        ++ (transfer ready.now.log ready.now.target job.now ++ (step.Rotated ready.now.log ∷ made_anew ready.now.make ready.now.log
-        job.now))) }
+    ensures { OnOk result (steps.new.items ≡ steps.old.items ++ transfer ready.now.log ready.now.target job.now aside.now) }
 {
     match job {
-        Some(job) => {
-            add_copy(alloc, steps, job)?;
-            add_rotated(alloc, steps, &ready.log)
-        }
+        Some(job) => add_copied(alloc, steps, ready, job, aside),
         None => {
             steps.push(rename_step(alloc, &ready.log, &ready.target)?)?;
-            add_anew(alloc, steps, &ready.log, ready.make)
+            Ok(())
         }
     }
 }
 
-fn add_rotated(alloc: Global, steps: &mut Vec<Step>, log: &Path) -> Result<(), Memory>
-    ensures { OnOk result (steps.new.items ≡ steps.old.items ++ step.Rotated log.now ∷ []) }
-{
-    steps.push(Step::Rotated {
-        log: log.copy(alloc)?,
-    })?;
-    Ok(())
-}
-
 fn add_anew(alloc: Global, steps: &mut Vec<Step>, log: &Path, make: Make) -> Result<(), Memory>
-    ensures { OnOk result (steps.new.items ≡ steps.old.items ++ step.Rotated log.now ∷ made_anew make log.now None) }
+    ensures { OnOk result (steps.new.items ≡ steps.old.items ++ anew make log.now) }
 {
-    add_rotated(alloc, steps, log)?;
     if let Make::Yes(mode) = make {
         steps.push(Step::Creates {
             path: log.copy(alloc)?,
             mode,
         })?;
+    }
+    Ok(())
+}
+
+// Adds that the log counts as rotated, and its making.
+fn add_rotated(alloc: Global, steps: &mut Vec<Step>, log: &LogPlan) -> Result<(), Memory>
+    ensures { OnOk result (steps.new.items ≡ steps.old.items
+        ++ (step.Rotated log.now.log ∷ made_anew log.now.ready.make log.now.log log.now.job log.now.aside)) }
+{
+    steps.push(Step::Rotated {
+        log: log.log.copy(alloc)?,
+    })?;
+    if log.leaves_path() {
+        add_anew(alloc, steps, &log.log, log.ready.make)?;
     }
     Ok(())
 }
@@ -240,30 +273,72 @@ fn add_chain(alloc: Global, steps: &mut Vec<Step>, ready: &Ready) -> Result<(), 
     add_moves(alloc, steps, ready.moves.as_slice())
 }
 
-/// Adds the rotation of a log.
-pub fn add_rotation(
-    alloc: Global,
-    steps: &mut Vec<Step>,
-    ready: &Ready,
-    job: &Option<Job>,
-) -> Result<(), Memory>
-    ensures { OnOk result (steps.new.items ≡ steps.old.items ++ rotation ready.now job.now) }
+// Adds the log's own way, and that it is rotated.
+fn add_own_way(alloc: Global, steps: &mut Vec<Step>, log: &LogPlan) -> Result<(), Memory>
+    ensures { OnOk result (steps.new.items ≡ steps.old.items
+        ++ (transfer log.now.ready.log log.now.ready.target log.now.job log.now.aside
+        ++ (step.Rotated log.now.log ∷ made_anew log.now.ready.make log.now.log log.now.job log.now.aside))) }
 {
-    add_chain(alloc, steps, ready)?;
-    add_transfer(alloc, steps, ready, job)
+    add_transfer(alloc, steps, &log.ready, &log.job, &log.aside)?;
+    add_rotated(alloc, steps, log)
 }
 
-/// Adds the retirement of these files behind the mail of the first.
-pub fn add_retirement(
+/// Adds the rotation of a log.
+pub fn add_rotation(alloc: Global, steps: &mut Vec<Step>, log: &LogPlan) -> Result<(), Memory>
+    ensures { OnOk result (steps.new.items ≡ steps.old.items ++ rotation_of log.now) }
+{
+    add_chain(alloc, steps, &log.ready)?;
+    add_own_way(alloc, steps, log)
+}
+
+// Adds the copy of a log that waits, and its end.
+fn add_letting_go(
     alloc: Global,
     steps: &mut Vec<Step>,
-    first_mail: &Option<Command>,
-    files: &[Removal],
+    job: &Job,
+    path: &Path,
 ) -> Result<(), Memory>
-    ensures { OnOk result (steps.new.items ≡ steps.old.items ++ retirement first_mail.now files.now) }
+    ensures { OnOk result (steps.new.items ≡ steps.old.items ++ (copy job.now ++ step.Removes path.now ∷ [])) }
 {
-    add_program(alloc, steps, Phase::Mail, first_mail)?;
-    add_removals(alloc, steps, files)
+    add_copy(alloc, steps, job)?;
+    steps.push(Step::Removes {
+        path: path.copy(alloc)?,
+    })?;
+    Ok(())
+}
+
+// Adds what is left to do for a log that was set aside.
+fn add_finishing(
+    alloc: Global,
+    steps: &mut Vec<Step>,
+    job: &Option<Job>,
+    aside: &Option<Path>,
+) -> Result<(), Memory>
+    ensures { OnOk result (steps.new.items ≡ steps.old.items ++ finishing job.now aside.now) }
+{
+    if let Some(job) = job {
+        if let Some(path) = aside {
+            add_letting_go(alloc, steps, job, path)?;
+        }
+    }
+    Ok(())
+}
+
+// Adds the mail of the first file, and the removals.
+fn add_removing(alloc: Global, steps: &mut Vec<Step>, log: &LogPlan) -> Result<(), Memory>
+    ensures { OnOk result (steps.new.items ≡ steps.old.items
+        ++ (program phase.Mail log.now.first_mail ++ removals log.now.ready.retire)) }
+{
+    add_program(alloc, steps, Phase::Mail, &log.first_mail)?;
+    add_removals(alloc, steps, log.ready.retire.as_slice())
+}
+
+/// Adds the retirement of a log.
+pub fn add_retirement(alloc: Global, steps: &mut Vec<Step>, log: &LogPlan) -> Result<(), Memory>
+    ensures { OnOk result (steps.new.items ≡ steps.old.items ++ retirement_of log.now) }
+{
+    add_finishing(alloc, steps, &log.job, &log.aside)?;
+    add_removing(alloc, steps, log)
 }
 
 /// Adds all of these steps.

@@ -1,5 +1,5 @@
 -- All looks of a run.
-use Rattle.std.proofs.Common.{◌≡◌, ◌+◌, ℕ, List, ◌++◌, reverse, Some, Ok, slice_get, sym, ap, ◌∙◌, subst, append_assoc}
+use Rattle.std.proofs.Common.{◌≡◌, ◌+◌, ℕ, true, List, [], ◌++◌, reverse, Some, Ok, slice_get, sym, ap, ◌∙◌, subst, append_assoc}
 use Rattle.lr_rules.specs.declared.fault.Fault.{Fault}
 use Rattle.lr_rules.specs.declared.path.Path.{Path}
 use Rattle.lr_rules.specs.declared.rules.Rules.{Rules}
@@ -15,16 +15,17 @@ use Rattle.lr_glob.specs.declared.found.Found.{Found as Match}
 use Rattle.lr_plan.specs.declared.looks.LogLook.{LogLook}
 use Rattle.lr_plan.specs.declared.looks.SetLooks.{SetLooks}
 use Rattle.lr_looks.specs.Asked.{Word, asked_by}
-use Rattle.lr_looks.specs.Families.{LookedLog}
+use Rattle.lr_looks.specs.Families.{LookedLog, looked_of, LooksAtFamilies}
 use Rattle.lr_looks.specs.Sets.{looked_in}
 use Rattle.lr_looks.specs.Shown.{ShowsLooks}
+use Rattle.lr_seen.proofs.Aside.{SawAside, all_aside}
 use Rattle.lr_seen.proofs.Coming.{was_looked}
 use Rattle.lr_seen.proofs.Free.{place_in}
 use Rattle.lr_seen.proofs.Listed.{all_shown}
 use Rattle.lr_seen.proofs.Quiet.{whole_quiet}
 use Rattle.lr_seen.proofs.Seen.{looked_family}
-use Rattle.lr_stood.specs.True.{IsTrueWord, IsTrueFamily, AreTrue}
-use Rattle.lr_stood.proofs.Families.{true_family}
+use Rattle.lr_stood.specs.True.{IsTrueWord, IsTrueFamily, IsTrueAside, AreTrue}
+use Rattle.lr_stood.proofs.Families.{true_aside, true_family}
 use Rattle.lr_stood.proofs.Sought.{all_sought}
 use Rattle.lr_stood.proofs.Words.{WasShown, word_shown, text_at, true_word}
 
@@ -59,20 +60,30 @@ module _ {reserved : List Path} (rules : Rules) (sets : List SetLooks) (faults :
       shown : WasShown w matches s.entries.front
       shown = word_shown 0 (asked_by rules.sets) s.entries.first.sights s.entries.front place w matches s.entries.first.shown at is
 
+  -- ---- the logs that were looked at whole
+
+  f : LooksAtFamilies s.kept s.of_kept faults s.looked s.entries.back
+  f = s.entries.second
+
+  of_sights : (x : LookedLog) → IsIn x s.looked → IsIn x (looked_of s.kept f.families.sights)
+  of_sights x i = subst (IsIn x) f.families.looked_are i
+
   one_family : (x : LookedLog) → IsIn x s.looked → IsTrueFamily x.naming x.stand p q
   one_family x i = true_family x.path x.naming x.stand p q es (looked_family rules sets faults ts x s i) made journal still
-      (all_shown (reverse es) s.kept f.listings f.families.sights s.entries.back in_families f.families.shown x of_sights)
-      (all_sought (reverse es) s.kept f.listings f.families.sights s.entries.back in_families f.families.shown x of_sights)
-    where
-      f : Rattle.lr_looks.specs.Families.LooksAtFamilies s.kept s.of_kept faults s.looked s.entries.back
-      f = s.entries.second
+      (all_shown (reverse es) s.kept f.listings f.families.sights s.entries.back in_families f.families.shown x (of_sights x i))
+      (all_sought (reverse es) s.kept f.listings f.families.sights s.entries.back in_families f.families.shown x (of_sights x i))
 
-      of_sights : IsIn x (Rattle.lr_looks.specs.Families.looked_of s.kept f.families.sights)
-      of_sights = subst (IsIn x) f.families.looked_are i
+  one_aside : (x : LookedLog) → IsIn x s.looked → x.naming.aside ≡ true → IsTrueAside x.path x.tmp p q
+  one_aside x i is = true_aside p q es made still x.path x.tmp
+      (subst (λ b. SawAside b x.path x.tmp (reverse es)) is (all_aside (reverse es) [] s.kept f.listings f.families.sights s.entries.back in_families f.families.shown x (of_sights x i)))
 
-  -- a log that was looked at whole, where its definition has it
-  in_set : (set : SetLooks) (look : LogLook) → IsIn set sets → IsIn look set.logs → IsTrueFamily look.family.naming look.stand p q
-  in_set set look among i = let at = place_in sets set among in one_family (looked_in (0 + at.0) look) (was_looked 0 at.0 s.looked sets set look s.by_sets at.1 i)
+  -- where its definition has it
+  in_definition : (set : SetLooks) (look : LogLook) → IsIn set sets → IsIn look set.logs → (k : ℕ) × IsIn (looked_in k look) s.looked
+  in_definition set look among i = let at = place_in sets set among in (0 + at.0, was_looked 0 at.0 s.looked sets set look s.by_sets at.1 i)
 
   pub looks_true : AreTrue rules.sets s.entries.first.sights sets p q
-  looks_true = record { words = one_word; families = in_set }
+  looks_true = record {
+    words = one_word;
+    families = λ set look among i. let l = in_definition set look among i in one_family (looked_in l.0 look) l.1;
+    aside = λ set look among i is. let l = in_definition set look among i in one_aside (looked_in l.0 look) l.1 is;
+  }

@@ -1,8 +1,9 @@
 -- What was seen of a family is what stood before the looks, or came since.
-use Rattle.std.proofs.Common.{◌≡◌, ◌⊎◌, inl, inr, ⊎_elim, ℕ, Bool, true, false, bytes_eq, List, [], ◌∷◌, Option, Some, None, refl, ◌∙◌, ap, subst, reverse}
+use Rattle.std.proofs.Common.{◌≡◌, ◌≢◌, ◌⊎◌, inl, inr, ⊎_elim, ℕ, Bool, true, false, bytes_eq, List, [], ◌∷◌, Option, Some, None, refl, ◌∙◌, ap, subst, reverse}
 use Rattle.std.proofs.lemmas.Slice.Eq.{bytes_eq-Decides}
 use Rattle.lr_rules.specs.declared.path.Path.{Path}
 use Rattle.lr_rules.specs.declared.rule.Naming.{Naming}
+use Rattle.lr_rules.specs.Names.{aside_path}
 use Rattle.lr_rules.specs.Path.{joined, parent_of, last_of}
 use Rattle.lr_rules.proofs.PathLemmas.{parent_joined, last_joined}
 use Rattle.lr_host.specs.declared.thing.Kind.TheVariants as kind
@@ -32,11 +33,12 @@ use Rattle.lr_laws_family.proofs.Picking.{has_or_none}
 use Rattle.lr_seen.proofs.Listed.{WasShown}
 use Rattle.lr_sought.specs.Finds.{StoodOrCame}
 use Rattle.lr_sought.proofs.Came.{quiet_prefix, stood_or_came}
-use Rattle.lr_stood.specs.True.{HasMember, IsTrueFamily}
+use Rattle.lr_stood.specs.True.{HasMember, IsTrueFamily, IsTrueAside}
 use Rattle.lr_laws_family.specs.Members.{IsFamily}
 use Rattle.lr_laws_family.proofs.Directory.{IsNameIn, member_in}
 use Rattle.lr_stood.proofs.Members.{part_in, WereSeen, members_seen}
 use Rattle.lr_stood.proofs.Sought.{WereSought, WasSought}
+use Rattle.lr_stood.proofs.Words.{still_named}
 
 -- a file is seen as one
 file_seen : (w : World) (t : Thing) (g : ℕ) (o : Option Seen) → t ≡ thing.File g → Sees w t o → IsFile o
@@ -55,7 +57,9 @@ path_or_not x (y ∷ ys) = go (bytes_eq y x) refl (path_or_not x ys)
     go false e (inl i) = inl (inr i)
     go false e (inr none) = inr (λ i. ⊎_elim (λ (same : y ≡ x). absurd (let t = (bytes_eq-Decides y x).1 same in cc)) none i)
 
-module _ (log : Path) (n : Naming) (stand : Stand) (p q : Past) (es : List Entry) (family : IsFamily log n) (m : Made p es q) (journal : IsJournal p) (still : ChangeNothing es) (shown : WasShown n stand (reverse es)) (sought : WasSought n stand (reverse es)) where
+-- ---- one look
+
+module _ (p q : Past) (es : List Entry) (m : Made p es q) (still : ChangeNothing es) where
   -- just before one of the entries
   then_ : (e : Entry) → IsIn e (reverse es) → Moment IsAny p q e
   then_ e i = moment IsAny p q e es (since_any p q es m) m still (from_reverse e es i)
@@ -65,23 +69,42 @@ module _ (log : Path) (n : Naming) (stand : Stand) (p q : Past) (es : List Entry
   stands x e t file = file_more (names (world p)) (names (world t.at)) x (quiet_more IsAny p t.at t.since) file
 
   -- a look that saw a file tells that it stood, or came
-  came : (x : Path) (seen : Seen) → seen.kind ≡ kind.File → IsIn (entry.Look x (Some seen)) (reverse es) → StoodOrCame x p q
-  came x seen k i =
+  file_came : (x : Path) (o : Option Seen) → IsFile o → IsIn (entry.Look x o) (reverse es) → StoodOrCame x p q
+  file_came x None none i = absurd none
+  file_came x (Some seen) k i =
       let t = then_ (entry.Look x (Some seen)) i in
       stood_or_came x p t.at q t.since (quiet_prefix t.at q t.until) (seen_file (world t.at) (names (world t.at) x) seen t.fits k)
 
-  -- one that saw none tells that none stood
-  none_stood : (x : Path) (o : Option Seen) → (IsFile o → ⊥) → IsIn (entry.Look x o) (reverse es) → IsFileAt (names (world p)) x → ⊥
-  none_stood x o other i file =
+  -- it saw the file that stood
+  stood_seen : (x : Path) (o : Option Seen) → IsIn (entry.Look x o) (reverse es) → IsFileAt (names (world p)) x → IsFile o
+  stood_seen x o i file =
       let t = then_ (entry.Look x o) i in
       let f = stands x (entry.Look x o) t file in
-      other (file_seen (world t.at) (names (world t.at) x) f.0 o f.1 t.fits)
+      file_seen (world t.at) (names (world t.at) x) f.0 o f.1 t.fits
+
+  -- and whatever stood
+  thing_seen : (x : Path) (o : Option Seen) → IsIn (entry.Look x o) (reverse es) → names (world p) x ≢ thing.Nothing → o ≢ None
+  thing_seen x o i named none =
+      let t = then_ (entry.Look x o) i in
+      still_named (names (world p) x) (names (world t.at) x) (quiet_more IsAny p t.at t.since x) named
+      (seen_none (world t.at) (names (world t.at) x) (subst (Sees (world t.at) (names (world t.at) x)) none t.fits))
+
+  -- the look where a log waits
+  pub true_aside : (log : Path) (tmp : Option Seen) → IsIn (entry.Look (aside_path log) tmp) (reverse es) → IsTrueAside log tmp p q
+  true_aside log tmp i = record { stood = thing_seen (aside_path log) tmp i; file = λ file. stood_seen (aside_path log) tmp i file; came = λ is. file_came (aside_path log) tmp is i }
+
+-- ---- a family
+
+module _ (log : Path) (n : Naming) (stand : Stand) (p q : Past) (es : List Entry) (family : IsFamily log n) (m : Made p es q) (journal : IsJournal p) (still : ChangeNothing es) (shown : WasShown n stand (reverse es)) (sought : WasSought n stand (reverse es)) where
+  -- a look that saw no file tells that none stood
+  none_stood : (x : Path) (o : Option Seen) → (IsFile o → ⊥) → IsIn (entry.Look x o) (reverse es) → IsFileAt (names (world p)) x → ⊥
+  none_stood x o other i file = other (stood_seen p q es m still x o i file)
 
   -- so does a listing of its directory without its name
   not_listed : (x : Path) (listed : List (List ℕ)) → IsNameIn n.dir x → IsIn (entry.List n.dir listed) (reverse es) → IsUnlisted n.dir listed x → IsFileAt (names (world p)) x → ⊥
   not_listed x listed h i absent file =
-      let t = then_ (entry.List n.dir listed) i in
-      let f = stands (joined n.dir h.name) (entry.List n.dir listed) t (subst (IsFileAt (names (world p))) h.named file) in
+      let t = then_ p q es m still (entry.List n.dir listed) i in
+      let f = stands p q es m still (joined n.dir h.name) (entry.List n.dir listed) t (subst (IsFileAt (names (world p))) h.named file) in
       absent h.name ((t.fits.1.all h.name).1 (h.part, λ none. nothing_no_file (names (world t.at) (joined n.dir h.name)) f.0 none f.1)) h.named
 
   -- and a look that saw no directory
@@ -89,7 +112,7 @@ module _ (log : Path) (n : Naming) (stand : Stand) (p q : Past) (es : List Entry
   no_directory x h i file = nothing_no_dir (names (world t.at) n.dir) (seen_none (world t.at) (names (world t.at) n.dir) t.fits) (directory_more (names (world p)) (names (world t.at)) n.dir (quiet_more IsAny p t.at t.since) dir)
     where
       t : Moment IsAny p q (entry.Look n.dir None)
-      t = then_ (entry.Look n.dir None) i
+      t = then_ p q es m still (entry.Look n.dir None) i
 
       there : IsFileAt (names (world p)) (joined n.dir h.name)
       there = subst (IsFileAt (names (world p))) h.named file
@@ -120,9 +143,9 @@ module _ (log : Path) (n : Naming) (stand : Stand) (p q : Past) (es : List Entry
       s = seen there
   member_stood x member file false there = absurd (no_directory x (member_in log n x family member) (shown.2 there).look file)
 
-  member_came : (m : Member) → IsIn m stand.members → (b : Bool) → stand.there ≡ b → StoodOrCame m.path p q
-  member_came m i true there = let f = (seen there).files m i in came m.path f.0 f.1 f.2
-  member_came m i false there = absurd (subst (IsIn m) (shown.2 there).members i)
+  member_came : (one : Member) → IsIn one stand.members → (b : Bool) → stand.there ≡ b → StoodOrCame one.path p q
+  member_came one i true there = let f = (seen there).files one i in file_came p q es m still one.path (Some f.0) f.1 f.2
+  member_came one i false there = absurd (subst (IsIn one) (shown.2 there).members i)
 
   -- ---- part files
 
@@ -140,6 +163,6 @@ module _ (log : Path) (n : Naming) (stand : Stand) (p q : Past) (es : List Entry
   true_family = record {
     members = λ x member file. member_stood x member file stand.there refl;
     parts = λ x part file. part_stood x part file stand.there refl;
-    member_came = λ m i. member_came m i stand.there refl;
-    part_came = λ x i. let f = shown.1 x i in came x f.0 f.1 f.2;
+    member_came = λ one i. member_came one i stand.there refl;
+    part_came = λ x i. let f = shown.1 x i in file_came p q es m still x (Some f.0) f.1 f.2;
   }

@@ -89,7 +89,7 @@ text_at (v ∷ ws) (suc place) w t at = text_at ws place w t.1 at
 -- ---- over quiet entries
 
 -- what a path named it names still
-still_named : (t u : Thing) → (u ≡ t) ⊎ ((t ≡ thing.Nothing) × ((g : ℕ) × (u ≡ thing.File g))) → t ≢ thing.Nothing → u ≢ thing.Nothing
+pub still_named : (t u : Thing) → (u ≡ t) ⊎ ((t ≡ thing.Nothing) × ((g : ℕ) × (u ≡ thing.File g))) → t ≢ thing.Nothing → u ≢ thing.Nothing
 still_named t u (inl same) named none = named (sym same ∙ none)
 still_named t u (inr new) named none = named new.0
 

@@ -14,8 +14,8 @@ ghost use Rattle.lr_stood.specs.True.{AreTrue};
 
 /// The looks of a run, behind entries that change nothing, are true between the moment before those and the one behind the
 /// looks, whatever writers did meanwhile: each regular file that a word gives and that stood was found, unless a fault passed
-/// the word over; so was each member, numbered or dated, of a log that is kept, and each part file of a member; and nothing
-/// else but what a writer was attached to meanwhile.
+/// the word over; so was each member, numbered or dated, of a log that is kept, each part file of a member, and the file at the
+/// path where a log waits that its rule sets aside; and nothing else but what a writer was attached to meanwhile.
 pub fn looks_are_true()
     ensures { (reserved : List Path) (rules : Rules) (sets : List SetLooks) (faults : List Fault) (front ts es : List Entry)
         (p q : Past)

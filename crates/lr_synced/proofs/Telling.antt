@@ -22,7 +22,7 @@ use Rattle.lr_plan.specs.declared.plan.SetPlan.{SetPlan}
 use Rattle.lr_plan.specs.declared.step.Step.{Step}
 use Rattle.lr_plan.specs.declared.step.Step.TheVariants.{Removes, MakesDir, Truncates}
 use Rattle.lr_plan.specs.Outcomes.{marks_of}
-use Rattle.lr_plan.specs.Steps.{program, removal, removals, directory, move, step_if, transfer, anew, made_anew, rotation_of, retirement_of, steps_of_log, shared_steps, by_logs, steps_of_set}
+use Rattle.lr_plan.specs.Steps.{program, removal, removals, directory, move, step_if, copy, transfer, anew, made_anew, finishing, rotation_of, retirement_of, steps_of_log, shared_steps, by_logs, steps_of_set}
 use Rattle.lr_synced.specs.Synced.{made_of, to_make_of, all_to_make_of, made_by, made_in}
 
 -- ---- of marks that tell these paths, and none of a log that was made anew
@@ -66,21 +66,31 @@ module _ (pick : Mark → List Path) (none_anew : (path : Path) → pick (mark.C
   if_none true s e = e
   if_none false s e = refl
 
-  transfer_none : (log target : Path) (job : Option Job) → told_by (transfer log target job) ≡ []
-  transfer_none log target None = refl
-  transfer_none log target (Some job) = none_both (step_if job.stale (Removes job.part)) _ (if_none job.stale (Removes job.part) refl) (if_none job.cut (Truncates job.from) refl)
+  copy_none : (job : Job) → told_by (copy job) ≡ []
+  copy_none job = none_both (step_if job.stale (Removes job.part)) _ (if_none job.stale (Removes job.part) refl) (if_none job.cut (Truncates job.from) refl)
+
+  transfer_none : (log target : Path) (job : Option Job) (aside : Option Path) → told_by (transfer log target job aside) ≡ []
+  transfer_none log target None aside = refl
+  transfer_none log target (Some job) None = copy_none job
+  transfer_none log target (Some job) (Some path) = refl
+
+  finishing_none : (job : Option Job) (aside : Option Path) → told_by (finishing job aside) ≡ []
+  finishing_none None aside = refl
+  finishing_none (Some job) None = refl
+  finishing_none (Some job) (Some path) = none_both (copy job) (Removes path ∷ []) (copy_none job) refl
 
   anew_none : (m : Make) (log : Path) → told_by (anew m log) ≡ []
   anew_none make.No log = refl
   anew_none (make.Yes mode) log = ap (λ paths. paths ++ []) (none_anew log)
 
-  made_anew_none : (m : Make) (log : Path) (job : Option Job) → told_by (made_anew m log job) ≡ []
-  made_anew_none m log None = anew_none m log
-  made_anew_none m log (Some job) = refl
+  made_anew_none : (m : Make) (log : Path) (job : Option Job) (aside : Option Path) → told_by (made_anew m log job aside) ≡ []
+  made_anew_none m log None aside = anew_none m log
+  made_anew_none m log (Some job) None = refl
+  made_anew_none m log (Some job) (Some path) = anew_none m log
 
   -- of a log: its directory, and itself
   abbrev pub of_log : LogPlan → List Path
-  of_log l = told_by (directory l.ready.dir) ++ pick (mark.Rotated l.ready.log)
+  of_log l = told_by (directory l.ready.dir) ++ pick (mark.Rotated l.log)
 
   rotation_tells : (l : LogPlan) → told_by (rotation_of l) ≡ of_log l
   rotation_tells l =
@@ -88,14 +98,14 @@ module _ (pick : Mark → List Path) (none_anew : (path : Path) → pick (mark.C
       ∙ (both (directory r.dir) _
       ∙ ap (λ zs. told_by (directory r.dir) ++ zs)
       (none_first (map move r.moves) _ (moves_none r.moves)
-      ∙ (none_first (transfer r.log r.target l.job) _ (transfer_none r.log r.target l.job)
-      ∙ (ap (λ zs. pick (mark.Rotated r.log) ++ zs) (made_anew_none r.make r.log l.job) ∙ append-nil (pick (mark.Rotated r.log))))))
+      ∙ (none_first (transfer r.log r.target l.job l.aside) _ (transfer_none r.log r.target l.job l.aside)
+      ∙ (ap (λ zs. pick (mark.Rotated l.log) ++ zs) (made_anew_none r.make l.log l.job l.aside) ∙ append-nil (pick (mark.Rotated l.log))))))
     where
       r : Ready
       r = l.ready
 
   retirement_none : (l : LogPlan) → told_by (retirement_of l) ≡ []
-  retirement_none l = none_both (program phase.Mail l.first_mail) (removals l.ready.retire) (program_none phase.Mail l.first_mail) (removals_none l.ready.retire)
+  retirement_none l = none_both (finishing l.job l.aside) _ (finishing_none l.job l.aside) (none_both (program phase.Mail l.first_mail) (removals l.ready.retire) (program_none phase.Mail l.first_mail) (removals_none l.ready.retire))
 
   log_tells : (l : LogPlan) → told_by (steps_of_log l) ≡ of_log l
   log_tells l =

@@ -11,9 +11,9 @@ use Rattle.lr_writing.specs.Directories.{AreDirectoriesOf}
 
 -- ---- the paths of a plan
 
--- each log that it rotates, and the path that it gets
+-- Each log that it rotates, and the path that it gets. Where a log waits that is set aside stands in the log's directory.
 abbrev pub changed_of : List LogPlan → List Path
-changed_of logs = flat_map (λ log. log.ready.log ∷ log.ready.target ∷ []) logs
+changed_of logs = flat_map (λ log. log.log ∷ log.ready.target ∷ []) logs
 
 abbrev pub all_changed_of : List SetPlan → List Path
 all_changed_of sets = flat_map (λ set. changed_of set.logs) sets

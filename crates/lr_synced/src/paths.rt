@@ -11,7 +11,7 @@ fn add_changed(alloc: Global, logs: &[LogPlan], paths: &mut Vec<Path>) -> Result
     ensures { OnOk result (paths.new.items ≡ paths.old.items ++ changed_of logs.now) }
 {
     for log in logs {
-        paths.push(log.ready.log.copy(alloc)?)?;
+        paths.push(log.log.copy(alloc)?)?;
         paths.push(log.ready.target.copy(alloc)?)?;
     }
     Ok(())

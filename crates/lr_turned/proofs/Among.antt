@@ -37,13 +37,13 @@ these_change Own (Unlinks x) h = refl
 these_change Own _ h = absurd h
 
 -- The copy of a log stands whole among the acts of a run that rotated it whole, with steps on certain paths before and behind the copy, those of its members: the first steps are then all before the copy, with changes of others between, the last all behind it, and nothing but the copy empties the log.
-module _ (state : Path) (x : Target) (targets : List Target) (acts : List Entry) (job : Job) (Own : Path → Type 0) (first last : List Entry) (job_is : x.job ≡ Some job) (from_is : x.log ≡ job.from)
+module _ (state : Path) (x : Target) (targets : List Target) (acts : List Entry) (job : Job) (Own : Path → Type 0) (first last : List Entry) (job_is : x.job ≡ Some job)
     (whole : Weave (StandsBetween state x targets) (rotation_of x) (filter is_change acts)) (steps_are : rotation_of x ≡ (first ++ clearing job) ++ (Renames job.part job.to ∷ last)) (first_own : Each (IsOfThese Own) first) (last_own : Each (IsOfThese Own) last)
-    (own_to : Own job.to) (out : (y : Path) → IsIn y (job.part ∷ paths_beside state x targets) → Own y → ⊥) (stands : CopyStands job acts) (copies : EmptiesCopied (IsSameFor job) acts) where
+    (own_to : Own job.to) (out : (y : Path) → IsIn y (job.part ∷ paths_beside state x targets) → Own y → ⊥) (stands : CopyStands job acts) (copies : EmptiesCopied (IsSameFor x.log job) acts) where
   abbrev paths : List Path
   paths = job.part ∷ paths_beside state x targets
 
-  -- the rename to the final path, and the truncation
+  -- the rename to the final path, and a truncation of the log
   abbrev r : Entry
   r = Renames job.part job.to
 
@@ -51,7 +51,7 @@ module _ (state : Path) (x : Target) (targets : List Target) (acts : List Entry)
   s = SyncsDir job.dir
 
   abbrev cut : Entry
-  cut = Truncates job.from
+  cut = Truncates x.log
 
   no_part : Own job.part → ⊥
   no_part = out job.part (inl refl)
@@ -99,7 +99,7 @@ module _ (state : Path) (x : Target) (targets : List Target) (acts : List Entry)
   acts_are = stands.joined ∙ at_rename stands.before parts.filling stands.named (cutting job ++ stands.after) parts.ts_are
 
   abbrev Q : Entry → Type 0
-  Q = IsBesideOrCut paths job.from
+  Q = IsBesideOrCut paths x.log
 
   no_beside : Q r → ⊥
   no_beside (inl (inl on)) = out job.to on.1 own_to
@@ -109,7 +109,7 @@ module _ (state : Path) (x : Target) (targets : List Target) (acts : List Entry)
   cut_in_two : Weave Q old (filter is_change front) × Weave Q last (filter is_change back)
   cut_in_two = weave_at Q r old last (filter is_change front) (filter is_change back) no_beside old_other last_other
       (subst (Weave Q (old ++ (r ∷ last))) (ap (filter is_change) acts_are ∙ filter-append is_change front (r ∷ back)) (subst (λ os. Weave Q os (filter is_change acts)) steps_are
-      (weave_as (StandsBetween state x targets) Q (rotation_of x) (filter is_change acts) (λ e h. between_beside state x targets job e job_is from_is h) whole)))
+      (weave_as (StandsBetween state x targets) Q (rotation_of x) (filter is_change acts) (λ e h. between_beside state x targets job e job_is h) whole)))
 
   -- the rename stands once
   front_other : Each (IsOther r) front
@@ -124,9 +124,9 @@ module _ (state : Path) (x : Target) (targets : List Target) (acts : List Entry)
   abbrev IsThisCopy : List Entry → Type 0
   IsThisCopy prefix = (ahead filling : List Entry) × (job.cut ≡ true) × (prefix ≡ (ahead ++ (clearing job ++ (Makes job.part job.mode ∷ filling))) ++ (r ∷ (s ∷ [])))
 
-  this_copy : (prefix : List Entry) → CopiedLast (IsSameFor job) job.from prefix → IsThisCopy prefix
+  this_copy : (prefix : List Entry) → CopiedLast (IsSameFor x.log job) x.log prefix → IsThisCopy prefix
   this_copy prefix k =
-      let same : k.job ≡ job = k.is k.from_is in
+      let same : k.job ≡ job = k.is k.cut k.from_is in
       let named : Named job k.count k.named = subst (λ (j : Job). Named j k.count k.named) same k.is_named in
       let p = copy_parts job k.count k.named named in
       (k.front, p.filling, subst (λ (j : Job). j.cut ≡ true) same k.cut, k.joined ∙ (ap (λ zs. k.front ++ zs) (sym (append-none k.named)) ∙ at_rename k.front p.filling k.named [] p.ts_are))
@@ -136,7 +136,7 @@ module _ (state : Path) (x : Target) (targets : List Target) (acts : List Entry)
       append-none (x ∷ xs) = ap (λ ys. x ∷ ys) (append-none xs)
 
   before_uncut : Each (IsOther cut) stands.before
-  before_uncut = all_other cut stands.before (λ fs bs is. other fs bs is (this_copy fs (copies fs job.from (bs ++ (stands.named ++ (cutting job ++ stands.after)))
+  before_uncut = all_other cut stands.before (λ fs bs is. other fs bs is (this_copy fs (copies fs x.log (bs ++ (stands.named ++ (cutting job ++ stands.after)))
       (stands.joined ∙ (ap (λ zs. zs ++ (stands.named ++ (cutting job ++ stands.after))) is ∙ append_assoc fs (cut ∷ bs) (stands.named ++ (cutting job ++ stands.after)))))))
     where
       other : (fs bs : List Entry) → stands.before ≡ fs ++ (cut ∷ bs) → IsThisCopy fs → ⊥
@@ -145,7 +145,7 @@ module _ (state : Path) (x : Target) (targets : List Target) (acts : List Entry)
           (each_last (IsOther r) (ahead ++ (clearing job ++ (Makes job.part job.mode ∷ filling))) (r ∷ (s ∷ [])) (subst (Each (IsOther r)) prefix others)).0 refl
 
   after_uncut : Each (IsOther cut) stands.after
-  after_uncut = all_other cut stands.after (λ fs bs is. other fs bs is (this_copy (stands.before ++ (stands.named ++ (cutting job ++ fs))) (copies (stands.before ++ (stands.named ++ (cutting job ++ fs))) job.from bs (all_joined fs bs is))))
+  after_uncut = all_other cut stands.after (λ fs bs is. other fs bs is (this_copy (stands.before ++ (stands.named ++ (cutting job ++ fs))) (copies (stands.before ++ (stands.named ++ (cutting job ++ fs))) x.log bs (all_joined fs bs is))))
     where
       all_joined : (fs bs : List Entry) → stands.after ≡ fs ++ (cut ∷ bs) → acts ≡ (stands.before ++ (stands.named ++ (cutting job ++ fs))) ++ (cut ∷ bs)
       all_joined fs bs is = stands.joined ∙ (ap (λ zs. stands.before ++ (stands.named ++ (cutting job ++ zs))) is
@@ -155,7 +155,7 @@ module _ (state : Path) (x : Target) (targets : List Target) (acts : List Entry)
       nothing : (xs : List Entry) → s ∷ xs ≡ s ∷ [] → xs ≡ []
       nothing xs e = cc
 
-      clash : (b : Bool) (fs : List Entry) → b ≡ true → cond b (cut ∷ []) [] ++ fs ≡ [] → ⊥
+      clash : (b : Bool) (fs : List Entry) → b ≡ true → cond b (Truncates job.from ∷ []) [] ++ fs ≡ [] → ⊥
       clash true fs asked e = cc
       clash false fs asked e = cc
 
@@ -170,9 +170,9 @@ module _ (state : Path) (x : Target) (targets : List Target) (acts : List Entry)
   -- ---- what is woven before the copy, and behind it
 
   -- the changes of the disk are all there are
-  disk_woven : (steps ts : List Entry) → Each (IsOfThese Own) steps → Weave (IsBeside paths job.from) steps (filter is_change ts) → Weave (IsBeside paths job.from) steps (filter is_disk_change ts)
-  disk_woven steps ts own w = subst (Weave (IsBeside paths job.from) steps) (sym (all_pass is_disk_change (filter is_change ts)
-      (weave_each (IsBeside paths job.from) (λ e. is_disk_change e ≡ true) steps (filter is_change ts) w (each_as (IsOfThese Own) (λ e. is_disk_change e ≡ true) steps (these_change Own) own) (beside_changes paths job.from)))
+  disk_woven : (steps ts : List Entry) → Each (IsOfThese Own) steps → Weave (IsBeside paths x.log) steps (filter is_change ts) → Weave (IsBeside paths x.log) steps (filter is_disk_change ts)
+  disk_woven steps ts own w = subst (Weave (IsBeside paths x.log) steps) (sym (all_pass is_disk_change (filter is_change ts)
+      (weave_each (IsBeside paths x.log) (λ e. is_disk_change e ≡ true) steps (filter is_change ts) w (each_as (IsOfThese Own) (λ e. is_disk_change e ≡ true) steps (these_change Own) own) (beside_changes paths x.log)))
       ∙ disk_of_changes ts) w
 
   abbrev NoneOfThese : Entry → Type 0
@@ -193,7 +193,7 @@ module _ (state : Path) (x : Target) (targets : List Target) (acts : List Entry)
   cutting_apart : Each NoneOfThese (filter is_change (cutting job))
   cutting_apart = each_filter NoneOfThese is_change (cutting job) (go job.cut)
     where
-      go : (b : Bool) → Each NoneOfThese (cond b (cut ∷ []) [])
+      go : (b : Bool) → Each NoneOfThese (cond b (Truncates job.from ∷ []) [])
       go true = ((λ h. absurd h), tt)
       go false = tt
 
@@ -204,20 +204,20 @@ module _ (state : Path) (x : Target) (targets : List Target) (acts : List Entry)
       go true = (inl (inl (inl refl)), tt)
       go false = tt
 
-  uncut_beside : (e : Entry) → Q e → IsOther cut e → IsBeside paths job.from e
+  uncut_beside : (e : Entry) → Q e → IsOther cut e → IsBeside paths x.log e
   uncut_beside e h other = ⊎_elim (λ beside. beside) (λ is. absurd (other is)) h
 
   -- the steps before the copy, among the changes before it
-  pub early_woven : Weave (IsBeside paths job.from) first (filter is_disk_change stands.before)
+  pub early_woven : Weave (IsBeside paths x.log) first (filter is_disk_change stands.before)
   early_woven = disk_woven first stands.before first_own
-      (weave_less Q (IsBeside paths job.from) (IsOther cut) first (filter is_change stands.before) uncut_beside
+      (weave_less Q (IsBeside paths x.log) (IsOther cut) first (filter is_change stands.before) uncut_beside
       (weave_front Q (IsOfThese Own) first (filter is_change stands.before) (filter is_change filled)
       (subst (Weave Q first) (filter-append is_change stands.before filled) (weave_drop Q old (filter is_change front) first (clearing job) refl cut_in_two.0 clearing_beside)) first_own (each_filter NoneOfThese is_change filled filled_apart))
       (each_filter (IsOther cut) is_change stands.before before_uncut))
 
   -- and those behind it, among the changes behind it
-  pub late_woven : Weave (IsBeside paths job.from) last (filter is_disk_change stands.after)
+  pub late_woven : Weave (IsBeside paths x.log) last (filter is_disk_change stands.after)
   late_woven = disk_woven last stands.after last_own
-      (weave_less Q (IsBeside paths job.from) (IsOther cut) last (filter is_change stands.after) uncut_beside
+      (weave_less Q (IsBeside paths x.log) (IsOther cut) last (filter is_change stands.after) uncut_beside
       (weave_behind Q (IsOfThese Own) last (filter is_change (cutting job)) (filter is_change stands.after) (subst (Weave Q last) (filter-append is_change (cutting job) stands.after) cut_in_two.1) last_own cutting_apart)
       (each_filter (IsOther cut) is_change stands.after after_uncut))

@@ -1,15 +1,15 @@
 -- A plan of which nothing failed: the copy of each log that it copies stands among its entries, one entry behind another; and nothing else empties the log.
-use Rattle.std.proofs.Common.{◌≡◌, ◌≢◌, inl, inr, ⊎_elim, Bool, true, false, cond, refl, sym, ◌∙◌, ap, subst, append_assoc, Option, Some, None, List, [], ◌∷◌, ◌++◌, map}
+use Rattle.std.proofs.Common.{◌≡◌, ◌≢◌, inl, inr, ⊎_elim, Bool, true, false, cond, refl, sym, ◌∙◌, ap, subst, append_assoc, Option, Some, None, List, [], ◌∷◌, ◌++◌, map, append-nil}
 use Rattle.std.specs.List.{flat_map}
 use Rattle.lr_rules.specs.declared.fault.Fault.{Fault}
 use Rattle.lr_rules.specs.declared.fault.Phase.TheVariants as phase
+use Rattle.lr_rules.specs.declared.path.Path.{Path}
 use Rattle.lr_host.specs.declared.entry.Entry.{Entry}
 use Rattle.lr_host.specs.declared.entry.Entry.TheVariants as entry
 use Rattle.lr_host.specs.Lists.{IsIn}
 use Rattle.lr_host.proofs.Lists.{in_append, in_front, in_back}
 use Rattle.lr_copy.specs.declared.job.Job.{Job}
 use Rattle.lr_copy.specs.Copying.{cutting}
-use Rattle.lr_chain.specs.declared.ready.Ready.{Ready}
 use Rattle.lr_plan.specs.declared.mark.Mark.{Mark}
 use Rattle.lr_plan.specs.declared.plan.LogPlan.{LogPlan}
 use Rattle.lr_plan.specs.declared.plan.SetPlan.{SetPlan}
@@ -17,17 +17,18 @@ use Rattle.lr_plan.specs.declared.step.Step.{Step}
 use Rattle.lr_plan.specs.declared.step.Step.TheVariants as step
 use Rattle.lr_plan.specs.Course.{Course}
 use Rattle.lr_plan.specs.Done.{EachDone, SetDone, broke_off, went_on, SetsDone}
-use Rattle.lr_plan.specs.Steps.{program, removals, directory, move, step_if, copy, made_anew, rotation, retirement_of, rotation_of, steps_of_log, shared_steps, by_logs, steps_of_set}
+use Rattle.lr_plan.specs.Steps.{program, removals, directory, move, step_if, copy, transfer, finishing, rotation_of, retirement_of, steps_of_log, shared_steps, by_logs, steps_of_set}
 use Rattle.lr_emptied.specs.Emptied.{EmptiesCopied}
 use Rattle.lr_emptied.specs.Jobs.{job_in, jobs_in, jobs_of}
 use Rattle.lr_emptied.specs.Steps.{named_steps}
 use Rattle.lr_emptied.proofs.Acts.{sets_copying}
 use Rattle.lr_emptied.proofs.Made.{AllMade, made_split, named_made}
 use Rattle.lr_emptied.proofs.Steps.{plan_copied}
-use Rattle.lr_laws_targets.specs.Target.{Target, IsJob}
+use Rattle.lr_laws_targets.specs.Target.{Target, source_by, HasWay, IsJob}
 use Rattle.lr_weave.specs.Planned.{AreReadyFor, HaveLogs, NoneHas, AreApart}
 use Rattle.lr_weave.proofs.Whole.{one_none, nil_split}
 use Rattle.lr_turned.specs.Copied.{CopyStands, IsSameFor}
+use Rattle.lr_turned.proofs.Ways.{job_same, not_emptied, not_copied}
 
 -- ---- steps that were all made
 
@@ -101,25 +102,51 @@ stands_first job xs ys ts is k = record {
 
 -- ---- of a plan
 
-rotation_has : (job : Job) (ready : Ready) (o : Option Job) → o ≡ Some job → HasCopy job (rotation ready o)
-rotation_has job ready o is = subst (λ (j : Option Job). HasCopy job (rotation ready j)) (sym is)
-    (copy_behind job (removals ready.leftovers) _ (copy_behind job (directory ready.dir) _ (copy_behind job (map move ready.moves) _
-    (record { before = []; after = step.Rotated ready.log ∷ made_anew ready.make ready.log (Some job); joined = refl }))))
+-- in the rotation, where the log is copied from where it stands
+transfer_has : (job : Job) (log target : Path) (o : Option Job) (aside : Option Path) → o ≡ Some job → aside ≡ None → HasCopy job (transfer log target o aside)
+transfer_has job log target o aside is stays = subst (λ (j : Option Job). HasCopy job (transfer log target j aside)) (sym is) (subst (λ (a : Option Path). HasCopy job (transfer log target (Some job) a)) (sym stays)
+    (record { before = []; after = []; joined = sym (append-nil (copy job)) }))
+
+rotation_has : (job : Job) (log : LogPlan) → log.job ≡ Some job → log.aside ≡ None → HasCopy job (rotation_of log)
+rotation_has job log is stays = copy_behind job (removals log.ready.leftovers) _ (copy_behind job (directory log.ready.dir) _ (copy_behind job (map move log.ready.moves) _
+    (copy_first job (transfer log.ready.log log.ready.target log.job log.aside) _ (transfer_has job log.ready.log log.ready.target log.job log.aside is stays))))
+
+-- behind the scripts, where it is copied from where it was set aside
+finishing_has : (job : Job) (path : Path) (o : Option Job) (aside : Option Path) → o ≡ Some job → aside ≡ Some path → HasCopy job (finishing o aside)
+finishing_has job path o aside is goes = subst (λ (j : Option Job). HasCopy job (finishing j aside)) (sym is) (subst (λ (a : Option Path). HasCopy job (finishing (Some job) a)) (sym goes)
+    (record { before = []; after = step.Removes path ∷ []; joined = refl }))
+
+retirement_has : (job : Job) (log : LogPlan) (path : Path) → log.job ≡ Some job → log.aside ≡ Some path → HasCopy job (retirement_of log)
+retirement_has job log path is goes = copy_first job (finishing log.job log.aside) _ (finishing_has job path log.job log.aside is goes)
+
+-- in the one or in the other
+log_has : (job : Job) (log : LogPlan) → log.job ≡ Some job → HasCopy job (steps_of_log log)
+log_has job log is = copy_behind job (program phase.Pre log.pre) _ (go log.aside refl)
+  where
+    go : (aside : Option Path) → log.aside ≡ aside → HasCopy job (rotation_of log ++ (program phase.Post log.post ++ retirement_of log))
+    go None stays = copy_first job (rotation_of log) (program phase.Post log.post ++ retirement_of log) (rotation_has job log is stays)
+    go (Some path) goes = copy_behind job (rotation_of log) _ (copy_behind job (program phase.Post log.post) (retirement_of log) (retirement_has job log path is goes))
 
 -- one of these logs is copied by this job
 abbrev CopiesOne : Job → List LogPlan → Type 0
 CopiesOne job logs = (log : LogPlan) × IsIn log logs × (log.job ≡ Some job)
 
-log_has : (job : Job) (log : LogPlan) → log.job ≡ Some job → HasCopy job (steps_of_log log)
-log_has job log is = copy_behind job (program phase.Pre log.pre) _ (copy_first job (rotation_of log) (program phase.Post log.post ++ retirement_of log) (rotation_has job log.ready log.job is))
-
-rotations_have : (job : Job) (logs : List LogPlan) → CopiesOne job logs → HasCopy job (flat_map rotation_of logs)
-rotations_have job [] (log, i, is) = absurd i
-rotations_have job (l ∷ logs) (log, inl same, is) = copy_first job (rotation_of l) (flat_map rotation_of logs) (rotation_has job l.ready l.job (ap (λ (p : LogPlan). p.job) same ∙ is))
-rotations_have job (l ∷ logs) (log, inr i, is) = copy_behind job (rotation_of l) (flat_map rotation_of logs) (rotations_have job logs (log, i, is))
+-- what is done for one of these logs is done where it is done for each
+some_has : (job : Job) (part : LogPlan → List Step) (log : LogPlan) (logs : List LogPlan) → IsIn log logs → HasCopy job (part log) → HasCopy job (flat_map part logs)
+some_has job part log [] i has = absurd i
+some_has job part log (l ∷ logs) (inl same) has = copy_first job (part l) (flat_map part logs) (subst (λ (p : LogPlan). HasCopy job (part p)) (sym same) has)
+some_has job part log (l ∷ logs) (inr i) has = copy_behind job (part l) (flat_map part logs) (some_has job part log logs i has)
 
 shared_has : (job : Job) (set : SetPlan) → CopiesOne job set.logs → HasCopy job (shared_steps set)
-shared_has job set one = copy_behind job (program phase.First set.first) _ (copy_behind job (program phase.Pre set.pre) _ (copy_first job (flat_map rotation_of set.logs) _ (rotations_have job set.logs one)))
+shared_has job set (log, i, is) = copy_behind job (program phase.First set.first) _ (copy_behind job (program phase.Pre set.pre) _ (go log.aside refl))
+  where
+    retired : List Step
+    retired = flat_map retirement_of set.logs ++ program phase.Last set.last
+
+    go : (aside : Option Path) → log.aside ≡ aside → HasCopy job (flat_map rotation_of set.logs ++ (program phase.Post set.post ++ retired))
+    go None stays = copy_first job (flat_map rotation_of set.logs) _ (some_has job rotation_of log set.logs i (rotation_has job log is stays))
+    go (Some path) goes = copy_behind job (flat_map rotation_of set.logs) _ (copy_behind job (program phase.Post set.post) retired
+        (copy_first job (flat_map retirement_of set.logs) (program phase.Last set.last) (some_has job retirement_of log set.logs i (retirement_has job log path is goes))))
 
 each_stands : (job : Job) (logs : List LogPlan) (t : List Mark) (f : List Fault) (ts : List Entry) → CopiesOne job logs → f ≡ [] → EachDone (map steps_of_log logs) t f ts → CopyStands job ts
 each_stands job [] t f ts (log, i, is) n d = absurd i
@@ -169,9 +196,9 @@ plan_stands t job (g ∷ groups) (set ∷ sets) ms f ts logs i is n d =
 
 -- ---- the jobs of a plan
 
--- the job is that of one of these logs
+-- the job is that of one of these logs, of which it is known how its file goes
 abbrev IsOfOne : List Target → Job → Type 0
-IsOfOne ts job = (t : Target) × IsIn t ts × (t.job ≡ Some job) × IsJob t job
+IsOfOne ts job = (t : Target) × IsIn t ts × (t.job ≡ Some job) × IsJob t job × HasWay t
 
 job_has : (o : Option Job) (job : Job) → IsIn job (job_in o) → o ≡ Some job
 job_has None job i = absurd i
@@ -185,10 +212,10 @@ jobs_ready (t ∷ ts) [] job ready i = absurd i
 jobs_ready (t ∷ ts) (log ∷ logs) job ready i = ⊎_elim here (λ h. there (jobs_ready ts logs job ready.1 h)) (in_append job (job_in log.job) (jobs_in logs) i)
   where
     here : IsIn job (job_in log.job) → IsOfOne (t ∷ ts) job
-    here h = let is : t.job ≡ Some job = sym ready.0.job_is ∙ job_has log.job job h in (t, inl refl, is, ready.0.job job is)
+    here h = let is : t.job ≡ Some job = sym ready.0.job_is ∙ job_has log.job job h in (t, inl refl, is, ready.0.job job is, ready.0.way)
 
     there : IsOfOne ts job → IsOfOne (t ∷ ts) job
-    there k = (k.0, inr k.1, k.2, k.3)
+    there k = (k.0, inr k.1, k.2, k.3, k.4)
 
 jobs_planned : (groups : List (List Target)) (sets : List SetPlan) (job : Job) → HaveLogs groups sets → IsIn job (jobs_of sets) → IsOfOne (all_of groups) job
 jobs_planned [] [] job logs i = absurd i
@@ -197,10 +224,10 @@ jobs_planned (g ∷ groups) [] job logs i = absurd i
 jobs_planned (g ∷ groups) (set ∷ sets) job logs i = ⊎_elim here (λ h. there (jobs_planned groups sets job logs.1 h)) (in_append job (jobs_in set.logs) (jobs_of sets) i)
   where
     here : IsIn job (jobs_in set.logs) → IsOfOne (g ++ all_of groups) job
-    here h = let k = jobs_ready g set.logs job logs.0 h in (k.0, in_front k.0 g (all_of groups) k.1, k.2, k.3)
+    here h = let k = jobs_ready g set.logs job logs.0 h in (k.0, in_front k.0 g (all_of groups) k.1, k.2, k.3, k.4)
 
     there : IsOfOne (all_of groups) job → IsOfOne (g ++ all_of groups) job
-    there k = (k.0, in_back k.0 g (all_of groups) k.1, k.2, k.3)
+    there k = (k.0, in_back k.0 g (all_of groups) k.1, k.2, k.3, k.4)
 
 -- no log stands twice
 none_has : (t x : Target) (ts : List Target) → NoneHas t.log ts → IsIn x ts → x.log ≢ t.log
@@ -215,17 +242,20 @@ same_target t x (y ∷ ys) apart (inl a) (inr j) e = absurd (none_has y x ys apa
 same_target t x (y ∷ ys) apart (inr i) (inl b) e = absurd (none_has y t ys apart.0 i (sym e ∙ ap (λ (z : Target). z.log) (sym b)))
 same_target t x (y ∷ ys) apart (inr i) (inr j) e = same_target t x ys apart.1 i j e
 
-one_job : (o : Option Job) (a b : Job) → o ≡ Some a → o ≡ Some b → a ≡ b
-one_job o a b p q = cc
+-- what a copy empties it copied from where the log stands
+emptied_at : (t : Target) (job : Job) → t.job ≡ Some job → IsJob t job → HasWay t → job.cut ≡ true → job.from ≡ t.log
+emptied_at t job is of (inl stays) cut = of.from_is ∙ (ap (λ (a : Option Path). source_by a t.ready.log) stays.aside_is ∙ stays.first_is)
+emptied_at t job is of (inr (asked, inl aside)) cut = absurd (let both : true ≡ false = sym cut ∙ not_emptied t job is aside in cc)
+emptied_at t job is of (inr (asked, inr taken)) cut = absurd (not_copied t job is taken.no_job)
 
--- so a log has one job
-plan_same : (t : Target) (job : Job) (groups : List (List Target)) (sets : List SetPlan) → HaveLogs groups sets → AreApart (all_of groups) → IsIn t (all_of groups) → t.job ≡ Some job → t.log ≡ job.from → (other : Job) → IsIn other (jobs_of sets) → IsSameFor job other
-plan_same t job groups sets logs apart i is from other h from_same =
+-- so a log has one such job
+plan_same : (t : Target) (job : Job) (groups : List (List Target)) (sets : List SetPlan) → HaveLogs groups sets → AreApart (all_of groups) → IsIn t (all_of groups) → t.job ≡ Some job → (other : Job) → IsIn other (jobs_of sets) → IsSameFor t.log job other
+plan_same t job groups sets logs apart i is other h cut from_log =
     let k = jobs_planned groups sets other logs h in
-    let same : k.0 ≡ t = same_target t k.0 (all_of groups) apart i k.1 (sym k.3.from_is ∙ (from_same ∙ sym from)) in
-    one_job t.job other job (ap (λ (x : Target). x.job) (sym same) ∙ k.2) is
+    let same : k.0 ≡ t = same_target t k.0 (all_of groups) apart i k.1 (sym (emptied_at k.0 other k.2 k.3 k.4 cut) ∙ from_log) in
+    job_same t job is other (ap (λ (x : Target). x.job) (sym same) ∙ k.2)
 
 -- and whatever empties it in the entries of the plan is behind that copy
-pub plan_empties : (t : Target) (job : Job) (groups : List (List Target)) (sets : List SetPlan) (ms : List Mark) (f : List Fault) (ts : List Entry) → HaveLogs groups sets → AreApart (all_of groups) → IsIn t (all_of groups) → t.job ≡ Some job → t.log ≡ job.from
-    → SetsDone (map steps_of_set sets) ms f ts → EmptiesCopied (IsSameFor job) ts
-plan_empties t job groups sets ms f ts logs apart i is from d = sets_copying (IsSameFor job) (map steps_of_set sets) (plan_copied (IsSameFor job) sets (plan_same t job groups sets logs apart i is from)) ms f ts d
+pub plan_empties : (t : Target) (job : Job) (groups : List (List Target)) (sets : List SetPlan) (ms : List Mark) (f : List Fault) (ts : List Entry) → HaveLogs groups sets → AreApart (all_of groups) → IsIn t (all_of groups) → t.job ≡ Some job → SetsDone (map steps_of_set sets) ms f ts
+    → EmptiesCopied (IsSameFor t.log job) ts
+plan_empties t job groups sets ms f ts logs apart i is d = sets_copying (IsSameFor t.log job) (map steps_of_set sets) (plan_copied (IsSameFor t.log job) sets (plan_same t job groups sets logs apart i is)) ms f ts d

@@ -1,5 +1,6 @@
 -- The copy of a log among the entries of a run.
-use Rattle.std.specs.Prelude.{◌≡◌, ℕ, List, ◌++◌}
+use Rattle.std.specs.Prelude.{◌≡◌, ℕ, true, List, ◌++◌}
+use Rattle.lr_rules.specs.declared.path.Path.{Path}
 use Rattle.lr_host.specs.declared.entry.Entry.{Entry}
 use Rattle.lr_copy.specs.declared.job.Job.{Job}
 use Rattle.lr_copy.specs.Copying.{cutting}
@@ -15,6 +16,6 @@ pub record CopyStands (job : Job) (ts : List Entry) : Type 0 where
   pub is_named : Named job count named
   pub joined : ts ≡ before ++ (named ++ (cutting job ++ after))
 
--- of the jobs of one log it is this one
-abbrev pub IsSameFor : Job → Job → Type 0
-IsSameFor job other = other.from ≡ job.from → other ≡ job
+-- of the jobs that copy this log and empty it, it is this one
+abbrev pub IsSameFor : Path → Job → Job → Type 0
+IsSameFor log job other = other.cut ≡ true → other.from ≡ log → other ≡ job

@@ -9,23 +9,31 @@ ghost use Rattle.lr_host.specs.Lists.{IsIn};
 ghost use Rattle.lr_host.specs.Quiet.{AreQuiet};
 ghost use Rattle.lr_copy.specs.declared.job.Job.{Job};
 ghost use Rattle.lr_emptied.specs.Emptied.{EmptiesCopied};
-ghost use Rattle.lr_laws_family.specs.Made.{RotatesAmong};
-ghost use Rattle.lr_laws_family.specs.Members.{IsNoMember};
+ghost use Rattle.lr_laws_family.specs.Made.{HasJob, AreOutside, RotatesAmong};
 ghost use Rattle.lr_laws_family.specs.Rotation.{IsOfMembers};
 ghost use Rattle.lr_laws_targets.specs.AllTurns.{paths_beside};
-ghost use Rattle.lr_laws_targets.specs.Rotation.{rotation_by};
+ghost use Rattle.lr_laws_targets.specs.Rotation.{by_of, rotation_by};
 ghost use Rattle.lr_laws_targets.specs.Target.{Target};
 ghost use Rattle.lr_laws_targets.specs.Runs.{AllTurnedBy};
+ghost use Rattle.lr_laws_targets.specs.Seen.{IsLogSeen};
 ghost use Rattle.lr_turned.specs.Copied.{CopyStands, IsSameFor};
 
-/// Where each log was rotated whole, and one of them was copied, one entry behind another, with nothing else that empties it,
-/// the entries are the looks at that log and its rotation, as its plan has it, by the copy, with others between on the paths of
-/// other logs and of the state, and the making of the log's own directory: `family_is_turned` says what becomes of its files.
+/// Where each log was rotated whole, and one of them was copied, one entry behind another, from where it stands or from where
+/// it is set aside, with nothing else that empties it, the entries are the looks at that log and its rotation, as its plan has
+/// it, by the copy, with others between on the paths of other logs and of the state, and the making of the log's own
+/// directory: `family_is_turned` says what becomes of its files.
 pub fn copied_log_rotates()
     ensures { (state : Path) (clock : Clock) (rules : Rules) (reads tail : List Entry) (t : AllTurnedBy state clock rules tail)
         (x : Target) (job : Job) → AreQuiet reads → IsIn x t.turns.targets → x.job ≡ Some job → IsOfMembers x.naming (rotation_by x)
-        → ((y : Path) → IsIn y (job.part ∷ paths_beside state x t.turns.targets) → IsNoMember x.naming y)
-        → CopyStands job t.turns.acts → EmptiesCopied (IsSameFor job) t.turns.acts
+        → AreOutside (job.part ∷ paths_beside state x t.turns.targets) x.naming (rotation_by x)
+        → CopyStands job t.turns.acts → EmptiesCopied (IsSameFor x.log job) t.turns.acts
         → RotatesAmong (paths_beside state x t.turns.targets) x.naming (rotation_by x)
         (reads ++ Starts state clock.now rules ∷ tail) }
+{}
+
+/// Where a run saw a log, its copy, if any, is one of that rotation: from its source to its target, and of a log that is set
+/// aside from another path than the log's, and it empties nothing.
+pub fn seen_copy_is_of_rotation()
+    ensures { (rules : Rules) (clock : Clock) (looks : List Entry) (t : Target) → IsLogSeen rules clock looks t
+        → HasJob (by_of t.job t.aside) (rotation_by t) }
 {}

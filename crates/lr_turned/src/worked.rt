@@ -6,9 +6,10 @@ ghost use Rattle.lr_host.specs.Opening.{IsJournal};
 ghost use Rattle.lr_host.specs.World.{Opens};
 ghost use Rattle.lr_laws.specs.Chain.{found};
 ghost use Rattle.lr_copied.specs.Worked.{job};
-ghost use Rattle.lr_laws_family.specs.Rotation.{Rotation, Copy};
+ghost use Rattle.lr_copy.specs.declared.job.Job.{Job};
+ghost use Rattle.lr_laws_family.specs.Rotation.{Rotation, Copy, Aside as SetsAside};
 ghost use Rattle.lr_laws_family.specs.Turned.{IsTurned};
-ghost use Rattle.lr_turned.specs.Worked.{unlinked};
+ghost use Rattle.lr_turned.specs.Worked.{unlinked, aside, left_aside};
 
 /// Where the log is unlinked behind its copy, in place of being kept or emptied, its family wasn't turned by the copy, by
 /// whatever names and rotation.
@@ -16,4 +17,12 @@ pub fn unlinked_log_is_not_kept()
     ensures journal { IsJournal unlinked }
     ensures lost { (paths : List Path) (n : Naming) (r : Rotation) → r.by ≡ Copy job → r.source ≡ job.from
         → IsTurned paths n r (Opens found) unlinked → ⊥ }
+{}
+
+/// Where a log was set aside and copied, and stands there still, its family wasn't turned so, by whatever copy, names and
+/// rotation.
+pub fn left_aside_is_not_let_go()
+    ensures journal { IsJournal left_aside }
+    ensures stays { (paths : List Path) (n : Naming) (r : Rotation) (job : Job) → r.by ≡ SetsAside job → r.source ≡ aside
+        → IsTurned paths n r (Opens found) left_aside → ⊥ }
 {}

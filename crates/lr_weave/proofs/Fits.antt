@@ -11,7 +11,7 @@ use Rattle.lr_rules.specs.declared.fault.Phase.{Phase}
 use Rattle.lr_rules.specs.declared.fault.Phase.TheVariants as phase
 use Rattle.lr_rules.specs.declared.rule.Make.{Make}
 use Rattle.lr_rules.specs.declared.rule.Make.TheVariants as make
-use Rattle.lr_rules.specs.Names.{IsOwnName, the_log, Meet}
+use Rattle.lr_rules.specs.Names.{IsOwnName, Meet}
 use Rattle.lr_rules.specs.Path.{parent_of}
 use Rattle.lr_host.specs.declared.thing.Seen.{Seen}
 use Rattle.lr_host.specs.declared.thing.Thing.TheVariants as thing
@@ -40,14 +40,15 @@ use Rattle.lr_copy.proofs.EachOfBytes.{each_all}
 use Rattle.lr_chain.specs.declared.ready.Move.{Move}
 use Rattle.lr_chain.specs.declared.ready.Ready.{Ready}
 use Rattle.lr_chain.specs.Ready.{move_step, dir_calls}
-use Rattle.lr_laws_rotations.specs.Calls.{after_call, FitCalls, CanCalls}
+use Rattle.lr_laws_rotations.specs.Calls.{after_call, FitCalls, CanCalls, copy_calls}
 use Rattle.lr_laws_targets.specs.AllTurns.{AlsoDoes}
-use Rattle.lr_laws_targets.specs.Calls.{transfer_calls, calls_of}
+use Rattle.lr_laws_targets.specs.Calls.{calls_of}
 use Rattle.lr_laws_rotations.specs.Steps.{unlinks}
-use Rattle.lr_laws_targets.specs.Target.{Target, transfer_of, rotation_of, IsJob}
+use Rattle.lr_laws_targets.specs.Target.{Target, source_of, transfer_of, rotation_of, IsJob}
 use Rattle.lr_laws_targets.specs.Own.{ChangesOwn}
 use Rattle.lr_laws_targets.specs.Apart.{HasNames}
-use Rattle.lr_laws_targets.proofs.Own.{own_paths}
+use Rattle.lr_laws_targets.proofs.Own.{named_own, own_paths}
+use Rattle.lr_laws_targets.proofs.Way.{source_own}
 use Rattle.lr_laws_family.specs.Weave.{IsFirstOf}
 use Rattle.lr_laws_rotations.proofs.Alike.{IsLike, like_self, AreLike, Anywhere, more_like, put_like, Reads, can_like, after_like, fit_like, each_anywhere, calls_as, calls_made, calls_still}
 use Rattle.lr_laws_family.proofs.Fed.{IsTurn}
@@ -58,7 +59,7 @@ use Rattle.lr_plan.specs.declared.step.Step.{Step}
 use Rattle.lr_plan.specs.declared.step.Step.TheVariants as step
 use Rattle.lr_plan.specs.Outcomes.{Succeeds}
 use Rattle.lr_plan.specs.Steps as steps
-use Rattle.lr_plan.specs.Steps.{program, removal, removals, directory, move, step_if, copy, transfer, made_anew, steps_of_log}
+use Rattle.lr_plan.specs.Steps.{program, removal, removals, directory, move, step_if, copy, transfer, anew, made_anew, finishing, steps_of_log}
 use Rattle.lr_plan.specs.Asking.{asks, CanMake, CanEach}
 use Rattle.lr_plan.specs.Course.{Course}
 use Rattle.lr_weave.specs.Fitting.{IsFit, AreFit, NoneMeets, DontMeet, ReadsNothing, ReadsThis, ReadThemselves, ReadsOwn, ReadOwn}
@@ -66,7 +67,8 @@ use Rattle.lr_weave.specs.Planned.{IsReadyFor, AreReadyFor}
 use Rattle.lr_weave.proofs.Lasting.{dir_walk, makes_later}
 use Rattle.lr_weave.specs.Parts.{takes_name, MakesOnly, changes_by}
 use Rattle.lr_weave.proofs.Parting.{Begun, course_first}
-use Rattle.lr_weave.proofs.Planning.{back_of, back_calls, calls_of_step, calls_by, log_is, front_asks, call_halves, removals_ask, log_plain, program_none, program_asks, program_plain, each_end}
+use Rattle.lr_weave.proofs.Halves.{own_calls, letting_calls, front_calls, removing_calls, back_calls, call_halves}
+use Rattle.lr_weave.proofs.Planning.{calls_of_step, calls_by, log_is, front_asks, finishing_asks, removals_ask, log_plain, program_none, program_asks, program_plain, each_end}
 
 -- ---- entries that change other paths
 
@@ -236,59 +238,78 @@ module _ (t : Target) (h : HasNames t) where
   turns_ask = each_two IsTurn (ChangesOwn t.log t.naming) (Asks (NamesOf t)) (rotation_of t) (λ e turn own. turn_asks t e turn own) (rotation_turns t) (own_paths t h)
 
   -- those behind the leftovers' removals
-  behind_leftovers : Each (Asks (NamesOf t)) (map move_step t.ready.moves ++ (transfer_of t.ready t.job ++ back_of t))
-  behind_leftovers = each_end (Asks (NamesOf t)) (unlinks t.ready.leftovers) (map move_step t.ready.moves ++ (transfer_of t.ready t.job ++ back_of t)) turns_ask
+  behind_leftovers : Each (Asks (NamesOf t)) (map move_step t.ready.moves ++ (transfer_of t.ready t.job t.aside ++ unlinks t.ready.retire))
+  behind_leftovers = each_end (Asks (NamesOf t)) (unlinks t.ready.leftovers) (map move_step t.ready.moves ++ (transfer_of t.ready t.job t.aside ++ unlinks t.ready.retire)) turns_ask
 
   -- and those behind the moves
-  behind_moves : Each (Asks (NamesOf t)) (transfer_of t.ready t.job ++ back_of t)
-  behind_moves = each_end (Asks (NamesOf t)) (map move_step t.ready.moves) (transfer_of t.ready t.job ++ back_of t) behind_leftovers
+  behind_moves : Each (Asks (NamesOf t)) (transfer_of t.ready t.job t.aside ++ unlinks t.ready.retire)
+  behind_moves = each_end (Asks (NamesOf t)) (map move_step t.ready.moves) (transfer_of t.ready t.job t.aside ++ unlinks t.ready.retire) behind_leftovers
 
-  -- the calls of the transfer too; and the final path is one of the names
-  transfer_asks : (j : Option Job) → t.job ≡ j → Each (Asks (NamesOf t)) (transfer_of t.ready j) → Each (Asks (NamesOf t)) (transfer_calls t.ready j) × NamesOf t t.ready.target
-  transfer_asks None is a = (a, a.0.1)
-  transfer_asks (Some job) is a = (
-    each_append (Asks (NamesOf t)) (clearing job) (made job.cut) (each_first (Asks (NamesOf t)) (clearing job) (entry.Renames job.part job.to ∷ []) a) (tt, (log, (moved.0, (moved.0, (moved, (tt, emptied job.cut)))))),
+  -- the calls of a copy, too; and its final path is one of the names
+  copy_asks : (job : Job) (rest : List Entry) → t.job ≡ Some job → Each (Asks (NamesOf t)) (clearing job ++ entry.Renames job.part job.to ∷ rest) → Each (Asks (NamesOf t)) (copy_calls job) × NamesOf t t.ready.target
+  copy_asks job rest is a = (
+    each_append (Asks (NamesOf t)) (clearing job) (made job.cut) (each_first (Asks (NamesOf t)) (clearing job) (entry.Renames job.part job.to ∷ rest) a) (tt, (source, (moved.0, (moved.0, (moved, (tt, emptied job.cut)))))),
     subst (NamesOf t) shape.to_is moved.1,
   )
     where
       shape : IsJob t job
       shape = h.job job is
 
-      log : NamesOf t job.from
-      log = the_log shape.from_is
+      source : NamesOf t job.from
+      source = subst (NamesOf t) (sym shape.from_is) (named_own t.log t.naming (source_of t) (source_own t h))
 
       moved : NamesOf t job.part × NamesOf t job.to
-      moved = (each_end (Asks (NamesOf t)) (clearing job) (entry.Renames job.part job.to ∷ []) a).0
+      moved = (each_end (Asks (NamesOf t)) (clearing job) (entry.Renames job.part job.to ∷ rest) a).0
 
       made : Bool → List Entry
       made c = entry.Makes job.part job.mode ∷ entry.Reads job.from 0 [] ∷ entry.Appends job.part [] ∷ entry.SyncsFile job.part ∷ entry.Renames job.part job.to ∷ entry.SyncsDir job.dir ∷ cond c (entry.Truncates job.from ∷ []) []
 
       emptied : (c : Bool) → Each (Asks (NamesOf t)) (cond c (entry.Truncates job.from ∷ []) [])
-      emptied true = (log, tt)
+      emptied true = (source, tt)
       emptied false = tt
 
+  -- So do those of the log's own way, and of the copy of what waited.
+  record WayAsks (j : Option Job) (a : Option Path) : Type 0 where
+    own : Each (Asks (NamesOf t)) (own_calls t.ready j a)
+    letting : Each (Asks (NamesOf t)) (letting_calls j a)
+    target : NamesOf t t.ready.target
+
+  way_asks : (j : Option Job) (a : Option Path) → t.job ≡ j → Each (Asks (NamesOf t)) (transfer_of t.ready j a) → WayAsks j a
+  way_asks None a is asks = record { own = asks; letting = tt; target = asks.0.1 }
+  way_asks (Some job) None is asks = let copied = copy_asks job [] is asks in record { own = copied.0; letting = tt; target = copied.1 }
+  way_asks (Some job) (Some path) is asks =
+      let copied = copy_asks job (entry.Unlinks path ∷ []) is asks.1 in record {
+        own = (tt, (asks.0, tt));
+        letting = each_append (Asks (NamesOf t)) (copy_calls job) (entry.Unlinks path ∷ []) copied.0 (asks.0.1, tt);
+        target = copied.1;
+      }
+
   -- by the job that there is, if any
-  transferred : Each (Asks (NamesOf t)) (transfer_calls t.ready t.job) × NamesOf t t.ready.target
-  transferred = transfer_asks t.job refl (each_first (Asks (NamesOf t)) (transfer_of t.ready t.job) (back_of t) behind_moves)
+  own_way_asks : WayAsks t.job t.aside
+  own_way_asks = way_asks t.job t.aside refl (each_first (Asks (NamesOf t)) (transfer_of t.ready t.job t.aside) (unlinks t.ready.retire) behind_moves)
 
   -- so do the read of the final path and the removals behind it
   pub back_asks : Each (Asks (NamesOf t)) (back_calls t)
-  back_asks = (transferred.1, each_end (Asks (NamesOf t)) (transfer_of t.ready t.job) (back_of t) behind_moves)
+  back_asks = each_append (Asks (NamesOf t)) (letting_calls t.job t.aside) (removing_calls t) own_way_asks.letting
+      (own_way_asks.target, each_end (Asks (NamesOf t)) (transfer_of t.ready t.job t.aside) (unlinks t.ready.retire) behind_moves)
 
-  -- so do all calls of the rotation, which may make a directory besides
-  calls_ask : Each (AsksFor (NamesOf t)) (calls_of t)
-  calls_ask =
-      each_append (AsksFor (NamesOf t)) (unlinks t.ready.leftovers) (dir_calls t.ready.dir ++ (map move_step t.ready.moves ++ (transfer_calls t.ready t.job ++ back_calls t)))
-      (asks_for (NamesOf t) (unlinks t.ready.leftovers) (each_first (Asks (NamesOf t)) (unlinks t.ready.leftovers) (map move_step t.ready.moves ++ (transfer_of t.ready t.job ++ back_of t)) turns_ask))
-      (each_append (AsksFor (NamesOf t)) (dir_calls t.ready.dir) (map move_step t.ready.moves ++ (transfer_calls t.ready t.job ++ back_calls t)) (dir_asks t.ready.dir)
-      (asks_for (NamesOf t) (map move_step t.ready.moves ++ (transfer_calls t.ready t.job ++ back_calls t))
-      (each_append (Asks (NamesOf t)) (map move_step t.ready.moves) (transfer_calls t.ready t.job ++ back_calls t)
-      (each_first (Asks (NamesOf t)) (map move_step t.ready.moves) (transfer_of t.ready t.job ++ back_of t) behind_leftovers)
-      (each_append (Asks (NamesOf t)) (transfer_calls t.ready t.job) (back_calls t) transferred.0 back_asks))))
+  -- the calls before the scripts may make a directory besides
+  front_ask : Each (AsksFor (NamesOf t)) (front_calls t)
+  front_ask =
+      each_append (AsksFor (NamesOf t)) (unlinks t.ready.leftovers) (dir_calls t.ready.dir ++ (map move_step t.ready.moves ++ own_calls t.ready t.job t.aside))
+      (asks_for (NamesOf t) (unlinks t.ready.leftovers) (each_first (Asks (NamesOf t)) (unlinks t.ready.leftovers) (map move_step t.ready.moves ++ (transfer_of t.ready t.job t.aside ++ unlinks t.ready.retire)) turns_ask))
+      (each_append (AsksFor (NamesOf t)) (dir_calls t.ready.dir) (map move_step t.ready.moves ++ own_calls t.ready t.job t.aside) (dir_asks t.ready.dir)
+      (asks_for (NamesOf t) (map move_step t.ready.moves ++ own_calls t.ready t.job t.aside)
+      (each_append (Asks (NamesOf t)) (map move_step t.ready.moves) (own_calls t.ready t.job t.aside)
+      (each_first (Asks (NamesOf t)) (map move_step t.ready.moves) (transfer_of t.ready t.job t.aside ++ unlinks t.ready.retire) behind_leftovers) own_way_asks.own)))
     where
       dir_asks : (d : Option (Path × Option ℕ)) → Each (AsksFor (NamesOf t)) (dir_calls d)
       dir_asks None = tt
       dir_asks (Some (dir, mode)) = (tt, tt)
+
+  -- all calls of the rotation
+  calls_ask : Each (AsksFor (NamesOf t)) (calls_of t)
+  calls_ask = subst (Each (AsksFor (NamesOf t))) (call_halves t) (each_append (AsksFor (NamesOf t)) (front_calls t) (back_calls t) front_ask (asks_for (NamesOf t) (back_calls t) back_asks))
 
 -- what one rotation changes is no name of a set that it doesn't meet
 far : (x t : Target) (e : Entry) → (Meet x.log x.naming t.log t.naming → ⊥) → IsTurn e → ChangesOwn t.log t.naming e → Avoids (NamesOf x) e
@@ -509,17 +530,35 @@ copy_bare o job true false = (tt, (tt, (tt, (tt, (tt, (tt, tt))))))
 copy_bare o job false true = (tt, (tt, (tt, (tt, (tt, (tt, tt))))))
 copy_bare o job false false = (tt, (tt, (tt, (tt, (tt, tt)))))
 
-transfer_bare : (o : Option Journal) (log target : Path) (m : Make) (j : Option Job) → Can o (entry.Makes log None) → AreBareSteps o (transfer log target j ++ step.Rotated log ∷ made_anew m log j)
-transfer_bare o log target make.No None c = (tt, (tt, tt))
-transfer_bare o log target (make.Yes mode) None c = (tt, (tt, (can_as c (λ n h. h), tt)))
-transfer_bare o log target m (Some job) c = bare_on o (copy job) (step.Rotated log ∷ []) (copy_bare o job job.stale job.cut) (tt, tt)
+own_copy_bare : (o : Option Journal) (job : Job) → AreBareSteps o (copy job)
+own_copy_bare o job = copy_bare o job job.stale job.cut
+
+transfer_bare : (o : Option Journal) (log target : Path) (j : Option Job) (a : Option Path) → AreBareSteps o (transfer log target j a)
+transfer_bare o log target None a = (tt, tt)
+transfer_bare o log target (Some job) None = own_copy_bare o job
+transfer_bare o log target (Some job) (Some path) = (tt, (tt, tt))
+
+new_bare : (o : Option Journal) (log : Path) (m : Make) → Can o (entry.Makes log None) → AreBareSteps o (anew m log)
+new_bare o log make.No c = tt
+new_bare o log (make.Yes mode) c = (can_as c (λ n h. h), tt)
+
+anew_bare : (o : Option Journal) (log : Path) (m : Make) (j : Option Job) (a : Option Path) → Can o (entry.Makes log None) → AreBareSteps o (made_anew m log j a)
+anew_bare o log m None a c = new_bare o log m c
+anew_bare o log m (Some job) None c = tt
+anew_bare o log m (Some job) (Some path) c = new_bare o log m c
 
 front_bare : (o : Option Journal) (t : Target) (log : LogPlan) → Can o (entry.Makes t.log None) → IsReadyFor t log → ReadsOwn log → AreBareSteps o (steps.rotation_of log)
 front_bare o t log c r q =
     bare_on o (removals log.ready.leftovers) _ (removals_bare o log.ready.leftovers q.leftovers)
     (bare_on o (directory log.ready.dir) _ (dir_bare o log.ready.dir)
     (bare_on o (map move log.ready.moves) _ (moves_bare o log.ready.moves)
-    (transfer_bare o log.ready.log log.ready.target log.ready.make log.job (subst (λ (x : Path). Can o (entry.Makes x None)) (sym (ap (λ (x : Ready). x.log) r.ready_is ∙ r.log_is)) c))))
+    (bare_on o (transfer log.ready.log log.ready.target log.job log.aside) _ (transfer_bare o log.ready.log log.ready.target log.job log.aside)
+    (tt, anew_bare o log.log log.ready.make log.job log.aside (subst (λ (x : Path). Can o (entry.Makes x None)) (sym r.log_is) c)))))
+
+finishing_bare : (o : Option Journal) (j : Option Job) (a : Option Path) → AreBareSteps o (finishing j a)
+finishing_bare o None a = tt
+finishing_bare o (Some job) None = tt
+finishing_bare o (Some job) (Some path) = bare_on o (copy job) (step.Removes path ∷ []) (own_copy_bare o job) (tt, tt)
 
 -- a program that reads a file, where that can be read
 reading_asked : (file : Path) (es : List Entry) (o : Option Journal) (command : Command) → command.input ≡ Some file → CanCalls o (entry.Reads file 0 [] ∷ es) → CanAll o (runs command (ended.Exit (pos 0)) ∷ [])
@@ -532,9 +571,15 @@ reading_then file ss es o p None r can f = f o (calls_as can (λ n fit. fit.1))
 reading_then file ss es o p (Some command) r can f = (reading_asked file es o command r can, λ m left. f m (calls_still es (calls_as can (λ n fit. fit.1)) left (λ ts w. ap (filter is_naming) w)))
 
 -- the mail of the first file and the removals, where the final path can be read
-pub back_can : (o : Option Journal) (t : Target) (log : LogPlan) → IsReadyFor t log → ReadsOwn log → CanCalls o (back_calls t) → CanMake o (steps.retirement_of log)
-back_can o t log r q can = reading_then t.ready.target (removals log.ready.retire) (back_of t) o phase.Mail log.first_mail (subst (λ (x : Path). ReadsThis x log.first_mail) (ap (λ (x : Ready). x.target) r.ready_is) q.first_mail) can
+removing_can : (o : Option Journal) (t : Target) (log : LogPlan) → IsReadyFor t log → ReadsOwn log → CanCalls o (removing_calls t) → CanMake o (program phase.Mail log.first_mail ++ removals log.ready.retire)
+removing_can o t log r q can = reading_then t.ready.target (removals log.ready.retire) (unlinks t.ready.retire) o phase.Mail log.first_mail (subst (λ (x : Path). ReadsThis x log.first_mail) (ap (λ (x : Ready). x.target) r.ready_is) q.first_mail) can
     (λ m c. can_make (removals log.ready.retire) (removals_bare m log.ready.retire q.retire) (subst (CanCalls m) (sym (removals_ask t log r)) c))
+
+-- and the copy of what waited before them
+pub back_can : (o : Option Journal) (t : Target) (log : LogPlan) → IsReadyFor t log → ReadsOwn log → CanCalls o (back_calls t) → CanMake o (steps.retirement_of log)
+back_can o t log r q can =
+    make_then (finishing log.job log.aside) (program phase.Mail log.first_mail ++ removals log.ready.retire) (removing_calls t) (finishing_bare o log.job log.aside)
+    (subst (CanCalls o) (sym (ap (λ es. es ++ removing_calls t) (finishing_asks t log r))) can) (λ m left c. removing_can m t log r q c)
 
 -- a program that reads no file, and then these steps
 program_then : (p : Phase) (c : Option Command) (rest : List Step) (es : List Entry) {o : Option Journal} → ReadsNothing c → CanCalls o es → ((m : Option Journal) → Left (AllSucceed (program p c)) o m → CanCalls m es → CanMake m rest) → CanMake o (program p c ++ rest)

@@ -32,7 +32,8 @@ use Rattle.lr_weave.proofs.Allowed.{HasAll, Allowed, AllowsMore, AllowsLog}
 use Rattle.lr_weave.specs.Parts.{change_of, changes_by, IsPlain, ArePlain}
 use Rattle.lr_weave.specs.Planned.{bare_removal, IsReadyFor, AreReadyFor, HaveLogs}
 use Rattle.lr_weave.proofs.Guarded.{has_front, has_back, has_on, IsGuarded, AreGuarded, EachGuarded, IsGuardedSet, AreGuardedSets, sets_guarded}
-use Rattle.lr_weave.proofs.Planning.{front_of, back_of, halves, dir_is, each_every, front_is, back_is, front_plain, back_plain, each_end}
+use Rattle.lr_weave.proofs.Halves.{front_of, back_of, halves}
+use Rattle.lr_weave.proofs.Planning.{dir_is, each_every, front_is, back_is, front_plain, back_plain, each_end}
 
 -- ---- steps of one log
 
@@ -92,7 +93,7 @@ module _ (P : Allowed) (allows : AllowsMore P) where
   module _ (t : Target) (log : LogPlan) (r : IsReadyFor t log) (a : AllowsLog P t) where
     -- behind the directory
     abbrev rest : List Step
-    rest = map move log.ready.moves ++ (transfer log.ready.log log.ready.target log.job ++ (step.Rotated log.ready.log ∷ made_anew log.ready.make log.ready.log log.job))
+    rest = map move log.ready.moves ++ (transfer log.ready.log log.ready.target log.job log.aside ++ (step.Rotated log.log ∷ made_anew log.ready.make log.log log.job log.aside))
 
     begins : (dir : Path) (mode : Option ℕ) → t.ready.dir ≡ Some (dir, mode) → rotation log ≡ step.MakesDir dir mode ∷ rest
     begins dir mode is =
@@ -126,7 +127,7 @@ module _ (P : Allowed) (allows : AllowsMore P) where
         go (Some (dir, mode)) is = a.behind dir mode is marks (tells dir mode is) e o
 
     retirement_guarded : (marks : List Mark) → TellsDir t marks → AreGuarded P marks (retirement log)
-    retirement_guarded marks tells = all_guarded t (retirement log) marks (back_plain (AlsoDoes t) log) (back_turns t log r) (λ more has e o. allowed more (λ dir mode is. has (mark.Directory dir) (tells dir mode is)) e o)
+    retirement_guarded marks tells = all_guarded t (retirement log) marks (back_plain (AlsoDoes t) t log (λ e also. also) r) (back_turns t log r) (λ more has e o. allowed more (λ dir mode is. has (mark.Directory dir) (tells dir mode is)) e o)
 
     log_guarded : AreGuarded P [] (steps_of_log log)
     log_guarded =

@@ -3,6 +3,7 @@ pub mod Firsts
 pub mod Fits
 pub mod Guarded
 pub mod Guarding
+pub mod Halves
 pub mod Lasting
 pub mod Marked
 pub mod Parting

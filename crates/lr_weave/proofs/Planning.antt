@@ -16,6 +16,7 @@ use Rattle.lr_host.proofs.Lists.{in_append}
 use Rattle.lr_scripts.specs.declared.command.Command.{Command}
 use Rattle.lr_scripts.specs.declared.removal.Removal.{Removal}
 use Rattle.lr_copy.specs.declared.job.Job.{Job}
+use Rattle.lr_copy.specs.Copying.{clearing}
 use Rattle.lr_chain.specs.declared.ready.Move.{Move}
 use Rattle.lr_chain.specs.declared.ready.Ready.{Ready}
 use Rattle.lr_chain.specs.Ready.{move_step, dir_calls}
@@ -24,16 +25,16 @@ use Rattle.lr_plan.specs.declared.plan.SetPlan.{SetPlan}
 use Rattle.lr_plan.specs.declared.step.Step.{Step}
 use Rattle.lr_plan.specs.declared.step.Step.TheVariants as step
 use Rattle.lr_plan.specs.Asking.{asks}
-use Rattle.lr_plan.specs.Steps.{on_of, program, removal, removals, directory, move, step_if, transfer, made_anew, rotation as steps_of_rotation, retirement as steps_of_retirement, rotation_of as rotation, retirement_of as retirement, steps_of_log, shared_steps, by_logs, steps_of_set}
-use Rattle.lr_laws_targets.specs.Calls.{transfer_calls, calls_of}
+use Rattle.lr_plan.specs.Steps.{on_of, program, removal, removals, directory, move, step_if, copy, transfer, anew, made_anew, rotation_of as rotation, finishing, retirement_of as retirement, steps_of_log, shared_steps, by_logs, steps_of_set}
 use Rattle.lr_laws_family.specs.Weave.{Weave}
 use Rattle.lr_laws_rotations.specs.Steps.{unlinks}
-use Rattle.lr_laws_targets.specs.Target.{Target, transfer_of, rotation_of, IsJob, HasJob}
+use Rattle.lr_laws_targets.specs.Target.{Target, source_by, HasWay, rotation_of, IsJob, HasJob}
 use Rattle.lr_laws_targets.specs.AllTurns.{AlsoDoes, IsOf, IsOfSome, IsOfOther}
 use Rattle.lr_laws_targets.proofs.Rotating.{two}
 use Rattle.lr_laws_family.proofs.Weaving.{weave_on, weave_own, weave_others}
 use Rattle.lr_weave.specs.Parts.{change_of, changes_by, ArePlain, EachPlain, IsPlainSet, ArePlainSets, MakesOne, parts_of_set, parts_of_sets, AllOf, InOnePart, ArePlanned}
 use Rattle.lr_weave.specs.Planned.{bare_removal, bare, IsReadyFor, AreReadyFor, HaveLogs, NoneHas, AreApart}
+use Rattle.lr_weave.proofs.Halves.{own_way, letting_go, front_of, back_of, halves, own_calls, letting_calls, front_calls}
 use Rattle.lr_weave.proofs.Parting.{none_has, of_other}
 
 -- ---- what the steps of one log ask for
@@ -73,26 +74,35 @@ module _ (f : Step → List Entry) (runs : (p : Phase) (on : List ℕ) (c : Comm
   dir_by None = refl
   dir_by (Some (x, mode)) = one_by (step.MakesDir x mode) [] (making x mode) (makes x mode) ∙ append-nil (making x mode)
 
-  anew_by : (m : Make) (log : Path) (j : Option Job) → flat_map f (made_anew m log j) ≡ []
-  anew_by make.No log None = refl
-  anew_by (make.Yes mode) log None = one_by (step.Creates log mode) [] [] (creates log mode)
-  anew_by m log (Some job) = refl
+  new_by : (m : Make) (log : Path) → flat_map f (anew m log) ≡ []
+  new_by make.No log = refl
+  new_by (make.Yes mode) log = one_by (step.Creates log mode) [] [] (creates log mode)
 
-  rotation_by : (ready : Ready) (j : Option Job) (es : List Entry) → flat_map f (transfer ready.log ready.target j) ≡ es → flat_map f (steps_of_rotation ready j) ≡ unlinks ready.leftovers ++ (made_by making ready.dir ++ (map move_step ready.moves ++ es))
-  rotation_by ready j es e =
-      on_by (removals ready.leftovers) (directory ready.dir ++ (map move ready.moves ++ (transfer ready.log ready.target j ++ rest)))
-      ∙ two (removals_by ready.leftovers)
-      (on_by (directory ready.dir) (map move ready.moves ++ (transfer ready.log ready.target j ++ rest))
-      ∙ two (dir_by ready.dir)
-      (on_by (map move ready.moves) (transfer ready.log ready.target j ++ rest)
-      ∙ two (moves_by ready.moves)
-      (on_by (transfer ready.log ready.target j) rest ∙ (two e (one_by (step.Rotated ready.log) (made_anew ready.make ready.log j) [] (rotated ready.log) ∙ anew_by ready.make ready.log j) ∙ append-nil es))))
+  anew_by : (m : Make) (log : Path) (j : Option Job) (a : Option Path) → flat_map f (made_anew m log j a) ≡ []
+  anew_by m log None a = new_by m log
+  anew_by m log (Some job) None = refl
+  anew_by m log (Some job) (Some path) = new_by m log
+
+  rotation_by : (log : LogPlan) (es : List Entry) → flat_map f (transfer log.ready.log log.ready.target log.job log.aside) ≡ es → flat_map f (rotation log) ≡ unlinks log.ready.leftovers ++ (made_by making log.ready.dir ++ (map move_step log.ready.moves ++ es))
+  rotation_by log es e =
+      on_by (removals log.ready.leftovers) (directory log.ready.dir ++ (map move log.ready.moves ++ (way ++ rest)))
+      ∙ two (removals_by log.ready.leftovers)
+      (on_by (directory log.ready.dir) (map move log.ready.moves ++ (way ++ rest))
+      ∙ two (dir_by log.ready.dir)
+      (on_by (map move log.ready.moves) (way ++ rest)
+      ∙ two (moves_by log.ready.moves)
+      (on_by way rest ∙ (two e (one_by (step.Rotated log.log) (made_anew log.ready.make log.log log.job log.aside) [] (rotated log.log) ∙ anew_by log.ready.make log.log log.job log.aside) ∙ append-nil es))))
     where
-      rest : List Step
-      rest = step.Rotated ready.log ∷ made_anew ready.make ready.log j
+      way : List Step
+      way = transfer log.ready.log log.ready.target log.job log.aside
 
-  retirement_by : (mail : Option Command) (rs : List Removal) → flat_map f (steps_of_retirement mail rs) ≡ unlinks rs
-  retirement_by mail rs = on_by (program phase.Mail mail) (removals rs) ∙ two (program_by phase.Mail mail) (removals_by rs)
+      rest : List Step
+      rest = step.Rotated log.log ∷ made_anew log.ready.make log.log log.job log.aside
+
+  retirement_by : (log : LogPlan) (es : List Entry) → flat_map f (finishing log.job log.aside) ≡ es → flat_map f (retirement log) ≡ es ++ unlinks log.ready.retire
+  retirement_by log es e =
+      on_by (finishing log.job log.aside) (program phase.Mail log.first_mail ++ removals log.ready.retire)
+      ∙ two e (on_by (program phase.Mail log.first_mail) (removals log.ready.retire) ∙ two (program_by phase.Mail log.first_mail) (removals_by log.ready.retire))
 
   log_by : (log : LogPlan) (xs ys : List Entry) → flat_map f (rotation log) ≡ xs → flat_map f (retirement log) ≡ ys → flat_map f (steps_of_log log) ≡ xs ++ ys
   log_by log xs ys a b =
@@ -101,19 +111,6 @@ module _ (f : Step → List Entry) (runs : (p : Phase) (on : List ℕ) (c : Comm
       (on_by (rotation log) (program phase.Post log.post ++ retirement log) ∙ two a (on_by (program phase.Post log.post) (retirement log) ∙ two (program_by phase.Post log.post) b))
 
 -- ---- their changes of names
-
--- up to the log's final path, and behind that
-abbrev pub front_of : Target → List Entry
-front_of t = unlinks t.ready.leftovers ++ (map move_step t.ready.moves ++ transfer_of t.ready t.job)
-
-abbrev pub back_of : Target → List Entry
-back_of t = unlinks t.ready.retire
-
-halves_on : (t : Target) (es bs : List Entry) → (unlinks t.ready.leftovers ++ (map move_step t.ready.moves ++ es)) ++ bs ≡ unlinks t.ready.leftovers ++ (map move_step t.ready.moves ++ (es ++ bs))
-halves_on t es bs = append_assoc (unlinks t.ready.leftovers) (map move_step t.ready.moves ++ es) bs ∙ ap (λ xs. unlinks t.ready.leftovers ++ xs) (append_assoc (map move_step t.ready.moves) es bs)
-
-pub halves : (t : Target) → front_of t ++ back_of t ≡ rotation_of t
-halves t = halves_on t (transfer_of t.ready t.job) (back_of t)
 
 on : (xs ys : List Step) → changes_by (xs ++ ys) ≡ changes_by xs ++ changes_by ys
 on xs ys = flat_map-append change_of xs ys
@@ -128,26 +125,38 @@ copy_changes job true false = refl
 copy_changes job false true = refl
 copy_changes job false false = refl
 
-transfer_is : (ready : Ready) (j : Option Job) → changes_by (transfer ready.log ready.target j) ≡ transfer_of ready j
-transfer_is ready None = refl
-transfer_is ready (Some job) = copy_changes job job.stale job.cut
+transfer_is : (ready : Ready) (j : Option Job) (a : Option Path) → changes_by (transfer ready.log ready.target j a) ≡ own_way ready j a
+transfer_is ready None a = refl
+transfer_is ready (Some job) None = copy_changes job job.stale job.cut
+transfer_is ready (Some job) (Some path) = refl
+
+finishing_is : (j : Option Job) (a : Option Path) → changes_by (finishing j a) ≡ letting_go j a
+finishing_is None a = refl
+finishing_is (Some job) None = refl
+finishing_is (Some job) (Some path) =
+    on (copy job) (step.Removes path ∷ [])
+    ∙ (ap (λ es. es ++ entry.Unlinks path ∷ []) (copy_changes job job.stale job.cut) ∙ append_assoc (clearing job) (entry.Renames job.part job.to ∷ []) (entry.Unlinks path ∷ []))
 
 -- the programs before them make no difference to what is removed
 bare_unlinks : (rs : List Removal) → unlinks rs ≡ unlinks (map bare_removal rs)
 bare_unlinks [] = refl
 bare_unlinks (r ∷ rs) = ap (λ es. entry.Unlinks r.path ∷ es) (bare_unlinks rs)
 
--- nor to what is done first, and then to what is left
-front_as : (t : Target) (log : LogPlan) (g : Option (Path × Option ℕ) → List Entry) (f : Ready → Option Job → List Entry) → IsReadyFor t log → ((j : Option Job) → f log.ready j ≡ f (bare log.ready) j)
-    → unlinks log.ready.leftovers ++ (g log.ready.dir ++ (map move_step log.ready.moves ++ f log.ready log.job)) ≡ unlinks t.ready.leftovers ++ (g t.ready.dir ++ (map move_step t.ready.moves ++ f t.ready t.job))
-front_as t log g f r same =
-    ap (λ es. es ++ (g log.ready.dir ++ (map move_step log.ready.moves ++ f log.ready log.job))) (bare_unlinks log.ready.leftovers)
-    ∙ (ap (λ es. unlinks (map bare_removal log.ready.leftovers) ++ (g log.ready.dir ++ (map move_step log.ready.moves ++ es))) (same log.job)
-    ∙ (ap (λ (x : Ready). unlinks x.leftovers ++ (g x.dir ++ (map move_step x.moves ++ f x log.job))) r.ready_is
-    ∙ ap (λ (j : Option Job). unlinks t.ready.leftovers ++ (g t.ready.dir ++ (map move_step t.ready.moves ++ f t.ready j))) r.job_is))
+-- what is left is by the copy, and by where the log waits
+by_both : (t : Target) (log : LogPlan) (f : Option Job → Option Path → List Entry) → IsReadyFor t log → f log.job log.aside ≡ f t.job t.aside
+by_both t log f r = ap (λ (j : Option Job). f j log.aside) r.job_is ∙ ap (λ (a : Option Path). f t.job a) r.aside_is
 
-back_as : (t : Target) (log : LogPlan) → IsReadyFor t log → unlinks log.ready.retire ≡ back_of t
-back_as t log r = bare_unlinks log.ready.retire ∙ ap (λ (x : Ready). unlinks x.retire) r.ready_is
+-- nor to what is done first, and then to what is left
+front_as : (t : Target) (log : LogPlan) (g : Option (Path × Option ℕ) → List Entry) (f : Ready → Option Job → Option Path → List Entry) → IsReadyFor t log → ((j : Option Job) (a : Option Path) → f log.ready j a ≡ f (bare log.ready) j a)
+    → unlinks log.ready.leftovers ++ (g log.ready.dir ++ (map move_step log.ready.moves ++ f log.ready log.job log.aside)) ≡ unlinks t.ready.leftovers ++ (g t.ready.dir ++ (map move_step t.ready.moves ++ f t.ready t.job t.aside))
+front_as t log g f r same =
+    ap (λ es. es ++ (g log.ready.dir ++ (map move_step log.ready.moves ++ f log.ready log.job log.aside))) (bare_unlinks log.ready.leftovers)
+    ∙ (ap (λ es. unlinks (map bare_removal log.ready.leftovers) ++ (g log.ready.dir ++ (map move_step log.ready.moves ++ es))) (same log.job log.aside)
+    ∙ (ap (λ (x : Ready). unlinks x.leftovers ++ (g x.dir ++ (map move_step x.moves ++ f x log.job log.aside))) r.ready_is
+    ∙ ap (λ es. unlinks t.ready.leftovers ++ (g t.ready.dir ++ (map move_step t.ready.moves ++ es))) (by_both t log (f t.ready) r)))
+
+retired_as : (t : Target) (log : LogPlan) → IsReadyFor t log → unlinks log.ready.retire ≡ unlinks t.ready.retire
+retired_as t log r = bare_unlinks log.ready.retire ∙ ap (λ (x : Ready). unlinks x.retire) r.ready_is
 
 -- nor to the directory that is made
 pub dir_is : (t : Target) (log : LogPlan) → IsReadyFor t log → log.ready.dir ≡ t.ready.dir
@@ -157,17 +166,20 @@ none_made : (d : Option (Path × Option ℕ)) → made_by (λ x mode. []) d ≡ 
 none_made None = refl
 none_made (Some (x, mode)) = refl
 
-bare_transfer : (ready : Ready) (j : Option Job) → transfer_of ready j ≡ transfer_of (bare ready) j
-bare_transfer ready None = refl
-bare_transfer ready (Some job) = refl
+bare_way : (ready : Ready) (j : Option Job) (a : Option Path) → own_way ready j a ≡ own_way (bare ready) j a
+bare_way ready None a = refl
+bare_way ready (Some job) None = refl
+bare_way ready (Some job) (Some path) = refl
 
 pub front_is : (t : Target) (log : LogPlan) → IsReadyFor t log → changes_by (rotation log) ≡ front_of t
 front_is t log r =
-    rotation_by change_of (λ p on c. refl) (λ x. refl) (λ x y. refl) (λ x mode. refl) (λ x. refl) (λ x mode. []) (λ x mode. refl) log.ready log.job (transfer_of log.ready log.job) (transfer_is log.ready log.job)
-    ∙ (ap (λ ds. unlinks log.ready.leftovers ++ (ds ++ (map move_step log.ready.moves ++ transfer_of log.ready log.job))) (none_made log.ready.dir) ∙ front_as t log (λ d. []) transfer_of r (bare_transfer log.ready))
+    rotation_by change_of (λ p on c. refl) (λ x. refl) (λ x y. refl) (λ x mode. refl) (λ x. refl) (λ x mode. []) (λ x mode. refl) log (own_way log.ready log.job log.aside) (transfer_is log.ready log.job log.aside)
+    ∙ (ap (λ ds. unlinks log.ready.leftovers ++ (ds ++ (map move_step log.ready.moves ++ own_way log.ready log.job log.aside))) (none_made log.ready.dir) ∙ front_as t log (λ d. []) own_way r (bare_way log.ready))
 
 pub back_is : (t : Target) (log : LogPlan) → IsReadyFor t log → changes_by (retirement log) ≡ back_of t
-back_is t log r = retirement_by change_of (λ p on c. refl) (λ x. refl) (λ x y. refl) (λ x mode. refl) (λ x. refl) (λ x mode. []) (λ x mode. refl) log.first_mail log.ready.retire ∙ back_as t log r
+back_is t log r =
+    retirement_by change_of (λ p on c. refl) (λ x. refl) (λ x y. refl) (λ x mode. refl) (λ x. refl) (λ x mode. []) (λ x mode. refl) log (letting_go log.job log.aside) (finishing_is log.job log.aside)
+    ∙ two (by_both t log letting_go r) (retired_as t log r)
 
 pub log_is : (t : Target) (log : LogPlan) → IsReadyFor t log → changes_by (steps_of_log log) ≡ rotation_of t
 log_is t log r = log_by change_of (λ p on c. refl) (λ x. refl) (λ x y. refl) (λ x mode. refl) (λ x. refl) (λ x mode. []) (λ x mode. refl) log (front_of t) (back_of t) (front_is t log r) (back_is t log r) ∙ halves t
@@ -183,22 +195,9 @@ calls_of_step s = asks s
 abbrev pub calls_by : List Step → List Entry
 calls_by ss = flat_map calls_of_step ss
 
-abbrev pub front_calls : Target → List Entry
-front_calls t = unlinks t.ready.leftovers ++ (dir_calls t.ready.dir ++ (map move_step t.ready.moves ++ transfer_calls t.ready t.job))
-
 dirs_made : (d : Option (Path × Option ℕ)) → made_by (λ x mode. entry.MakesDir x mode ∷ []) d ≡ dir_calls d
 dirs_made None = refl
 dirs_made (Some (x, mode)) = refl
-
--- the final path can be read, and then the removals
-abbrev pub back_calls : Target → List Entry
-back_calls t = entry.Reads t.ready.target 0 [] ∷ back_of t
-
-pub call_halves : (t : Target) → front_calls t ++ back_calls t ≡ calls_of t
-call_halves t =
-    append_assoc (unlinks t.ready.leftovers) (dir_calls t.ready.dir ++ (map move_step t.ready.moves ++ transfer_calls t.ready t.job)) (back_calls t)
-    ∙ ap (λ xs. unlinks t.ready.leftovers ++ xs) (append_assoc (dir_calls t.ready.dir) (map move_step t.ready.moves ++ transfer_calls t.ready t.job) (back_calls t)
-    ∙ ap (λ xs. dir_calls t.ready.dir ++ xs) (append_assoc (map move_step t.ready.moves) (transfer_calls t.ready t.job) (back_calls t)))
 
 pub program_asks : (p : Phase) (o : Option Command) → calls_by (program p o) ≡ []
 program_asks p o = program_by calls_of_step (λ p on c. refl) (λ x. refl) (λ x y. refl) (λ x mode. refl) (λ x. refl) (λ x mode. entry.MakesDir x mode ∷ []) (λ x mode. refl) p o
@@ -210,21 +209,32 @@ copy_asks job true false = refl
 copy_asks job false true = refl
 copy_asks job false false = refl
 
-transfer_asks : (ready : Ready) (j : Option Job) → calls_by (transfer ready.log ready.target j) ≡ transfer_calls ready j
-transfer_asks ready None = refl
-transfer_asks ready (Some job) = copy_asks job job.stale job.cut
+transfer_asks : (ready : Ready) (j : Option Job) (a : Option Path) → calls_by (transfer ready.log ready.target j a) ≡ own_calls ready j a
+transfer_asks ready None a = refl
+transfer_asks ready (Some job) None = copy_asks job job.stale job.cut
+transfer_asks ready (Some job) (Some path) = refl
 
-bare_calls : (ready : Ready) (j : Option Job) → transfer_calls ready j ≡ transfer_calls (bare ready) j
-bare_calls ready None = refl
-bare_calls ready (Some job) = refl
+bare_calls : (ready : Ready) (j : Option Job) (a : Option Path) → own_calls ready j a ≡ own_calls (bare ready) j a
+bare_calls ready None a = refl
+bare_calls ready (Some job) None = refl
+bare_calls ready (Some job) (Some path) = refl
 
 pub front_asks : (t : Target) (log : LogPlan) → IsReadyFor t log → calls_by (rotation log) ≡ front_calls t
 front_asks t log r =
-    rotation_by calls_of_step (λ p on c. refl) (λ x. refl) (λ x y. refl) (λ x mode. refl) (λ x. refl) (λ x mode. entry.MakesDir x mode ∷ []) (λ x mode. refl) log.ready log.job (transfer_calls log.ready log.job) (transfer_asks log.ready log.job)
-    ∙ (ap (λ ds. unlinks log.ready.leftovers ++ (ds ++ (map move_step log.ready.moves ++ transfer_calls log.ready log.job))) (dirs_made log.ready.dir) ∙ front_as t log dir_calls transfer_calls r (bare_calls log.ready))
+    rotation_by calls_of_step (λ p on c. refl) (λ x. refl) (λ x y. refl) (λ x mode. refl) (λ x. refl) (λ x mode. entry.MakesDir x mode ∷ []) (λ x mode. refl) log (own_calls log.ready log.job log.aside) (transfer_asks log.ready log.job log.aside)
+    ∙ (ap (λ ds. unlinks log.ready.leftovers ++ (ds ++ (map move_step log.ready.moves ++ own_calls log.ready log.job log.aside))) (dirs_made log.ready.dir) ∙ front_as t log dir_calls own_calls r (bare_calls log.ready))
 
-pub removals_ask : (t : Target) (log : LogPlan) → IsReadyFor t log → calls_by (removals log.ready.retire) ≡ back_of t
-removals_ask t log r = removals_by calls_of_step (λ p on c. refl) (λ x. refl) (λ x y. refl) (λ x mode. refl) (λ x. refl) (λ x mode. entry.MakesDir x mode ∷ []) (λ x mode. refl) log.ready.retire ∙ back_as t log r
+-- what is left to do for what waits
+letting_asks : (j : Option Job) (a : Option Path) → calls_by (finishing j a) ≡ letting_calls j a
+letting_asks None a = refl
+letting_asks (Some job) None = refl
+letting_asks (Some job) (Some path) = flat_map-append calls_of_step (copy job) (step.Removes path ∷ []) ∙ ap (λ es. es ++ entry.Unlinks path ∷ []) (copy_asks job job.stale job.cut)
+
+pub finishing_asks : (t : Target) (log : LogPlan) → IsReadyFor t log → calls_by (finishing log.job log.aside) ≡ letting_calls t.job t.aside
+finishing_asks t log r = letting_asks log.job log.aside ∙ by_both t log letting_calls r
+
+pub removals_ask : (t : Target) (log : LogPlan) → IsReadyFor t log → calls_by (removals log.ready.retire) ≡ unlinks t.ready.retire
+removals_ask t log r = removals_by calls_of_step (λ p on c. refl) (λ x. refl) (λ x y. refl) (λ x mode. refl) (λ x. refl) (λ x mode. entry.MakesDir x mode ∷ []) (λ x mode. refl) log.ready.retire ∙ retired_as t log r
 
 -- ---- plain steps
 
@@ -254,9 +264,9 @@ dir_plain : (P : Entry → Type 0) (t : Target) (d : Option (Path × Option ℕ)
 dir_plain P t None h is = tt
 dir_plain P t (Some (x, mode)) h is = (h (entry.MakesDir x mode) (mode, is), tt)
 
-copy_plain : (P : Entry → Type 0) (t : Target) (job : Job) (b c : Bool) → OfMaking P t → IsJob t job → t.job ≡ Some job
+copy_plain : (P : Entry → Type 0) (t : Target) (job : Job) (b c : Bool) → OfMaking P t → t.job ≡ Some job → (c ≡ true → job.from ≡ t.log)
     → ArePlain P (step_if b (step.Removes job.part) ++ (step.Takes job.part job.mode ∷ step.Copies job.from job.part job.limit ∷ step.SyncsFile job.part ∷ step.Renames job.part job.to ∷ step.SyncsDir job.dir ∷ step_if c (step.Truncates job.from)))
-copy_plain P t job b c h shape is = plain_on P (step_if b (step.Removes job.part)) _ (removed b) (taken, (filled, (tt, (tt, (tt, emptied c)))))
+copy_plain P t job b c h is cut = plain_on P (step_if b (step.Removes job.part)) _ (removed b) (taken, (filled, (tt, (tt, (tt, emptied c cut)))))
   where
     removed : (b : Bool) → ArePlain P (step_if b (step.Removes job.part))
     removed true = (tt, tt)
@@ -268,33 +278,65 @@ copy_plain P t job b c h shape is = plain_on P (step_if b (step.Removes job.part
     filled : (piece : List ℕ) → P (entry.Appends job.part piece)
     filled piece = h (entry.Appends job.part piece) (job, is, refl)
 
-    emptied : (c : Bool) → ArePlain P (step_if c (step.Truncates job.from))
-    emptied true = (h (entry.Truncates job.from) ((job, is), shape.from_is), tt)
-    emptied false = tt
+    emptied : (c : Bool) → (c ≡ true → job.from ≡ t.log) → ArePlain P (step_if c (step.Truncates job.from))
+    emptied true from = (h (entry.Truncates job.from) ((job, is), from refl), tt)
+    emptied false from = tt
 
-transfer_plain : (P : Entry → Type 0) (t : Target) (j : Option Job) → OfMaking P t → t.ready.log ≡ t.log → HasJob t → t.job ≡ j → ArePlain P (transfer t.ready.log t.ready.target j ++ step.Rotated t.ready.log ∷ made_anew t.ready.make t.ready.log j)
-transfer_plain P t None h r shape is = (tt, (tt, anew t.ready.make))
+-- a copy that empties what it copies is of the log where it stands
+cut_none : (a b : Job) → Some a ≡ Some b → a.cut ≡ true → b.cut ≡ false → ⊥
+cut_none a b same cut uncut = clash b.cut (ap (λ (j : Job). j.cut) (one same) ∙ cut) uncut
   where
-    anew : (m : Make) → ArePlain P (made_anew m t.ready.log None)
-    anew make.No = tt
-    anew (make.Yes mode) = (h (entry.Makes t.ready.log mode) (inl r), tt)
-transfer_plain P t (Some job) h r shape is = plain_on P (transfer t.ready.log t.ready.target (Some job)) (step.Rotated t.ready.log ∷ []) (copy_plain P t job job.stale job.cut h (shape job is) is) (tt, tt)
+    one : Some a ≡ Some b → b ≡ a
+    one e = cc
+
+    clash : (c : Bool) → c ≡ true → c ≡ false → ⊥
+    clash c x y = cc
+
+cut_from : (t : Target) (job : Job) → HasWay t → IsJob t job → t.job ≡ Some job → job.cut ≡ true → job.from ≡ t.log
+cut_from t job (inl stays) shape is cut = shape.from_is ∙ (ap (λ (a : Option Path). source_by a t.ready.log) stays.aside_is ∙ stays.first_is)
+cut_from t job (inr (asked, inl aside)) shape is cut = absurd (cut_none job aside.job (sym is ∙ aside.job_is) cut aside.uncut)
+cut_from t job (inr (asked, inr taken)) shape is cut = absurd (let none : None ≡ Some job = sym taken.no_job ∙ is in cc)
+
+-- the copy that there is, if any
+own_copy_plain : (P : Entry → Type 0) (t : Target) (job : Job) → OfMaking P t → HasWay t → HasJob t → t.job ≡ Some job → ArePlain P (copy job)
+own_copy_plain P t job h way shape is = copy_plain P t job job.stale job.cut h is (λ cut. cut_from t job way (shape job is) is cut)
+
+transfer_plain : (P : Entry → Type 0) (t : Target) (from target : Path) (j : Option Job) (a : Option Path) → OfMaking P t → HasWay t → HasJob t → t.job ≡ j → ArePlain P (transfer from target j a)
+transfer_plain P t from target None a h way shape is = (tt, tt)
+transfer_plain P t from target (Some job) None h way shape is = own_copy_plain P t job h way shape is
+transfer_plain P t from target (Some job) (Some path) h way shape is = (tt, (tt, tt))
+
+new_plain : (P : Entry → Type 0) (t : Target) (log : Path) (m : Make) → OfMaking P t → log ≡ t.log → ArePlain P (anew m log)
+new_plain P t log make.No h is = tt
+new_plain P t log (make.Yes mode) h is = (h (entry.Makes log mode) (inl is), tt)
+
+anew_plain : (P : Entry → Type 0) (t : Target) (log : Path) (m : Make) (j : Option Job) (a : Option Path) → OfMaking P t → log ≡ t.log → ArePlain P (made_anew m log j a)
+anew_plain P t log m None a h is = new_plain P t log m h is
+anew_plain P t log m (Some job) None h is = tt
+anew_plain P t log m (Some job) (Some path) h is = new_plain P t log m h is
 
 pub front_plain : (P : Entry → Type 0) (t : Target) (log : LogPlan) → OfMaking P t → IsReadyFor t log → ArePlain P (rotation log)
 front_plain P t log h r =
     plain_on P (removals log.ready.leftovers) _ (removals_plain P log.ready.leftovers)
     (plain_on P (directory log.ready.dir) _ (dir_plain P t log.ready.dir h (sym (dir_is t log r)))
     (plain_on P (map move log.ready.moves) _ (moves_plain P log.ready.moves)
-    (subst (λ (x : Ready). ArePlain P (transfer x.log x.target log.job ++ step.Rotated x.log ∷ made_anew x.make x.log log.job)) (sym r.ready_is)
-    (subst (λ (j : Option Job). ArePlain P (transfer t.ready.log t.ready.target j ++ step.Rotated t.ready.log ∷ made_anew t.ready.make t.ready.log j)) (sym r.job_is) (transfer_plain P t t.job h r.log_is r.job refl)))))
+    (plain_on P (transfer log.ready.log log.ready.target log.job log.aside) _ (transfer_plain P t log.ready.log log.ready.target log.job log.aside h r.way r.job (sym r.job_is))
+    (tt, anew_plain P t log.log log.ready.make log.job log.aside h r.log_is))))
 
-pub back_plain : (P : Entry → Type 0) (log : LogPlan) → ArePlain P (retirement log)
-back_plain P log = plain_on P (program phase.Mail log.first_mail) (removals log.ready.retire) (program_plain P phase.Mail log.first_mail) (removals_plain P log.ready.retire)
+finishing_plain : (P : Entry → Type 0) (t : Target) (j : Option Job) (a : Option Path) → OfMaking P t → HasWay t → HasJob t → t.job ≡ j → ArePlain P (finishing j a)
+finishing_plain P t None a h way shape is = tt
+finishing_plain P t (Some job) None h way shape is = tt
+finishing_plain P t (Some job) (Some path) h way shape is = plain_on P (copy job) (step.Removes path ∷ []) (own_copy_plain P t job h way shape is) (tt, tt)
+
+pub back_plain : (P : Entry → Type 0) (t : Target) (log : LogPlan) → OfMaking P t → IsReadyFor t log → ArePlain P (retirement log)
+back_plain P t log h r =
+    plain_on P (finishing log.job log.aside) _ (finishing_plain P t log.job log.aside h r.way r.job (sym r.job_is))
+    (plain_on P (program phase.Mail log.first_mail) (removals log.ready.retire) (program_plain P phase.Mail log.first_mail) (removals_plain P log.ready.retire))
 
 pub log_plain : (P : Entry → Type 0) (t : Target) (log : LogPlan) → OfMaking P t → IsReadyFor t log → ArePlain P (steps_of_log log)
 log_plain P t log h r =
     plain_on P (program phase.Pre log.pre) _ (program_plain P phase.Pre log.pre)
-    (plain_on P (rotation log) _ (front_plain P t log h r) (plain_on P (program phase.Post log.post) (retirement log) (program_plain P phase.Post log.post) (back_plain P log)))
+    (plain_on P (rotation log) _ (front_plain P t log h r) (plain_on P (program phase.Post log.post) (retirement log) (program_plain P phase.Post log.post) (back_plain P t log h r)))
 
 -- ---- one definition
 
@@ -309,11 +351,11 @@ fronts P [] (log ∷ logs) m r = absurd r
 fronts P (t ∷ ts) [] m r = absurd r
 fronts P (t ∷ ts) (log ∷ logs) m r = let h = fronts P ts logs m.1 r.1 in (on (rotation log) (flat_map rotation logs) ∙ two (front_is t log r.0) h.0, plain_on P (rotation log) (flat_map rotation logs) (front_plain P t log m.0 r.0) h.1)
 
-backs : (P : Entry → Type 0) (ts : List Target) (logs : List LogPlan) → AreReadyFor ts logs → (changes_by (flat_map retirement logs) ≡ flat_map back_of ts) × ArePlain P (flat_map retirement logs)
-backs P [] [] r = (refl, tt)
-backs P [] (log ∷ logs) r = absurd r
-backs P (t ∷ ts) [] r = absurd r
-backs P (t ∷ ts) (log ∷ logs) r = let h = backs P ts logs r.1 in (on (retirement log) (flat_map retirement logs) ∙ two (back_is t log r.0) h.0, plain_on P (retirement log) (flat_map retirement logs) (back_plain P log) h.1)
+backs : (P : Entry → Type 0) (ts : List Target) (logs : List LogPlan) → OfMakings P ts → AreReadyFor ts logs → (changes_by (flat_map retirement logs) ≡ flat_map back_of ts) × ArePlain P (flat_map retirement logs)
+backs P [] [] m r = (refl, tt)
+backs P [] (log ∷ logs) m r = absurd r
+backs P (t ∷ ts) [] m r = absurd r
+backs P (t ∷ ts) (log ∷ logs) m r = let h = backs P ts logs m.1 r.1 in (on (retirement log) (flat_map retirement logs) ∙ two (back_is t log r.0) h.0, plain_on P (retirement log) (flat_map retirement logs) (back_plain P t log m.0 r.0) h.1)
 
 eachs : (P : Entry → Type 0) (ts : List Target) (logs : List LogPlan) → OfMakings P ts → AreReadyFor ts logs → (map changes_by (map steps_of_log logs) ≡ map rotation_of ts) × EachPlain P (map steps_of_log logs)
 eachs P [] [] m r = (refl, tt)
@@ -327,12 +369,12 @@ shared_is P set ts m r = (
       (on (program phase.Pre set.pre) _ ∙ two (program_none phase.Pre set.pre)
       (on (flat_map rotation set.logs) _ ∙ two (fronts P ts set.logs m r).0
       (on (program phase.Post set.post) _ ∙ two (program_none phase.Post set.post)
-      (on (flat_map retirement set.logs) (program phase.Last set.last) ∙ (two (backs P ts set.logs r).0 (program_none phase.Last set.last) ∙ append-nil (flat_map back_of ts)))))),
+      (on (flat_map retirement set.logs) (program phase.Last set.last) ∙ (two (backs P ts set.logs m r).0 (program_none phase.Last set.last) ∙ append-nil (flat_map back_of ts)))))),
   plain_on P (program phase.First set.first) _ (program_plain P phase.First set.first)
       (plain_on P (program phase.Pre set.pre) _ (program_plain P phase.Pre set.pre)
       (plain_on P (flat_map rotation set.logs) _ (fronts P ts set.logs m r).1
       (plain_on P (program phase.Post set.post) _ (program_plain P phase.Post set.post)
-      (plain_on P (flat_map retirement set.logs) (program phase.Last set.last) (backs P ts set.logs r).1 (program_plain P phase.Last set.last))))),
+      (plain_on P (flat_map retirement set.logs) (program phase.Last set.last) (backs P ts set.logs m r).1 (program_plain P phase.Last set.last))))),
 )
 
 -- the parts of a definition's changes: those of all its logs in one, or each log's in its own

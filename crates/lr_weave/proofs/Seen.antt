@@ -3,24 +3,22 @@ use Rattle.std.proofs.Common.{◌≡◌, inl, inr, refl, Option, Some, None, Lis
 use Rattle.lr_rules.specs.Path.{path_fault, parent_of}
 use Rattle.lr_rules.specs.declared.clock.Clock.{Clock}
 use Rattle.lr_rules.specs.declared.rules.Rules.{Rules}
-use Rattle.lr_rules.proofs.PathLemmas.{joined_parts}
 use Rattle.lr_host.specs.declared.journal.Journal.{Journal}
 use Rattle.lr_host.specs.Quiet.{AreQuiet, Quiet, here, wrote, looked}
 use Rattle.lr_host.specs.declared.entry.Entry.TheVariants as entry
-use Rattle.lr_host.specs.Fits.{IsFileAt, IsDirectoryAt}
 use Rattle.lr_host.specs.Opening.{IsJournal}
 use Rattle.lr_host.specs.World.{Past, past, world, names}
 use Rattle.lr_host.specs.Told.{Left, not_told, is_told, Can, WhereTold}
 use Rattle.lr_host.proofs.Lists.{from_reverse}
-use Rattle.lr_host.proofs.Looked.{seen_file, nothing_no_file}
+use Rattle.lr_host.proofs.Looked.{seen_file}
 use Rattle.lr_host.proofs.More.{directory_more}
 use Rattle.lr_host.proofs.Quiet.{IsAny, since_any, moment, quiet_more, quiet_still, still_in_order}
 use Rattle.lr_host.proofs.Left.{left_as}
-use Rattle.lr_laws.proofs.StandsIn.{stands_in}
 use Rattle.lr_laws_targets.specs.Target.{Target}
 use Rattle.lr_laws_targets.specs.Apart.{HaveNames}
 use Rattle.lr_laws_targets.specs.Seen.{IsLogSeen, AreLogsSeen}
 use Rattle.lr_laws_targets.proofs.CallsFit.{log_can}
+use Rattle.lr_laws_targets.proofs.Directories.{log_dir}
 use Rattle.lr_laws_rotations.proofs.Moments.{saw_one}
 use Rattle.lr_laws_family.specs.Shown.{SawFile}
 use Rattle.lr_weave.specs.Fitting.{AreFit, HaveLogPaths}
@@ -29,10 +27,6 @@ pub quiet_disk : (p q : Past) → Quiet IsAny p q → IsJournal p → IsJournal 
 quiet_disk p _ here h = h
 quiet_disk p _ (wrote {q = q} w i f none) h = (quiet_disk p q w h, f)
 quiet_disk p _ (looked {q = q} w i f none) h = (quiet_disk p q w h, f)
-
--- what stands stands in a directory
-pub log_dir : (t : Target) (w : Past) → path_fault t.log ≡ None → IsJournal w → IsFileAt (names (world w)) t.log → IsDirectoryAt (names (world w)) (parent_of t.log)
-log_dir t w valid j file = stands_in w t.log j (joined_parts t.log valid) (λ none. nothing_no_file (names (world w) t.log) file.0 none file.1)
 
 -- the log was seen in its directory, so it can be made anew
 seen_makes : (rules : Rules) (clock : Clock) (t : Target) (o m : Option Journal) → path_fault t.log ≡ None → WhereTold o IsJournal → Left (λ us. AreQuiet us × IsLogSeen rules clock us t) o m → Can m (entry.Makes t.log None)

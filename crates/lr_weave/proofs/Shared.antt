@@ -19,12 +19,14 @@ use Rattle.lr_plan.specs.Steps as steps
 use Rattle.lr_plan.specs.Asking.{CanMake}
 use Rattle.lr_laws_rotations.specs.Calls.{CanCalls}
 use Rattle.lr_laws_targets.specs.AllTurns.{AlsoDoes}
+use Rattle.lr_laws_targets.specs.Apart.{HasNames}
 use Rattle.lr_laws_targets.specs.Target.{Target}
 use Rattle.lr_weave.specs.Fitting.{IsFit, AreFit, NoneMeets, DontMeet, ReadOwn, ReadsNothing}
 use Rattle.lr_weave.specs.Parts.{takes_name, change_of, changes_by, ArePlain, MakesOnly}
 use Rattle.lr_weave.specs.Planned.{IsReadyFor, AreReadyFor}
 use Rattle.lr_weave.proofs.Parting.{went_changes, went_only, joined_changes}
-use Rattle.lr_weave.proofs.Planning.{front_of, back_of, back_calls, front_is, back_is, halves, front_plain, back_plain, program_none, program_plain, each_end}
+use Rattle.lr_weave.proofs.Halves.{front_of, back_of, halves, back_calls}
+use Rattle.lr_weave.proofs.Planning.{front_is, back_is, front_plain, back_plain, program_none, program_plain, each_end}
 use Rattle.lr_weave.proofs.Fits.{Avoids, NamesOf, AllSucceed, Asks, asks_for, Never, none_named, naming_avoids, made_far, can_far, front_then, back_can, back_asks, rotation_far, fit_later, program_can, unchanged}
 
 -- ---- one list behind another
@@ -48,6 +50,7 @@ went_all P (s ∷ ss) ts plain w = let rest = went_all P ss w.back plain.1 w.sec
 -- ---- what is left of one log
 
 record HasBack (told : Option Journal) (t : Target) : Type 0 where
+  names : HasNames t
   asks : Each (Asks (NamesOf t)) (back_calls t)
   far_from : (x : Target) → (Meet x.log x.naming t.log t.naming → ⊥) → Each (Avoids (NamesOf x)) (back_of t)
   fits : CanCalls told (back_calls t)
@@ -58,13 +61,14 @@ front_far o x t fit apart = each_first (Avoids (NamesOf x)) (front_of t) (back_o
 -- behind its rotation
 back_left : (o m : Option Journal) (t : Target) → IsFit o t → CanCalls m (back_calls t) → HasBack m t
 back_left o m t fit can = record {
+  names = fit.names;
   asks = back_asks t fit.names;
   far_from = λ x apart. each_end (Avoids (NamesOf x)) (front_of t) (back_of t) (subst (Each (Avoids (NamesOf x))) (sym (halves t)) (rotation_far x t fit apart));
   fits = can;
 }
 
 back_later : (x : Target) {P : List Entry → Type 0} {o m : Option Journal} → HasBack o x → Left P o m → ((ts : List Entry) → P ts → Each (Avoids (NamesOf x)) (filter is_naming ts)) → HasBack m x
-back_later x b left f = record { asks = b.asks; far_from = b.far_from; fits = can_far (NamesOf x) (back_calls x) (asks_for (NamesOf x) (back_calls x) b.asks) b.fits left f }
+back_later x b left f = record { names = b.names; asks = b.asks; far_from = b.far_from; fits = can_far (NamesOf x) (back_calls x) (asks_for (NamesOf x) (back_calls x) b.asks) b.fits left f }
 
 turned_about : (x t : Target) → (Meet x.log x.naming t.log t.naming → ⊥) → Meet t.log t.naming x.log x.naming → ⊥
 turned_about x t f m = f (m.0, ⊎_elim (λ a. inr (a.1, a.0)) (λ b. inl (b.1, b.0)) m.1)
@@ -75,10 +79,10 @@ front_avoids o x t log ts fit apart r w =
     let all = went_all (AlsoDoes t) (steps.rotation_of log) ts (front_plain (AlsoDoes t) t log (λ e also. also) r) w in
     naming_avoids (NamesOf x) (AlsoDoes t) ts (subst (Each (Avoids (NamesOf x))) (sym (all.are ∙ front_is t log r)) (front_far o x t fit apart)) all.only (made_far x t fit.names apart)
 
-back_avoids : (x t : Target) (log : LogPlan) (ts : List Entry) → Each (Avoids (NamesOf x)) (back_of t) → IsReadyFor t log → AllSucceed (steps.retirement_of log) ts → Each (Avoids (NamesOf x)) (filter is_naming ts)
-back_avoids x t log ts far r w =
-    let all = went_all Never (steps.retirement_of log) ts (back_plain Never log) w in
-    naming_avoids (NamesOf x) Never ts (subst (Each (Avoids (NamesOf x))) (sym (all.are ∙ back_is t log r)) far) all.only (λ y mode never i. never)
+back_avoids : (x t : Target) (log : LogPlan) (ts : List Entry) → HasNames t → (Meet x.log x.naming t.log t.naming → ⊥) → Each (Avoids (NamesOf x)) (back_of t) → IsReadyFor t log → AllSucceed (steps.retirement_of log) ts → Each (Avoids (NamesOf x)) (filter is_naming ts)
+back_avoids x t log ts names apart far r w =
+    let all = went_all (AlsoDoes t) (steps.retirement_of log) ts (back_plain (AlsoDoes t) t log (λ e also. also) r) w in
+    naming_avoids (NamesOf x) (AlsoDoes t) ts (subst (Each (Avoids (NamesOf x))) (sym (all.are ∙ back_is t log r)) far) all.only (made_far x t names apart)
 
 none_in : (t : Target) (xs : List Target) (x : Target) → NoneMeets t xs → IsIn x xs → Meet x.log x.naming t.log t.naming → ⊥
 none_in t [] x n i = absurd i
@@ -116,7 +120,7 @@ backs_can rest o (t ∷ ts) (log ∷ logs) r q dont h k =
     subst (CanMake o) (sym (append_assoc (steps.retirement_of log) (flat_map steps.retirement_of logs) rest))
     (can_on (steps.retirement_of log) (flat_map steps.retirement_of logs ++ rest) (back_can o t log r.0 q.0 (h t (inl refl)).fits)
     (λ m l. backs_can rest m ts logs r.1 q.1 dont.1
-    (λ x i. back_later x (h x (inr i)) l (λ us w. back_avoids x t log us ((h t (inl refl)).far_from x (none_in t ts x dont.0 i)) r.0 w)) k))
+    (λ x i. back_later x (h x (inr i)) l (λ us w. (let apart = none_in t ts x dont.0 i in let own = h t (inl refl) in back_avoids x t log us own.names apart (own.far_from x apart) r.0 w))) k))
 
 -- ---- a definition with shared scripts
 

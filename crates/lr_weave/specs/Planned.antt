@@ -6,7 +6,7 @@ use Rattle.lr_chain.specs.declared.ready.Ready.{Ready}
 use Rattle.lr_plan.specs.Planned.{with_removals}
 use Rattle.lr_plan.specs.declared.plan.LogPlan.{LogPlan}
 use Rattle.lr_plan.specs.declared.plan.SetPlan.{SetPlan}
-use Rattle.lr_laws_targets.specs.Target.{Target, HasJob}
+use Rattle.lr_laws_targets.specs.Target.{Target, HasWay, HasJob}
 
 -- the unlink of a file alone, without the programs before it; and a rotation with such removals
 abbrev pub bare_removal : Removal → Removal
@@ -15,13 +15,15 @@ bare_removal r = record { path = r.path; preremove = None; mail = None }
 abbrev pub bare : Ready → Ready
 bare ready = with_removals (map bare_removal ready.leftovers) (map bare_removal ready.retire) ready
 
--- The rotation of the log is ready, and its copy, where it is copied; and they are what the plan does with it, besides the
--- programs.
+-- The rotation of the log is ready, and its copy, where it is copied, and where it waits that is set aside; and they are what the
+-- plan does with it, besides the programs.
 pub record IsReadyFor (t : Target) (log : LogPlan) : Type 0 where
-  pub log_is : t.ready.log ≡ t.log
+  pub way : HasWay t
   pub job : HasJob t
+  pub log_is : log.log ≡ t.log
   pub ready_is : bare log.ready ≡ t.ready
   pub job_is : log.job ≡ t.job
+  pub aside_is : log.aside ≡ t.aside
 
 abbrev pub AreReadyFor : List Target → List LogPlan → Type 0
 AreReadyFor [] [] = Unit {0}

@@ -2,7 +2,7 @@ use Rattle.std.proofs.Common.{◌≡◌, ◌<◌, ◌++◌, ◌∷◌, [], List,
 use Rattle.std.specs.Vec.Iter.{into_iter_items}
 use Rattle.std.proofs.lemmas.List.{append-nil, nil_from_length}
 use Rattle.lr_looks.specs.declared.found.Found.{Found}
-use Rattle.lr_looks.specs.Found.{HasBounds}
+use Rattle.lr_looks.specs.Found.{HasBounds, HasLogPath}
 use Rattle.lr_looks.proofs.Known.{places_none}
 use Rattle.lr_host.proofs.Counts.{went_none, went_on}
 use Rattle.lr_looks.proofs.Behind.{families_none, families_more, families_part, families_all, next_holds}
@@ -11,6 +11,10 @@ use Rattle.lr_looks.proofs.families.look_at_each.Goals as goal
 pub look_at_family-requires-clause-bounds : goal.look_at_family-requires-clause-bounds
 look_at_family-requires-clause-bounds g c = next_holds HasBounds c.args.found.items c.loop-item.invariant.done _ c.in-Some.item
     (sym c.into_iter-item-iterator.ensures.into_iter_gives.0 ∙ (c.loop-item.invariant.seam ∙ ap (λ (ls : List Found). c.loop-item.invariant.done ++ ls) c.in-Some.ensures.steps.0)) c.requires.bounds
+
+pub look_at_family-requires-clause-path : goal.look_at_family-requires-clause-path
+look_at_family-requires-clause-path g c = next_holds HasLogPath c.args.found.items c.loop-item.invariant.done _ c.in-Some.item
+    (sym c.into_iter-item-iterator.ensures.into_iter_gives.0 ∙ (c.loop-item.invariant.seam ∙ ap (λ (ls : List Found). c.loop-item.invariant.done ++ ls) c.in-Some.ensures.steps.0)) c.requires.paths
 
 pub look_at_family-requires-clause-set : goal.look_at_family-requires-clause-set
 look_at_family-requires-clause-set g c = subst (λ n. c.in-Some.item.set < n) (sym c.loop-item.invariant.many) (next_holds (λ f. f.log.set < length c.args.sets.now.items) c.args.found.items c.loop-item.invariant.done _ c.in-Some.item

@@ -3,8 +3,11 @@ use Rattle.lr_looks.specs.Found.{found_in}
 use Rattle.lr_looks.proofs.Behind.{stood_told, stop_told, some_told, stop_went}
 use Rattle.lr_looks.proofs.families.look_at_family.Goals as goal
 
+pub stand_at-requires-clause-size : goal.stand_at-requires-clause-size
+stand_at-requires-clause-size g c = c.requires.path.size
+
 pub returns-in-Ok-clause-told : goal.returns-in-Ok-clause-told
-returns-in-Ok-clause-told g c = stood_told c.add_look.result c.args.listings.now.taken.items c.stand_at.new.listings.taken.items (found_in c.args.found) c.in-Ok.stand c.args.faults.now.items
+returns-in-Ok-clause-told g c = stood_told c.add_look.result c.args.listings.now.taken.items c.stand_at.new.listings.taken.items (found_in c.args.found) c.in-Ok.standing.stand c.in-Ok.standing.tmp c.args.faults.now.items
     c.args.sets.now.items c.add_look.new.sets.items (c.in-Ok.ensures.told (λ e. absurd (cc e))) c.add_look.ensures.looked
 
 pub returns-in-Err-clause-told : goal.returns-in-Err-clause-told

@@ -1,6 +1,6 @@
 use Rattle.std.proofs.Common.{sym}
 use Rattle.lr_looks.specs.Found.{all_found_in}
-use Rattle.lr_looks.proofs.Holding.{kept_bounds, kept_within}
+use Rattle.lr_looks.proofs.Holding.{kept_bounds, kept_paths, kept_within}
 use Rattle.lr_looks.proofs.Whole.{all_ok, all_many, all_went, all_at_words, all_at_kept, all_at_families}
 use Rattle.lr_looks.proofs.unreserved.look_at_unreserved.Goals as goal
 
@@ -9,6 +9,9 @@ look_at_families-requires-clause-sets g c = kept_within c.args.rules.now.sets c.
 
 pub look_at_families-requires-clause-bounds : goal.look_at_families-requires-clause-bounds
 look_at_families-requires-clause-bounds g c = kept_bounds c.args.rules.now.sets (all_found_in c.in_ok-found.found.items) (all_found_in c.in_ok-kept.kept.items) _ _ c.requires c.in_ok-found.ensures.found c.in_ok-kept.ensures
+
+pub look_at_families-requires-clause-paths : goal.look_at_families-requires-clause-paths
+look_at_families-requires-clause-paths g c = kept_paths (all_found_in c.in_ok-found.found.items) (all_found_in c.in_ok-kept.kept.items) _ _ c.in_ok-found.ensures.paths c.in_ok-kept.ensures
 
 pub returns-clause-told : goal.returns-clause-told
 returns-clause-told g c = all_ok c.look_at_families.result c.args.reserved.now c.args.rules.now.sets (all_found_in c.in_ok-found.found.items) (all_found_in c.in_ok-kept.kept.items) c.args.faults.now.items c.look_at_words.new.faults.items c.keep.new.faults.items c.look_at_families.new.faults.items c.len.result _

@@ -1,6 +1,6 @@
 use Rattle.std.proofs.Common.{List, ℕ, ap, ◌∙◌, bytes_eq, codes}
 use Rattle.lr_rules.specs.Names.{aside_path}
-use Rattle.lr_naming.proofs.Aside.{aside_is}
+use Rattle.lr_naming.proofs.AsideTest.{aside_is}
 use Rattle.lr_naming.proofs.naming.is_aside_path.Goals as goal
 
 pub returns : goal.returns
