@@ -13,8 +13,9 @@ use Rattle.lr_rules.specs.declared.rule.Format.{Format}
 use Rattle.lr_rules.specs.declared.rule.Naming.{Naming}
 use Rattle.lr_rules.specs.declared.rule.Rule.{Rule}
 use Rattle.lr_rules.specs.declared.rules.Rules.{Rules}
-use Rattle.lr_rules.specs.Limits.{is_format, or_none}
-use Rattle.lr_rules.specs.Names.{naming_of, IsOwnName, Meet, the_log}
+use Rattle.lr_rules.specs.Limits.{meets_limits, is_format, or_none}
+use Rattle.lr_rules.specs.Names.{naming_of, aside_path, IsOwnName, Meet, the_log}
+use Rattle.lr_rules.specs.Path.{path_fault}
 use Rattle.lr_rules.specs.Dated.{stamp_key}
 use Rattle.lr_stamps.proofs.Naming.{one_stamp_at}
 use Rattle.lr_host.specs.declared.entry.Entry.{Entry}
@@ -24,7 +25,7 @@ use Rattle.lr_family.specs.declared.place.Place.{Place}
 use Rattle.lr_family.specs.declared.place.Place.TheVariants as at
 use Rattle.lr_family.specs.declared.stand.Member.{Member}
 use Rattle.lr_family.specs.declared.stand.Stand.{Stand}
-use Rattle.lr_family.specs.Parts.{part_of, by_bytes, IsMember, IsMembersPart, PartSight, part_if_file, part_seen, part_in}
+use Rattle.lr_family.specs.Parts.{by_bytes, IsMember, IsMembersPart, PartSight, part_if_file, part_seen, part_in}
 use Rattle.lr_family.specs.Places.{IsPlaceOf, AreNamed}
 use Rattle.lr_family.specs.Stands.{key_in, by_newness, AreNewestFirst}
 use Rattle.lr_family.proofs.Names.{placed_member}
@@ -39,21 +40,28 @@ use Rattle.lr_plan.specs.declared.looks.Looks.{Looks}
 use Rattle.lr_plan.specs.declared.looks.SetLooks.{SetLooks}
 use Rattle.lr_looks.specs.declared.standing.Standing.{Standing}
 use Rattle.lr_looks.specs.Families.{LookedLog, looked_at}
+use Rattle.lr_looks.specs.Choices.{kept_of}
 use Rattle.lr_looks.specs.Found.{FoundLog, paths_of}
 use Rattle.lr_looks.specs.Sets.{where_in, of_set, looked_in, HaveLooksFrom}
 use Rattle.lr_looks.specs.Shown.{ShowsLooks}
+use Rattle.lr_laws.proofs.AsideName.{no_numbered, no_dated}
 use Rattle.lr_laws_family.specs.Members.{IsFamily}
 use Rattle.lr_laws_family.specs.Shown.{Shown}
 use Rattle.lr_laws_family.proofs.Picking.{named_all}
 use Rattle.lr_laws_targets.proofs.Own.{named_own}
-use Rattle.lr_laws_targets.proofs.PartFile.{part_no_member, part_no_log}
+use Rattle.lr_laws_targets.specs.Own.{IsBesideLog}
+use Rattle.lr_laws_targets.proofs.PartFile.{part_no_member, part_no_log, part_no_waiting}
+use Rattle.lr_laws_targets.proofs.Waiting.{beside_other}
+use Rattle.lr_plan.specs.Planned.{is_file}
 use Rattle.lr_seen.proofs.Apart.{OffFound, OffLooked, kept_off, looked_pairs}
-use Rattle.lr_seen.proofs.Coming.{came_from, in_looked, in_set, in_where}
-use Rattle.lr_seen.proofs.Elements.{in_flat, in_each, Pairs, pairs_flat, pairs_two}
+use Rattle.lr_seen.proofs.Aside.{SawAside, all_aside}
+use Rattle.lr_seen.proofs.Coming.{IsFrom, came_from, in_kept, in_looked, in_set, in_where}
+use Rattle.lr_seen.proofs.Elements.{in_list, in_flat, in_each, Pairs, pairs_flat, pairs_two}
 use Rattle.lr_seen.proofs.Listed.{WasShown, WasTold, all_shown, all_told}
-use Rattle.lr_seen.proofs.Seen.{looked_family}
+use Rattle.lr_seen.proofs.Gives.{all_in}
+use Rattle.lr_seen.proofs.Seen.{log_path, looked_family}
 use Rattle.lr_audited.specs.declared.line.Line.{Line}
-use Rattle.lr_audited.specs.Lines.{log_line, part_line, member_lines, family_lines, set_lines, sets_lines, known_paths}
+use Rattle.lr_audited.specs.Lines.{log_line, part_line, member_lines, waiting_lines, part_lines, family_lines, set_lines, sets_lines, known_paths}
 use Rattle.lr_audited.proofs.Tracing.{not_in_from, apart_in}
 
 -- ---- lists
@@ -138,18 +146,25 @@ parts_once (s ∷ ss) d = distinct_both (part_in s) (flat_map part_in ss) (seen_
 
 -- ---- the files of one family
 
--- members and part files
-abbrev files_of : Stand → List Path
-files_of stand = member_paths stand.members ++ stand.parts
+-- the file that waits for its copy
+abbrev waiting : Path → Option Seen → List Path
+waiting log tmp = cond (is_file tmp) (aside_path log ∷ []) []
 
-abbrev IsOfFamily : Naming → Path → Type 0
-IsOfFamily n x = IsMember n x ⊎ IsMembersPart n x
+-- members, part files and that
+abbrev files_of : Path → Stand → Option Seen → List Path
+files_of log stand tmp = member_paths stand.members ++ (stand.parts ++ waiting log tmp)
 
--- What stands of a family are its members and their part files, each once, and none has the log's path.
-record AreFiles (log : Path) (n : Naming) (stand : Stand) : Type 0 where
-  own : (x : Path) → IsIn x (files_of stand) → IsOfFamily n x
-  once : AreDistinct (files_of stand)
-  no_log : (x : Path) → IsIn x (files_of stand) → x ≢ log
+abbrev IsLeft : Path → Naming → Path → Type 0
+IsLeft log n x = IsMembersPart n x ⊎ IsBesideLog log n x
+
+abbrev IsItsFile : Path → Naming → Path → Type 0
+IsItsFile log n x = IsMember n x ⊎ IsLeft log n x
+
+-- What stands of a family are its members, their part files and the file that waits, each once, and none has the log's path.
+record AreFiles (log : Path) (n : Naming) (stand : Stand) (tmp : Option Seen) : Type 0 where
+  own : (x : Path) → IsIn x (files_of log stand tmp) → IsItsFile log n x
+  once : AreDistinct (files_of log stand tmp)
+  no_log : (x : Path) → IsIn x (files_of log stand tmp) → x ≢ log
 
 module _ {reserved : List Path} (rules : Rules) (sets : List SetLooks) (faults : List Fault) (ts : List Entry) (s : ShowsLooks reserved rules.sets sets faults ts) where
   in_all : (e : Entry) → IsIn e s.entries.back → IsIn e ts
@@ -165,18 +180,67 @@ module _ {reserved : List Path} (rules : Rules) (sets : List SetLooks) (faults :
     shown : WasShown l.naming l.stand ts
     shown = all_shown ts s.kept s.entries.second.listings s.entries.second.families.sights s.entries.back in_all s.entries.second.families.shown l (subst (IsIn l) s.entries.second.families.looked_are i)
 
+    abbrev comes : (o : IsFrom rules.sets s.entries.front s.found l) × IsIn o.found (kept_of s.found s.keeps.choices)
+    comes = came_from rules.sets sets faults ts s l i
+
+    abbrev o : IsFrom rules.sets s.entries.front s.found l
+    o = comes.0
+
+    abbrev its_rule : Rule
+    its_rule = o.by_word.word.rule
+
     -- the rule's naming of the log is this
-    of_rule : (r : Rule) × (naming_of r l.path ≡ l.naming)
-    of_rule =
-        let c = came_from rules.sets sets faults ts s l i in
-        let o = c.0 in (
-          o.by_word.word.rule,
-          ap (naming_of o.by_word.word.rule) (sym o.path_is)
-              ∙ (ap (λ (g : FoundLog). naming_of o.by_word.word.rule g.log.path) o.by_word.is ∙ (sym (ap (λ (g : FoundLog). g.log.naming) o.by_word.is) ∙ o.naming_is)),
-        )
+    naming_is : naming_of its_rule l.path ≡ l.naming
+    naming_is = ap (naming_of its_rule) (sym o.path_is)
+        ∙ (ap (λ (g : FoundLog). naming_of its_rule g.log.path) o.by_word.is ∙ (sym (ap (λ (g : FoundLog). g.log.naming) o.by_word.is) ∙ o.naming_is))
+
+    good : meets_limits its_rule ≡ true
+    good = all_in meets_limits rules.sets its_rule rules.limits (in_list rules.sets l.set its_rule o.at)
+
+    short : path_fault l.path ≡ None
+    short = subst (λ (p : Path). path_fault p ≡ None) o.path_is (log_path s.found o.found s.paths (in_kept s.found s.keeps.choices o.found comes.1)).path
+
+    aside_seen : SawAside l.naming.aside l.path l.tmp ts
+    aside_seen = all_aside ts [] s.kept s.entries.second.listings s.entries.second.families.sights s.entries.back in_all s.entries.second.families.shown l (subst (IsIn l) s.entries.second.families.looked_are i)
+
+    -- a file that waits is of a log that is set aside
+    is_asked : is_file l.tmp ≡ true → l.naming.aside ≡ true
+    is_asked up = go l.naming.aside aside_seen
+      where
+        go : (b : Bool) → SawAside b l.path l.tmp ts → b ≡ true
+        go true saw = refl
+        go false none = absurd (let file : is_file None ≡ true = subst (λ (seen : Option Seen). is_file seen ≡ true) none up in cc)
+
+    of_waiting : (x : Path) → IsIn x (waiting l.path l.tmp) → IsBesideLog l.path l.naming x
+    of_waiting x j = go (is_file l.tmp) refl j
+      where
+        go : (b : Bool) → is_file l.tmp ≡ b → IsIn x (cond b (aside_path l.path ∷ []) []) → IsBesideLog l.path l.naming x
+        go true up (inl e) = (is_asked up, sym e)
+        go true up (inr none) = absurd none
+        go false up none = absurd none
+
+    waits_once : AreDistinct (waiting l.path l.tmp)
+    waits_once = go (is_file l.tmp)
+      where
+        go : (b : Bool) → AreDistinct (cond b (aside_path l.path ∷ []) [])
+        go true = (tt, tt)
+        go false = tt
+
+    beside_member : (x y : Path) → IsMember l.naming x → IsBesideLog l.path l.naming y → x ≢ y
+    beside_member x y m b same = go (subst (λ (n : Naming). IsMember n (aside_path l.path)) (sym naming_is) (subst (IsMember l.naming) (same ∙ b.1) m))
+      where
+        go : IsMember (naming_of its_rule l.path) (aside_path l.path) → ⊥
+        go (inl (none, (place, at))) = no_numbered its_rule l.path place short good at
+        go (inr (seconds, serial, at)) = no_dated its_rule l.path seconds serial short good at
+
+    beside_part : (x y : Path) → IsMembersPart l.naming x → IsBesideLog l.path l.naming y → x ≢ y
+    beside_part x y p b same = part_no_waiting p.0 l.path (sym p.2 ∙ (same ∙ b.1))
+
+    beside_apart : (x : Path) → IsBesideLog l.path l.naming x → x ≢ l.path
+    beside_apart x b same = beside_other l.path (sym same ∙ b.1)
 
     part_apart : (x : Path) → IsMembersPart l.naming x → x ≢ l.path
-    part_apart x p same = part_no_log l.path l.naming family p.0 p.1 of_rule.0 of_rule.1 (sym p.2 ∙ same)
+    part_apart x p same = part_no_log l.path l.naming family p.0 p.1 its_rule naming_is (sym p.2 ∙ same)
 
     member_apart : (x : Path) → IsMember l.naming x → x ≢ l.path
     member_apart x m same = family.apart (subst (IsMember l.naming) same m)
@@ -184,35 +248,44 @@ module _ {reserved : List Path} (rules : Rules) (sets : List SetLooks) (faults :
     part_member : (x y : Path) → IsMember l.naming x → IsMembersPart l.naming y → x ≢ y
     part_member x y m p same = part_no_member l.path l.naming family p.0 p.1 (subst (IsMember l.naming) (same ∙ p.2) m)
 
-    off_log : (x : Path) → IsOfFamily l.naming x → x ≢ l.path
+    off_log : (x : Path) → IsItsFile l.path l.naming x → x ≢ l.path
     off_log x (inl m) = member_apart x m
-    off_log x (inr p) = part_apart x p
+    off_log x (inr (inl p)) = part_apart x p
+    off_log x (inr (inr b)) = beside_apart x b
 
-    files_by : (ms : List Member) (parts : List Path) → l.stand.members ≡ ms → l.stand.parts ≡ parts → AreNamed l.naming ms → AreNewestFirst ms → ((x : Path) → IsIn x parts → IsMembersPart l.naming x) → AreDistinct parts → AreFiles l.path l.naming l.stand
+    member_left : (x y : Path) → IsMember l.naming x → IsLeft l.path l.naming y → x ≢ y
+    member_left x y m (inl p) = part_member x y m p
+    member_left x y m (inr b) = beside_member x y m b
+
+    files_by : (ms : List Member) (parts : List Path) → l.stand.members ≡ ms → l.stand.parts ≡ parts → AreNamed l.naming ms → AreNewestFirst ms → ((x : Path) → IsIn x parts → IsMembersPart l.naming x) → AreDistinct parts → AreFiles l.path l.naming l.stand l.tmp
     files_by ms parts are these named newest of_parts once = record {
       own = λ x j. own x (now x j);
-      once = subst (λ (ys : List Path). AreDistinct (member_paths l.stand.members ++ ys)) (sym these) (subst (λ (ys : List Member). AreDistinct (member_paths ys ++ parts)) (sym are)
-          (distinct_both (member_paths ms) parts (members_differ l.naming ms family.format named newest) once (λ x y j k. part_member x y (of_members x j) (of_parts y k))));
+      once = subst (λ (ys : List Path). AreDistinct (member_paths l.stand.members ++ (ys ++ waiting l.path l.tmp))) (sym these) (subst (λ (ys : List Member). AreDistinct (member_paths ys ++ (parts ++ waiting l.path l.tmp))) (sym are)
+          (distinct_both (member_paths ms) (parts ++ waiting l.path l.tmp) (members_differ l.naming ms family.format named newest)
+          (distinct_both parts (waiting l.path l.tmp) once waits_once (λ x y j k. beside_part x y (of_parts x j) (of_waiting y k))) (λ x y j k. member_left x y (of_members x j) (of_left y k))));
       no_log = λ x j. off_log x (own x (now x j));
     }
       where
-        now : (x : Path) → IsIn x (files_of l.stand) → IsIn x (member_paths ms ++ parts)
-        now x j = subst (λ (ys : List Path). IsIn x (member_paths ms ++ ys)) these (subst (λ (ys : List Member). IsIn x (member_paths ys ++ l.stand.parts)) are j)
+        now : (x : Path) → IsIn x (files_of l.path l.stand l.tmp) → IsIn x (member_paths ms ++ (parts ++ waiting l.path l.tmp))
+        now x j = subst (λ (ys : List Path). IsIn x (member_paths ms ++ (ys ++ waiting l.path l.tmp))) these (subst (λ (ys : List Member). IsIn x (member_paths ys ++ (l.stand.parts ++ waiting l.path l.tmp))) are j)
 
         of_members : (x : Path) → IsIn x (member_paths ms) → IsMember l.naming x
         of_members x j = let m = in_unmap (λ (y : Member). y.path) x ms j in subst (IsMember l.naming) m.2 (placed_member l.naming m.0.place m.0.path (named_all l.naming ms m.0 named m.1))
 
-        own : (x : Path) → IsIn x (member_paths ms ++ parts) → IsOfFamily l.naming x
-        own x j = ⊎_elim (λ a. inl (of_members x a)) (λ b. inr (of_parts x b)) (in_append x (member_paths ms) parts j)
+        of_left : (x : Path) → IsIn x (parts ++ waiting l.path l.tmp) → IsLeft l.path l.naming x
+        of_left x j = ⊎_elim (λ a. inl (of_parts x a)) (λ b. inr (of_waiting x b)) (in_append x parts (waiting l.path l.tmp) j)
+
+        own : (x : Path) → IsIn x (member_paths ms ++ (parts ++ waiting l.path l.tmp)) → IsItsFile l.path l.naming x
+        own x j = ⊎_elim (λ a. inl (of_members x a)) (λ b. inr (of_left x b)) (in_append x (member_paths ms) (parts ++ waiting l.path l.tmp) j)
 
     none_newest : AreNewestFirst []
     unfolding IsStrictlySortedBy
     none_newest = tt
 
-    files_are : AreFiles l.path l.naming l.stand
+    files_are : AreFiles l.path l.naming l.stand l.tmp
     files_are = by l.stand.there refl
       where
-        by : (b : Bool) → l.stand.there ≡ b → AreFiles l.path l.naming l.stand
+        by : (b : Bool) → l.stand.there ≡ b → AreFiles l.path l.naming l.stand l.tmp
         by true there =
             let t = (told.0 there).parts in
             let m : Shown l.naming l.stand.members ts = (shown.0 there).1 in
@@ -224,10 +297,10 @@ module _ {reserved : List Path} (rules : Rules) (sets : List SetLooks) (faults :
   -- ---- all families
 
   abbrev files_in : LookedLog → List Path
-  files_in l = files_of l.stand
+  files_in l = files_of l.path l.stand l.tmp
 
   own_name : (l : LookedLog) (x : Path) → IsIn l s.looked → IsIn x (files_in l) → IsOwnName l.path l.naming x
-  own_name l x i j = ⊎_elim (λ m. named_own l.path l.naming x (inr (inl m))) (λ p. named_own l.path l.naming x (inr (inr (inl p)))) ((files_are l i).own x j)
+  own_name l x i j = named_own l.path l.naming x (inr ((files_are l i).own x j))
 
   -- files of families that are apart differ
   off_files : (l m : LookedLog) (x y : Path) → IsIn l s.looked → IsIn m s.looked → OffLooked l m → IsIn x (files_in l) → IsIn y (files_in m) → x ≢ y
@@ -281,15 +354,26 @@ module _ {reserved : List Path} (rules : Rules) (sets : List SetLooks) (faults :
   parts_are log [] = refl
   parts_are log (x ∷ xs) = ap (λ (ys : List Path). x ∷ ys) (parts_are log xs)
 
-  family_is : (rule : Rule) (look : LogLook) → paths_in_lines (family_lines rule look) ≡ files_of look.stand
-  family_is rule look = map-append (λ (line : Line). line.path) (member_lines look.family.naming.dated rule.count look.path 0 look.stand.members) (map (part_line look.path) look.stand.parts)
-      ∙ (ap (λ (xs : List Path). xs ++ paths_in_lines (map (part_line look.path) look.stand.parts)) (members_are look.family.naming.dated rule.count look.path 0 look.stand.members)
-      ∙ ap (λ (xs : List Path). member_paths look.stand.members ++ xs) (parts_are look.path look.stand.parts))
+  waiting_are : (log : Path) (tmp : Option Seen) → paths_in_lines (waiting_lines log tmp) ≡ waiting log tmp
+  waiting_are log tmp = go (is_file tmp)
+    where
+      go : (b : Bool) → paths_in_lines (cond b (part_line log (aside_path log) ∷ []) []) ≡ cond b (aside_path log ∷ []) []
+      go true = refl
+      go false = refl
+
+  left_are : (look : LogLook) → paths_in_lines (part_lines look) ≡ look.stand.parts ++ waiting look.path look.tmp
+  left_are look = map-append (λ (line : Line). line.path) (map (part_line look.path) look.stand.parts) (waiting_lines look.path look.tmp)
+      ∙ (ap (λ (xs : List Path). xs ++ paths_in_lines (waiting_lines look.path look.tmp)) (parts_are look.path look.stand.parts) ∙ ap (λ (xs : List Path). look.stand.parts ++ xs) (waiting_are look.path look.tmp))
+
+  family_is : (rule : Rule) (look : LogLook) → paths_in_lines (family_lines rule look) ≡ files_of look.path look.stand look.tmp
+  family_is rule look = map-append (λ (line : Line). line.path) (member_lines look.family.naming.dated rule.count look.path 0 look.stand.members) (part_lines look)
+      ∙ (ap (λ (xs : List Path). xs ++ paths_in_lines (part_lines look)) (members_are look.family.naming.dated rule.count look.path 0 look.stand.members)
+      ∙ ap (λ (xs : List Path). member_paths look.stand.members ++ xs) (left_are look))
 
   set_are : (k : ℕ) (rule : Rule) (looks : List LogLook) → paths_in_lines (set_lines rule looks) ≡ flat_map files_in (map (looked_in k) looks)
   set_are k rule [] = refl
   set_are k rule (look ∷ looks) = map-append (λ (line : Line). line.path) (family_lines rule look) (set_lines rule looks)
-      ∙ (ap (λ (xs : List Path). xs ++ paths_in_lines (set_lines rule looks)) (family_is rule look) ∙ ap (λ (xs : List Path). files_of look.stand ++ xs) (set_are k rule looks))
+      ∙ (ap (λ (xs : List Path). xs ++ paths_in_lines (set_lines rule looks)) (family_is rule look) ∙ ap (λ (xs : List Path). files_of look.path look.stand look.tmp ++ xs) (set_are k rule looks))
 
   of_sets : (k : ℕ) (rs : List Rule) (ss : List SetLooks) → HaveLooksFrom k s.looked ss → (x : Path) → IsIn x (paths_in_lines (sets_lines rs ss)) → IsFileFrom k x
   of_sets k [] [] h x i = absurd i

@@ -45,7 +45,7 @@ use Rattle.lr_laws_rotations.proofs.Stamped.{next_free}
 use Rattle.lr_laws_targets.specs.Rotation.{paths_in}
 use Rattle.lr_audited.specs.declared.line.Why.{Why}
 use Rattle.lr_audited.specs.declared.line.Why.TheVariants as why
-use Rattle.lr_audited.specs.Removed.{going, member_going, log_going, moved_going, dated_going, going_with}
+use Rattle.lr_audited.specs.Removed.{member_going, log_going, moved_going, dated_going, going_with}
 use Rattle.lr_audited.specs.Unlinked.{Origins, renamed, going_paths}
 use Rattle.lr_audited.proofs.Tracing.{apart_in, distinct_reverse, renamed_to, renamed_other, run, dropped, dropped_other, firsts, seconds}
 

@@ -1,5 +1,6 @@
 -- The lines of members and of definitions, one more each.
-use Rattle.std.proofs.Common.{◌≡◌, ◌<◌, ◌+◌, ℕ, zero, suc, List, [], ◌∷◌, ◌++◌, length, take, get_or, Option, refl, sym, ap, ◌∙◌, arith, append_assoc, length-take}
+use Rattle.std.proofs.Common.{◌≡◌, ◌<◌, ◌+◌, ℕ, zero, suc, List, [], ◌∷◌, ◌++◌, length, take, get_or, Option, refl, sym, ap, ◌∙◌, arith, append_assoc, length-take, subst}
+use Rattle.std.specs.Prelude.{All}
 use Rattle.std.proofs.lemmas.List.{append-nil, take_more}
 use Rattle.lr_rules.specs.declared.path.Path.{Path}
 use Rattle.lr_rules.specs.declared.rule.Count.{Count}
@@ -7,7 +8,7 @@ use Rattle.lr_rules.specs.declared.rule.Format.{Format}
 use Rattle.lr_rules.specs.declared.rule.Rule.{Rule}
 use Rattle.lr_family.specs.declared.stand.Member.{Member}
 use Rattle.lr_plan.specs.declared.looks.SetLooks.{SetLooks}
-use Rattle.lr_plan.specs.Planned.{CanPlanAll}
+use Rattle.lr_plan.specs.Planned.{CanPlan, CanPlanAll}
 use Rattle.lr_audited.specs.declared.line.Line.{Line}
 use Rattle.lr_audited.specs.Lines.{line_of, what_of, member_lines, set_lines, sets_lines}
 
@@ -39,6 +40,12 @@ as_many [] [] can = refl
 as_many [] (s ∷ sets) can = absurd can
 as_many (r ∷ rules) [] can = absurd can
 as_many (r ∷ rules) (s ∷ sets) can = ap suc (as_many rules sets can.1)
+
+pub can_at : (rules : List Rule) (sets : List SetLooks) (at : ℕ) (set : SetLooks) → CanPlanAll rules sets → at < length rules → set ≡ get_or sets at set → All CanPlan set.logs
+can_at [] sets at set can lt e = absurd (omega (arith, lt))
+can_at (r ∷ rules) [] at set can lt e = absurd can
+can_at (r ∷ rules) (s ∷ sets) zero set can lt e = subst (λ (x : SetLooks). All CanPlan x.logs) (sym e) can.0.each
+can_at (r ∷ rules) (s ∷ sets) (suc at) set can lt e = can_at rules sets at set can.1 (omega (arith, lt)) e
 
 sets_step : (rules : List Rule) (sets : List SetLooks) (at : ℕ) (rule : Rule) (set : SetLooks) → at < length rules → length sets ≡ length rules → rule ≡ get_or rules at rule → set ≡ get_or sets at set
     → sets_lines (take (suc at) rules) (take (suc at) sets) ≡ sets_lines (take at rules) (take at sets) ++ set_lines rule set.logs

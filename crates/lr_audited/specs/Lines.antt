@@ -5,12 +5,15 @@ use Rattle.lr_rules.specs.declared.path.Path.{Path}
 use Rattle.lr_rules.specs.declared.rule.Count.{Count}
 use Rattle.lr_rules.specs.declared.rule.Format.{Format}
 use Rattle.lr_rules.specs.declared.rule.Rule.{Rule}
+use Rattle.lr_rules.specs.Names.{aside_path}
+use Rattle.lr_host.specs.declared.thing.Seen.{Seen}
 use Rattle.lr_family.specs.declared.stand.Member.{Member}
 use Rattle.lr_family.specs.Stands.{number_in}
 use Rattle.lr_chain.specs.Rotation.{is_left}
 use Rattle.lr_plan.specs.declared.looks.LogLook.{LogLook}
 use Rattle.lr_plan.specs.declared.looks.Looks.{Looks}
 use Rattle.lr_plan.specs.declared.looks.SetLooks.{SetLooks}
+use Rattle.lr_plan.specs.Planned.{is_file}
 use Rattle.lr_audited.specs.declared.line.Line.{Line}
 use Rattle.lr_audited.specs.declared.line.What.{What}
 use Rattle.lr_audited.specs.declared.line.What.TheVariants as what
@@ -40,10 +43,17 @@ abbrev pub member_lines : Option Format → Count → Path → ℕ → List Memb
 member_lines dated c log later [] = []
 member_lines dated c log later (m ∷ ms) = line_of m.path (what_of dated c later m) log ∷ member_lines dated c log (suc later) ms
 
--- the members and the part files of a log that was looked at whole
+-- the log's file where it waits for its copy: a run that broke off had set it aside
+abbrev pub waiting_lines : Path → Option Seen → List Line
+waiting_lines log tmp = if is_file tmp then part_line log (aside_path log) ∷ [] else []
+
+-- the part files of a log, and its file that waits
+abbrev pub part_lines : LogLook → List Line
+part_lines look = map (part_line look.path) look.stand.parts ++ waiting_lines look.path look.tmp
+
+-- the members of a log that was looked at whole, and those
 abbrev pub family_lines : Rule → LogLook → List Line
-family_lines rule look = member_lines look.family.naming.dated rule.count look.path 0 look.stand.members ++ map
-    (part_line look.path) look.stand.parts
+family_lines rule look = member_lines look.family.naming.dated rule.count look.path 0 look.stand.members ++ part_lines look
 
 abbrev pub set_lines : Rule → List LogLook → List Line
 set_lines rule looks = flat_map (family_lines rule) looks
@@ -52,7 +62,7 @@ abbrev pub sets_lines : List Rule → List SetLooks → List Line
 sets_lines (rule ∷ rules) (set ∷ sets) = set_lines rule set.logs ++ sets_lines rules sets
 sets_lines _ _ = []
 
--- what is known: the logs that are kept, and the members and part files of those that were looked at whole
+-- what is known: the logs that are kept; and of those that were looked at whole the members, the part files and what waits
 abbrev pub known_lines : List Rule → Looks → List Line
 known_lines rules looks = map log_line looks.kept ++ sets_lines rules looks.sets
 

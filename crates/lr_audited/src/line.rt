@@ -10,7 +10,7 @@ pub enum What {
     Member(u64),
     /// A numbered member at a place for which the count leaves no room.
     Leftover(u64),
-    /// A copy that isn't whole.
+    /// A copy that isn't whole, or a log's file that waits for its copy.
     Part,
     /// Nothing of these.
     Stranger,

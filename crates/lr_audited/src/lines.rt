@@ -1,13 +1,15 @@
 // What each file beside logs is.
-ghost use Rattle.std.specs.Prelude.{◌≡◌, ◌++◌, ◌∷◌, [], map, IfOk, OnOk};
+ghost use Rattle.std.specs.Prelude.{◌≡◌, ◌≤◌, ◌++◌, ◌∷◌, [], map, length, All, IfOk, OnOk};
 ghost use Rattle.lr_family.specs.Stands.{number_in};
 ghost use Rattle.lr_chain.specs.Rotation.{is_left};
-ghost use Rattle.lr_plan.specs.Planned.{CanPlanAll};
-ghost use Rattle.lr_audited.specs.Lines.{line_of, log_line, part_line, numbered_what, what_of, member_lines, family_lines, set_lines};
-ghost use Rattle.lr_audited.specs.Lines.{sets_lines, known_lines};
+ghost use Rattle.lr_plan.specs.Planned.{is_file, CanPlan, CanPlanAll};
+ghost use Rattle.lr_audited.specs.Lines.{line_of, log_line, part_line, numbered_what, what_of, member_lines, waiting_lines};
+ghost use Rattle.lr_audited.specs.Lines.{part_lines, family_lines, set_lines, sets_lines, known_lines};
 
 use crate::line::{Line, What};
 use lr_family::{Member, Place};
+use lr_host::{Kind, Seen};
+use lr_naming::aside_path;
 use lr_plan::{LogLook, Looks, SetLooks};
 use lr_rules::{Count, Memory, Naming, Path, Rule, Rules};
 use std::alloc::Global;
@@ -103,19 +105,50 @@ fn add_parts(alloc: Global, lines: &mut Vec<Line>, log: &Path, parts: &[Path]) -
     Ok(())
 }
 
-// Adds the lines of a log's members and part files.
+fn is_file(seen: &Option<Seen>) -> bool
+    ensures { result ≡ is_file seen.now }
+{
+    match seen {
+        Some(seen) => matches!(seen.kind, Kind::File),
+        None => false,
+    }
+}
+
+// Adds the line of a log's file that waits for its copy.
+fn add_waiting(alloc: Global, lines: &mut Vec<Line>, look: &LogLook) -> Result<(), Memory>
+    requires { length look.now.path ≤ 2048 }
+    ensures { OnOk result (lines.new.items ≡ lines.old.items ++ waiting_lines look.now.path look.now.tmp) }
+{
+    if !is_file(&look.tmp) {
+        return Ok(());
+    }
+    let path = aside_path(alloc, &look.path)?;
+    add_line(alloc, lines, &path, What::Part, &look.path)
+}
+
+// Adds the lines of a log's part files, and of its file that waits.
+fn add_part_lines(alloc: Global, lines: &mut Vec<Line>, look: &LogLook) -> Result<(), Memory>
+    requires { length look.now.path ≤ 2048 }
+    ensures { OnOk result (lines.new.items ≡ lines.old.items ++ part_lines look.now) }
+{
+    add_parts(alloc, lines, &look.path, look.stand.parts.as_slice())?;
+    add_waiting(alloc, lines, look)
+}
+
+// Adds the lines of a log's members, its part files and its file that waits.
 fn add_family(
     alloc: Global,
     lines: &mut Vec<Line>,
     rule: &Rule,
     look: &LogLook,
 ) -> Result<(), Memory>
+    requires { CanPlan look.now }
     ensures { OnOk result (lines.new.items ≡ lines.old.items ++ family_lines rule.now look.now) }
 {
     let naming = look.family.naming();
     let members = look.stand.members.as_slice();
     add_members(alloc, lines, naming, rule.count, &look.path, members)?;
-    add_parts(alloc, lines, &look.path, look.stand.parts.as_slice())
+    add_part_lines(alloc, lines, look)
 }
 
 // Adds those of a definition's logs.
@@ -125,6 +158,7 @@ fn add_set(
     rule: &Rule,
     looks: &[LogLook],
 ) -> Result<(), Memory>
+    requires { All CanPlan looks.now }
     ensures { OnOk result (lines.new.items ≡ lines.old.items ++ set_lines rule.now looks.now) }
 {
     for look in looks {
@@ -159,8 +193,8 @@ fn add_logs(alloc: Global, lines: &mut Vec<Line>, logs: &[Path]) -> Result<(), M
     Ok(())
 }
 
-/// The lines of all that the looks give: the logs that are kept, and of those that were looked at whole the members and part
-/// files.
+/// The lines of all that the looks give: the logs that are kept, and of those that were looked at whole the members, part files,
+/// and what waits for its copy.
 pub fn lines_of(alloc: Global, rules: &Rules, looks: &Looks) -> Result<Vec<Line>, Memory>
     requires { CanPlanAll rules.now.sets looks.now.sets }
     ensures { IfOk result (λ lines. lines.items ≡ known_lines rules.now.sets looks.now) }

@@ -1,14 +1,20 @@
+use Rattle.std.specs.Prelude.{All}
 use Rattle.std.proofs.Common.{◌≡◌, ◌≤◌, ◌++◌, List, length, take, sym, ap, ◌∙◌, subst, rules, arith}
 use Rattle.std.proofs.lemmas.List.{take_all}
 use Rattle.lr_rules.specs.declared.rule.Rule.{Rule}
 use Rattle.lr_plan.specs.declared.looks.LogLook.{LogLook}
 use Rattle.lr_plan.specs.declared.looks.SetLooks.{SetLooks}
+use Rattle.lr_plan.specs.Planned.{CanPlan}
 use Rattle.lr_audited.specs.Lines.{set_lines, sets_lines}
-use Rattle.lr_audited.proofs.Telling.{as_many, sets_more}
+use Rattle.lr_audited.proofs.Telling.{as_many, can_at, sets_more}
 use Rattle.lr_audited.proofs.lines.add_sets.Goals as goal
 
 pub bounds-sets-at : goal.bounds-sets-at
 bounds-sets-at c = omega (arith, c.loop-at-test.true, as_many c.args.rules.now c.args.sets.now c.requires)
+
+pub add_set-requires : goal.add_set-requires
+add_set-requires c = subst (All CanPlan) (sym (c.as_slice.ensures ∙ ap (λ (s : SetLooks). s.logs) (sym c.index-sets-at.is)))
+    (can_at c.args.rules.now c.args.sets.now c.loop-at.at c.index-sets-at.result c.requires c.loop-at-test.true c.index-sets-at.is)
 
 pub loop-at-preserved : goal.loop-at-preserved
 loop-at-preserved c = record {
