@@ -33,7 +33,6 @@ use Rattle.lr_forms.specs.declared.set.Set.{Set}
 use Rattle.lr_forms.specs.declared.set.Set.TheVariants as set
 use Rattle.lr_forms.specs.declared.said.Said.{Said}
 use Rattle.lr_forms.specs.declared.said.Said.TheVariants as says
-use Rattle.lr_forms.specs.Unbuilt.{is_unbuilt}
 use Rattle.lr_forms.specs.Forms.{form_of}
 use Rattle.lr_forms.specs.Values.{setting, value_of, sets_or_bad, one_says, day_of, day_says, mode_of, making, made, make_says, included, include_says, barred}
 use Rattle.lr_forms.specs.Says.{directive_of, checks, first_fault, means, or_bad, by_directive, texts, words_say, log_names, name_faults, named, names_say, nested, phase_named, script_in, said}
@@ -144,6 +143,8 @@ form_fine is.Copy = refl
 form_fine is.Copytruncate = refl
 form_fine is.Nocopy = refl
 form_fine is.Nocopytruncate = refl
+form_fine is.Renamecopy = refl
+form_fine is.Norenamecopy = refl
 form_fine is.Nocreate = refl
 form_fine is.Nomail = refl
 form_fine is.Mailfirst = refl
@@ -174,7 +175,7 @@ or_bad_fine (Some k) s h = refl
 directive_fine : (inside brace stray : Bool) (word : List ℕ) (vs : List (List ℕ)) (o : Option Directive) → Fine (by_directive inside brace stray word vs o)
 directive_fine inside brace stray word vs None = refl
 directive_fine inside brace stray word vs (Some d) =
-    or_bad_fine (first_fault (checks inside brace stray (is_unbuilt d) (form_of d) vs)) (means (form_of d) word vs) (means_fine (form_of d) word vs (form_fine d))
+    or_bad_fine (first_fault (checks inside brace stray (form_of d) vs)) (means (form_of d) word vs) (means_fine (form_of d) word vs (form_fine d))
 
 either : (b : Bool) (s t : Said) → Fine s → Fine t → Fine (cond b s t)
 either true s t h k = h

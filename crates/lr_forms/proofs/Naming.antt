@@ -22,7 +22,6 @@ use Rattle.lr_forms.specs.declared.set.Set.{Set}
 use Rattle.lr_forms.specs.declared.set.Set.TheVariants as set
 use Rattle.lr_forms.specs.declared.said.Said.{Said}
 use Rattle.lr_forms.specs.declared.said.Said.TheVariants as says
-use Rattle.lr_forms.specs.Unbuilt.{is_unbuilt}
 use Rattle.lr_forms.specs.Forms.{form_of}
 use Rattle.lr_forms.specs.Values.{setting, value_of, sets_or_bad, day_of, mode_of, making, made, included, barred}
 use Rattle.lr_forms.specs.Says.{directive_of, checks, first_fault, means, or_bad, by_directive, texts, words_say, log_names, name_faults, named, names_say, nested, phase_named, script_in, said}
@@ -69,7 +68,7 @@ or_bad_some (Some k) s h = tt
 directive_some : (inside brace stray : Bool) (word : List ℕ) (vs : List (List ℕ)) (o : Option Directive) → NamesSome (by_directive inside brace stray word vs o)
 directive_some inside brace stray word vs None = tt
 directive_some inside brace stray word vs (Some d) =
-    or_bad_some (first_fault (checks inside brace stray (is_unbuilt d) (form_of d) vs)) (means (form_of d) word vs) (means_some (form_of d) word vs)
+    or_bad_some (first_fault (checks inside brace stray (form_of d) vs)) (means (form_of d) word vs) (means_some (form_of d) word vs)
 
 words_some : (inside brace stray : Bool) (ws : List Word) → NamesSome (words_say inside brace stray ws)
 words_some inside brace stray [] = either inside (says.Bad kind.NestedBrace) says.Open tt tt

@@ -7,8 +7,7 @@ use Rattle.lr_rules.specs.declared.rule.Criterion.TheVariants as criterion
 use Rattle.lr_rules.specs.declared.rule.Make.TheVariants as make
 use Rattle.lr_rules.specs.declared.rule.Way.TheVariants as way
 use Rattle.lr_forms.specs.declared.form.Form.{Form}
-use Rattle.lr_forms.specs.declared.form.Form.TheVariants.{Passed, Script, Ending, Plain, Quiet, One, Day, Make, Include, Taboo}
-use Rattle.lr_forms.specs.declared.form.Form.TheVariants.{Later}
+use Rattle.lr_forms.specs.declared.form.Form.TheVariants.{Passed, Script, Ending, Plain, One, Day, Make, Include, Taboo}
 use Rattle.lr_forms.specs.declared.form.Value.TheVariants as value
 use Rattle.lr_forms.specs.declared.set.Set.TheVariants as set
 
@@ -73,6 +72,8 @@ form_of is.Copy = Plain (set.Way way.Copy)
 form_of is.Copytruncate = Plain (set.Way way.CopyTruncate)
 form_of is.Nocopy = Plain (set.NotWay way.Copy)
 form_of is.Nocopytruncate = Plain (set.NotWay way.CopyTruncate)
+form_of is.Renamecopy = Plain (set.Way way.RenameCopy)
+form_of is.Norenamecopy = Plain (set.NotWay way.RenameCopy)
 form_of is.Nocreate = Plain (set.Create make.No)
 form_of is.Nomail = Plain (set.Mail None)
 form_of is.Mailfirst = Plain (set.MailFirst true)
@@ -85,6 +86,3 @@ form_of is.Dateyesterday = Plain (set.Back back.Yesterday)
 form_of is.Datehourago = Plain (set.Back back.HourAgo)
 form_of is.Dateserial = Plain (set.Serial true)
 form_of is.Nodateserial = Plain (set.Serial false)
-form_of is.Norenamecopy = Quiet
--- not built: no form of it is read
-form_of is.Renamecopy = Later

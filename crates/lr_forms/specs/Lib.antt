@@ -1,4 +1,3 @@
-pub mod Unbuilt
 pub mod Forms
 pub mod Values
 pub mod Says

@@ -20,7 +20,6 @@ use Rattle.lr_forms.specs.declared.form.Form.{Form}
 use Rattle.lr_forms.specs.declared.form.Form.TheVariants as form
 use Rattle.lr_forms.specs.declared.said.Said.{Said}
 use Rattle.lr_forms.specs.declared.said.Said.TheVariants as says
-use Rattle.lr_forms.specs.Unbuilt.{is_unbuilt}
 use Rattle.lr_forms.specs.Forms.{form_of}
 use Rattle.lr_forms.specs.Values.{one_says, day_says, make_says, include_says, taboo_says}
 
@@ -95,11 +94,10 @@ has_more f vs = nat_lt 0 (length vs)
 
 -- the faults of a line that begins with a directive, in the order in which they apply: behind NestedBrace and Unknown,
 -- and before those of its value
-abbrev pub checks : Bool → Bool → Bool → Bool → Form → List (List ℕ) → List (Bool × ConfKind)
-checks inside brace stray unbuilt f vs =
+abbrev pub checks : Bool → Bool → Bool → Form → List (List ℕ) → List (Bool × ConfKind)
+checks inside brace stray f vs =
     (not inside && is_script f, kind.OutsideSet) ∷
     (inside && is_outside f, kind.InsideSet) ∷
-    (unbuilt, kind.NotYet) ∷
     (lacks_value f vs, kind.MissingValue) ∷
     (brace || (stray && not (is_passed f)) || has_more f vs, kind.Stray) ∷
     []
@@ -123,7 +121,7 @@ or_bad (Some k) s = says.Bad k
 
 abbrev pub by_directive : Bool → Bool → Bool → List ℕ → List (List ℕ) → Option Directive → Said
 by_directive inside brace stray word vs None = says.Unknown
-by_directive inside brace stray word vs (Some d) = or_bad (first_fault (checks inside brace stray (is_unbuilt d) (form_of d) vs))
+by_directive inside brace stray word vs (Some d) = or_bad (first_fault (checks inside brace stray (form_of d) vs))
     (means (form_of d) word vs)
 
 abbrev pub texts : List Word → List (List ℕ)

@@ -1,14 +1,12 @@
 // Faults of a line that begins with a directive.
 ghost use Rattle.std.specs.Prelude.{◌≡◌, IfOk};
 ghost use Rattle.lr_words.specs.Lists.{taboo_value};
-ghost use Rattle.lr_forms.specs.Unbuilt.{is_unbuilt};
 ghost use Rattle.lr_forms.specs.Forms.{form_of};
 ghost use Rattle.lr_forms.specs.Says.{texts, is_passed, is_script, is_outside, lists_nothing, lacks_value, has_more, checks};
 ghost use Rattle.lr_forms.specs.Says.{first_fault};
 
 use crate::form::{Form, form_of};
 use crate::taboo::texts_of;
-use crate::unbuilt::is_unbuilt;
 use lr_lex::Word;
 use lr_rules::{ConfKind, Memory};
 use lr_tables::Directive;
@@ -85,18 +83,15 @@ fn first_fault(
     inside: bool,
     brace: bool,
     stray: bool,
-    unbuilt: bool,
     form: &Form,
     values: &[Word],
 ) -> Result<Option<ConfKind>, Memory>
-    ensures { IfOk result (λ fault. fault ≡ first_fault (checks inside brace stray unbuilt form.now (texts values.now))) }
+    ensures { IfOk result (λ fault. fault ≡ first_fault (checks inside brace stray form.now (texts values.now))) }
 {
     if !inside && script(form) {
         Ok(Some(ConfKind::OutsideSet))
     } else if inside && outside(form) {
         Ok(Some(ConfKind::InsideSet))
-    } else if unbuilt {
-        Ok(Some(ConfKind::NotYet))
     } else if lacks_value(alloc, form, values)? {
         Ok(Some(ConfKind::MissingValue))
     } else if brace || (stray && !passed(form)) || has_more(form, values) {
@@ -115,10 +110,8 @@ pub(crate) fn fault_of(
     directive: Directive,
     values: &[Word],
 ) -> Result<Option<ConfKind>, Memory>
-    ensures { IfOk result (λ fault. fault ≡ first_fault (checks inside brace stray (is_unbuilt directive) (form_of directive)
-        (texts values.now))) }
+    ensures { IfOk result (λ fault. fault ≡ first_fault (checks inside brace stray (form_of directive) (texts values.now))) }
 {
     let form = form_of(directive);
-    let unbuilt = is_unbuilt(directive);
-    first_fault(alloc, inside, brace, stray, unbuilt, &form, values)
+    first_fault(alloc, inside, brace, stray, &form, values)
 }

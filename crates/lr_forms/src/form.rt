@@ -34,8 +34,6 @@ pub enum Form {
     Ending,
     /// No value: it sets this.
     Plain(Set),
-    /// No value, and nothing is set.
-    Quiet,
     /// One value, that sets a field.
     One(Value),
     /// A day of the week, or nothing: `weekly`.
@@ -46,8 +44,6 @@ pub enum Form {
     Include,
     /// A list, outside definitions alone: of patterns, or else of endings.
     Taboo { patterns: bool },
-    /// It isn't built, and no form of it is read.
-    Later,
 }
 
 /// What the directive takes.
@@ -108,6 +104,8 @@ pub fn form_of(directive: Directive) -> Form
         Directive::Copytruncate => Form::Plain(Set::Way(Way::CopyTruncate)),
         Directive::Nocopy => Form::Plain(Set::NotWay(Way::Copy)),
         Directive::Nocopytruncate => Form::Plain(Set::NotWay(Way::CopyTruncate)),
+        Directive::Renamecopy => Form::Plain(Set::Way(Way::RenameCopy)),
+        Directive::Norenamecopy => Form::Plain(Set::NotWay(Way::RenameCopy)),
         Directive::Nocreate => Form::Plain(Set::Create(Make::No)),
         Directive::Nomail => Form::Plain(Set::Mail(None)),
         Directive::Mailfirst => Form::Plain(Set::MailFirst(true)),
@@ -120,7 +118,5 @@ pub fn form_of(directive: Directive) -> Form
         Directive::Datehourago => Form::Plain(Set::Back(Back::HourAgo)),
         Directive::Dateserial => Form::Plain(Set::Serial(true)),
         Directive::Nodateserial => Form::Plain(Set::Serial(false)),
-        Directive::Norenamecopy => Form::Quiet,
-        Directive::Renamecopy => Form::Later,
     }
 }

@@ -2,7 +2,7 @@
 //!
 //! The contract: [`say`] gives exactly what the line says, inside a definition of logs or outside: the first fault that
 //! applies to it, in the order of `lr_rules::ConfKind`, else what it sets, names, includes or passes over. What is set
-//! meets the limits of `lr_rules`. A line with a directive that isn't built is NotYet. What depends on the lines before
+//! meets the limits of `lr_rules`. What depends on the lines before
 //! it, as names without a brace and a script that stands twice, is for `lr_conf`. Begin with [`say`]:
 //!
 //! ```text
@@ -22,7 +22,6 @@ mod said;
 mod script;
 mod set;
 mod taboo;
-mod unbuilt;
 mod value;
 
 pub use laws::lines_meet_limits;

@@ -60,7 +60,8 @@ pub fn aside_of(alloc: Global, rule: &Rule, look: &LogLook) -> Result<Option<Pat
 
 /// Whether another thing than a file stands where the log is set aside to.
 pub fn aside_hinders(rule: &Rule, look: &LogLook) -> bool
-    ensures { aside_hinders rule.now.way look.now.path look.now.tmp ≡ (if result then fault.NotFile (aside_path look.now.path) ∷ [] else []) }
+    ensures { aside_hinders rule.now.way look.now.path look.now.tmp ≡ (if result then fault.NotFile (aside_path look.now.path) ∷ []
+        else []) }
 {
     match rule.way {
         Way::RenameCopy => look.tmp.is_some() && !is_file(&look.tmp),

@@ -108,7 +108,8 @@ fn with_all_programs(
 // The rotation of the file from where it stands, with the directory that it makes, if any.
 fn with_made_dir(alloc: Global, rule: &Rule, look: &LogLook, ready: Ready) -> Result<Ready, Memory>
     requires { length look.now.path ≤ 2048 }
-    ensures { IfOk result (λ made. made ≡ with_dir (dir_of rule.now look.now) (with_log (first_path rule.now.way look.now.path look.now.tmp) ready)) }
+    ensures { IfOk result (λ made. made ≡ with_dir (dir_of rule.now look.now)
+        (with_log (first_path rule.now.way look.now.path look.now.tmp) ready)) }
 {
     let mut ready = ready;
     ready.log = first_path(alloc, rule, look)?;
@@ -239,7 +240,8 @@ fn add_ready(
     requires short { length ready.target ≤ 4081 }
     requires log { length look.now.path ≤ 2048 }
     ensures plans { OnOk result (plans.new.items ≡ plans.old.items
-        ++ none_hinders (aside_hinders rule.now.way look.now.path look.now.tmp) (plan_with mailer.now rule.now (standing rule.now look.now)
+        ++ none_hinders (aside_hinders rule.now.way look.now.path look.now.tmp)
+        (plan_with mailer.now rule.now (standing rule.now look.now)
         (with_dir (dir_of rule.now look.now) (with_log (first_path rule.now.way look.now.path look.now.tmp) ready)) ∷ [])) }
     ensures faults { OnOk result (faults.new.items ≡ faults.old.items
         ++ or_else (aside_hinders rule.now.way look.now.path look.now.tmp) (unfinished rule.now.way look.now.path look.now.tmp)) }

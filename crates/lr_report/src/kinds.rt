@@ -18,7 +18,6 @@ pub fn conf_kind_name(kind: ConfKind) -> &'static [u8]
         ConfKind::OutsideSet => b"OutsideSet",
         ConfKind::InsideSet => b"InsideSet",
         ConfKind::ScriptTwice => b"ScriptTwice",
-        ConfKind::NotYet => b"NotYet",
         ConfKind::MissingValue => b"MissingValue",
         ConfKind::Stray => b"Stray",
         ConfKind::BadNumber => b"BadNumber",

@@ -56,6 +56,7 @@ pub enum WantKey {
     LeftDir,
     Once,
     Most,
+    Some,
     Prints,
     PrintsAny,
     ReportAny,
@@ -75,7 +76,7 @@ pub enum Key {
     Want(WantKey),
 }
 
-static KEYS: [(&[u8], Key); 45] = [
+static KEYS: [(&[u8], Key); 46] = [
     (b"file", Key::Start(StartKey::File)),
     (b"conf", Key::Start(StartKey::Conf)),
     (b"dir", Key::Start(StartKey::Dir)),
@@ -113,6 +114,7 @@ static KEYS: [(&[u8], Key); 45] = [
     (b"left-dir", Key::Want(WantKey::LeftDir)),
     (b"once", Key::Want(WantKey::Once)),
     (b"most", Key::Want(WantKey::Most)),
+    (b"some", Key::Want(WantKey::Some)),
     (b"prints", Key::Want(WantKey::Prints)),
     (b"prints-any", Key::Want(WantKey::PrintsAny)),
     (b"report-any", Key::Want(WantKey::ReportAny)),

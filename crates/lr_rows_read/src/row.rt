@@ -82,12 +82,13 @@ pub struct Deed {
     pub what: What,
 }
 
-/// Bytes that stand under exactly one name; those that are needed only before a call, if the run was stopped before it,
-/// and else under one or none.
+/// Bytes that stand under exactly one name, or under one at least where they may stand under many; those that are needed
+/// only before a call, if the run was stopped before it, and else under one or none.
 #[derive(Drop)]
 pub struct Once {
     pub bytes: Vec<u8>,
     pub is_needed: bool,
+    pub may_repeat: bool,
     pub before: Option<Called>,
 }
 

@@ -50,7 +50,12 @@ impl Wanted {
         Ok(())
     }
 
-    fn add_once(&mut self, cursor: &mut Cursor, is_needed: bool) -> Result<(), Trouble> {
+    fn add_once(
+        &mut self,
+        cursor: &mut Cursor,
+        is_needed: bool,
+        may_repeat: bool,
+    ) -> Result<(), Trouble> {
         let bytes = cursor.bytes()?;
         let before = if is_needed {
             called_behind(cursor, b"before")?
@@ -60,6 +65,7 @@ impl Wanted {
         self.once.push(Once {
             bytes,
             is_needed,
+            may_repeat,
             before,
         })?;
         Ok(())
@@ -113,8 +119,9 @@ impl Wanted {
             WantKey::Status => self.set_status(cursor),
             WantKey::Left => self.add_left(cursor),
             WantKey::LeftDir => self.add_dir(cursor),
-            WantKey::Once => self.add_once(cursor, true),
-            WantKey::Most => self.add_once(cursor, false),
+            WantKey::Once => self.add_once(cursor, true, false),
+            WantKey::Most => self.add_once(cursor, false, false),
+            WantKey::Some => self.add_once(cursor, true, true),
             WantKey::Prints => self.set_printed(cursor),
             WantKey::PrintsAny => self.want_any_text(),
             WantKey::ReportAny => self.want_any_report(),

@@ -238,7 +238,7 @@ fn compare_once(
     for once in &wanted.once {
         let is_needed = is_needed(alloc, once, stopped)?;
         let count = count_of(host, wanted, paths, once.bytes.as_slice());
-        if count > 1 || (count == 0 && is_needed) {
+        if (count > 1 && !once.may_repeat) || (count == 0 && is_needed) {
             differences.add(b"names of", once.bytes.as_slice(), b"one")?;
         }
     }

@@ -61,8 +61,6 @@ pub enum ConfKind {
     OutsideSet,
     InsideSet,
     ScriptTwice,
-    /// The line or form isn't built yet.
-    NotYet,
     MissingValue,
     Stray,
     BadNumber,

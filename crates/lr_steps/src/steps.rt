@@ -2,7 +2,8 @@
 ghost use Rattle.std.specs.Prelude.{◌≡◌, ◌∷◌, ◌++◌, [], Some, map, slice_index_or, option_copied, OnOk, IfOk};
 ghost use Rattle.lr_rules.specs.declared.fault.Phase.TheVariants as phase;
 ghost use Rattle.lr_plan.specs.declared.step.Step.TheVariants as step;
-ghost use Rattle.lr_plan.specs.Steps.{input_of, on_of, program, removal, removals, directory, move, copy, transfer, anew, made_anew};
+ghost use Rattle.lr_plan.specs.Steps.{input_of, on_of, program, removal, removals, directory, move, copy, transfer};
+ghost use Rattle.lr_plan.specs.Steps.{anew, made_anew};
 ghost use Rattle.lr_plan.specs.Steps.{rotation_of, finishing, retirement_of, step_if};
 
 use lr_chain::{Move, Ready};

@@ -16,5 +16,6 @@ aside = aside_path log
 
 -- its copy is named, durably, and what was copied stands there still
 abbrev pub left_aside : Past
-left_aside = Opens found ▸ Renames log aside ▸ Makes part None ▸ Reads aside 0 (codes "C") ▸ Appends part (codes "C") ▸ Reads aside 1 []
+left_aside = Opens found ▸ Renames log aside ▸ Makes part None ▸ Reads aside 0 (codes "C") ▸ Appends part (codes "C")
+    ▸ Reads aside 1 []
     ▸ SyncsFile part ▸ Renames part third ▸ SyncsDir (codes "/v")
