@@ -5,3 +5,4 @@ pub mod Still
 pub mod Reached
 pub mod Result
 pub mod Called
+pub mod Moved

@@ -10,7 +10,7 @@ ghost use Rattle.lr_cli.specs.Asked.{AskFor, AskForNone};
 ghost use Rattle.lr_clock.specs.Clock.{IsClocked};
 ghost use Rattle.lr_cli.specs.Faults.{HasFault, HasCounted};
 ghost use Rattle.lr_cli.specs.Printed.{without_out};
-ghost use Rattle.lr_cli.specs.Safe.{KeepsSafeByClock};
+ghost use Rattle.lr_cli.specs.Safe.{KeepsSafeByClock, KeepsMovedByClock};
 ghost use Rattle.lr_cli.specs.Says.{Says};
 
 use crate::report::finish;
@@ -43,6 +43,10 @@ pub fn logrotate<H: Host, K: Sink>(
     // A set that was safe in the journal before is safe in the journal after, where it is steady there, and none of its stamps
     // had gone ahead of the call's clock: whatever failed, and wherever the run stopped. Of a numbered set the clock asks nothing.
     ensures safe { KeepsSafeByClock zone.now now (H.told host.old) (H.told host.new) }
+
+    // So is a set whose log is set aside before it is copied; and where writers spared the copy, that log was let go only behind
+    // a whole one, which no cut takes back.
+    ensures moved { KeepsMovedByClock zone.now now (H.told host.old) (H.told host.new) }
 
     // Where the words ask for nothing, nothing is called.
     ensures nothing { AskForNone here.now words.now → H.told host.new ≡ H.told host.old }

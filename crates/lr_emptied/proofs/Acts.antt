@@ -23,7 +23,7 @@ use Rattle.lr_emptied.proofs.Entries.{none_empties, both_empty, same_empties}
 use Rattle.lr_emptied.proofs.Made.{AllMade, IsCutAt, cut_at, made_split, named_made}
 use Rattle.lr_emptied.proofs.Steps.{none_copied, first_copied, state_no_cuts, plan_copied}
 
-all_split : {A : Type 0} (R : A → Type 0) (xs ys : List A) → All R (xs ++ ys) → All R xs × All R ys
+pub all_split : {A : Type 0} (R : A → Type 0) (xs ys : List A) → All R (xs ++ ys) → All R xs × All R ys
 all_split R [] ys a = (All-nil R, a)
 all_split R (x ∷ xs) ys a = let r = all_split R xs ys (All-tail R x (xs ++ ys) a) in (All-cons R x xs (All-head R x (xs ++ ys) a) r.0, r.1)
 

@@ -28,6 +28,7 @@ ghost use Rattle.lr_plan.specs.Planned.{job_by, plan_of};
 ghost use Rattle.lr_plan.specs.Steps.{steps_of_set, steps_of_plan, state_steps};
 ghost use Rattle.lr_emptied.specs.Emptied.{IsJobIn, EmptiesCopied, EmptiesWhole};
 ghost use Rattle.lr_emptied.specs.Jobs.{jobs_of, IsAskedFor};
+ghost use Rattle.lr_emptied.specs.LetGo.{UnlinksCopied, LetGoCopied, MayAllLetGo};
 ghost use Rattle.lr_emptied.specs.Steps.{EmptyCopied};
 
 /// Each log that the steps of a plan empty they copy just before, by a copy of the plan that asks for it.
@@ -76,4 +77,15 @@ pub fn copies_are_whole()
     ensures { (jobs : List Job) (told later : Option Journal) → Left (EmptiesCopied (IsJobIn jobs)) told later
         → ((job : Job) → IsIn job jobs → ArePaths job)
         → EmptiesWhole (IsJobIn jobs) told later }
+{}
+
+/// Where of a plan nothing has this path, but where a log waits that is set aside, the path is removed only just behind a copy
+/// from there, by the steps and so by the entries that they leave, whatever failed.
+pub fn waiting_log_is_copied()
+    ensures plan { (jobs : List Job) (x : Path) (sets : List SetPlan) → MayAllLetGo (IsJobIn jobs) x sets
+        → LetGoCopied (IsJobIn jobs) x (map steps_of_set sets) }
+    ensures done { (jobs : List Job) (x : Path) (sets : List SetSteps) (marks : List Mark) (faults : List Fault) (ts : List Entry)
+        → LetGoCopied (IsJobIn jobs) x sets → SetsDone sets marks faults ts → UnlinksCopied (IsJobIn jobs) x ts }
+    ensures cut { (jobs : List Job) (x : Path) (sets : List SetSteps) (marks : List Mark) (faults : List Fault) (ts : List Entry)
+        → LetGoCopied (IsJobIn jobs) x sets → SetsCut sets marks faults ts → UnlinksCopied (IsJobIn jobs) x ts }
 {}

@@ -102,7 +102,7 @@ sets_left state clock rules p q es front tail made journal whole quiet t s apart
     journal_u = made_journal p a.mid (reverse front) made_u journal
 
     safe_u : IsSafe s a.mid
-    safe_u = quiet_safe_on s p a.mid front quiet journal safe made_u steady_u
+    safe_u = quiet_safe_on s p a.mid front quiet journal safe made_u (none_attached s a.mid steady_u)
 
 -- ---- what a run came to
 

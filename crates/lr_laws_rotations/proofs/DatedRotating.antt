@@ -12,7 +12,7 @@ use Rattle.lr_host.specs.declared.entry.Entry.{Entry}
 use Rattle.lr_host.specs.Opening.{IsJournal}
 use Rattle.lr_host.specs.Quiet.{ChangeNothing, AreQuiet}
 use Rattle.lr_host.specs.Runs.{rules_of, SomeRule, has_begun}
-use Rattle.lr_host.specs.Sets.{LogSet, Dated, order, order_of}
+use Rattle.lr_host.specs.Sets.{LogSet, Dated, order, order_of, IsUnplaced}
 use Rattle.lr_host.specs.Steady.{NoneAttached}
 use Rattle.lr_host.specs.Told.{Made}
 use Rattle.lr_host.specs.World.{Names, Moves, changed, Past, world, names}
@@ -40,21 +40,21 @@ use Rattle.lr_laws_rotations.proofs.Stamped.{day_of, next_free}
 use Rattle.lr_laws_rotations.proofs.DatedStands.{is_dated, stand_so, next_serial}
 use Rattle.lr_laws_rotations.proofs.SetMembers.{set_stands}
 
-order_some : (d : Option Format) → order_of d ≡ Dated → IsSome d
+pub order_some : (d : Option Format) → order_of d ≡ Dated → IsSome d
 order_some None h = absurd (cc)
 order_some (Some f) h = refl
 
 -- what the paths name once the log has its new name
-abbrev moved : LogSet → Past → Path → Names
-moved s q target = changed (Moves s.log target) (names (world q))
+abbrev moved : Path → Past → Path → Names
+moved log q target = changed (Moves log target) (names (world q))
 
 -- the members that were seen too old a rule lets go by their age then
-module _ (s : LogSet) (p q : Past) (es : List Entry) (maxage : Option ℕ) (target : Path) (dated : order s ≡ Dated) (apart : IsNoMember s.naming s.log) (attached : NoneAttached s q) (made : Made p es q) (quiet : AreQuiet es) (rule : SomeRule (rules_of q) s.log (λ r. r.maxage ≡ maxage)) where
-  one_old : (m : Member) (t : ℤ) (k : ℕ) → IsDatedAt s.naming t k m.path → m.path ≢ target → WasSeen (reverse es) m → is_expired maxage (world q).now m ≡ true → IsPastAge s q (moved s q target) m.path
+module _ (s : LogSet) (p q : Past) (es : List Entry) (log : Path) (maxage : Option ℕ) (target : Path) (dated : order s ≡ Dated) (apart : IsNoMember s.naming log) (attached : NoneAttached s q) (made : Made p es q) (quiet : AreQuiet es) (rule : SomeRule (rules_of q) s.log (λ r. r.maxage ≡ maxage)) where
+  one_old : (m : Member) (t : ℤ) (k : ℕ) → IsDatedAt s.naming t k m.path → m.path ≢ target → WasSeen (reverse es) m → is_expired maxage (world q).now m ≡ true → IsPastAge s q (moved log q target) m.path
   one_old m t k is other seen old g there = old_goes s p q es maxage m (stamp_key t k) made quiet attached rule (keyed s dated m.path t k is) seen old g
-      (sym (moved_other (names (world q)) s.log target m.path (λ same. apart (inr (t, k, subst (IsDatedAt s.naming t k) same is))) other) ∙ there)
+      (sym (moved_other (names (world q)) log target m.path (λ same. apart (inr (t, k, subst (IsDatedAt s.naming t k) same is))) other) ∙ there)
 
-  all_old : (ms : List Member) → AreNamed s.naming ms → HasNone ms target → All (WasSeen (reverse es)) ms → AreOld s q (moved s q target) (map (ranked maxage (world q).now) ms)
+  all_old : (ms : List Member) → AreNamed s.naming ms → HasNone ms target → All (WasSeen (reverse es)) ms → AreOld s q (moved log q target) (map (ranked maxage (world q).now) ms)
   all_old [] d none seen = tt
   all_old (m ∷ ms) d none seen =
       let day = day_of s.naming (m ∷ ms) m (order_some s.naming.dated dated) d (inl refl) in (
@@ -63,7 +63,7 @@ module _ (s : LogSet) (p q : Past) (es : List Entry) (maxage : Option ℕ) (targ
       )
 
 -- the log isn't tested
-old_with : (s : LogSet) (p : Past) (n : Names) (t : ℤ) (serial : ℕ) (target : Path) (ms : List Ranked) → AreOld s p n ms → AreOld s p n (with_one (renamed t serial target) ms)
+pub old_with : (s : LogSet) (p : Past) (n : Names) (t : ℤ) (serial : ℕ) (target : Path) (ms : List Ranked) → AreOld s p n ms → AreOld s p n (with_one (renamed t serial target) ms)
 old_with s p n t serial target [] h = ((λ e. absurd (cc e)), tt)
 old_with s p n t serial target (m ∷ ms) h = go (int_lt (key_of (renamed t serial target)) (key_of m)) (old_with s p n t serial target ms h.1)
   where
@@ -71,15 +71,15 @@ old_with s p n t serial target (m ∷ ms) h = go (int_lt (key_of (renamed t seri
     go true r = (h.0, r)
     go false r = ((λ e. absurd (cc e)), h)
 
-pub one_behind : (clock : Clock) (s : LogSet) (c : Count) (maxage : Option ℕ) (members : List Member) (target : Path) (serial : ℕ) (p q : Past) (es : List Entry) → IsFamily s.log s.naming → IsJournal p → NoneAttached s q → Made p es q → AreQuiet es → SawFile s.log (reverse es) → Shown s.naming members (reverse es)
+pub one_behind : (clock : Clock) (s : LogSet) (log : Path) → IsUnplaced s log → IsFamily log s.naming → (c : Count) (maxage : Option ℕ) (members : List Member) (target : Path) (serial : ℕ) (p q : Past) (es : List Entry) → IsFamily s.log s.naming → IsJournal p → NoneAttached s q → Made p es q → AreQuiet es → SawFile log (reverse es) → Shown s.naming members (reverse es)
     → IsNext members (clock_seconds s.naming.dated clock) serial → IsDatedAt s.naming (clock_seconds s.naming.dated clock) serial target → has_begun s q ≡ false → IsForwardFor clock s q → (world q).now ≡ clock.now.seconds → SomeRule (rules_of q) s.log (λ r. (r.count ≡ c) × (r.maxage ≡ maxage))
-    → RotatesDated (dated_rotation c s.log target (all_of maxage clock.now.seconds (clock_seconds s.naming.dated clock) serial target members)) s q
-one_behind clock s c maxage members target serial p q es family journal attached made quiet saw shown next is nb forward now_is rule =
-    is_one s q c target (all_of maxage clock.now.seconds t serial target members) t serial dated nb is
+    → RotatesDated (dated_rotation c log target (all_of maxage clock.now.seconds (clock_seconds s.naming.dated clock) serial target members)) s q
+one_behind clock s log on there_too c maxage members target serial p q es family journal attached made quiet saw shown next is nb forward now_is rule =
+    is_one s q log on c target (all_of maxage clock.now.seconds t serial target members) t serial dated nb is
     (moment_forward s q t serial dated (forward dated) (next_serial s.naming (names (world q)) members t serial family.format there next) (dated_small s.naming t serial target is))
-    (stand_so s.log s.naming (names (world q)) members target maxage clock.now.seconds t serial family (file_stands p q es made still s.log saw) there next is)
-    (old_with s q (moved s q target) t serial target (map (ranked maxage clock.now.seconds) members) (subst (λ (now : ℤ). AreOld s q (moved s q target) (map (ranked maxage now) members)) now_is
-    (all_old s p q es maxage target dated family.apart attached made quiet (some_rule (rules_of q) s.log (λ r. (r.count ≡ c) × (r.maxage ≡ maxage)) (λ r. r.maxage ≡ maxage) (λ r h. h.1) rule) members shown.named none shown.files)))
+    (stand_so log s.naming (names (world q)) members target maxage clock.now.seconds t serial there_too (file_stands p q es made still log saw) there next is)
+    (old_with s q (moved log q target) t serial target (map (ranked maxage clock.now.seconds) members) (subst (λ (now : ℤ). AreOld s q (moved log q target) (map (ranked maxage now) members)) now_is
+    (all_old s p q es log maxage target dated there_too.apart attached made quiet (some_rule (rules_of q) s.log (λ r. (r.count ≡ c) × (r.maxage ≡ maxage)) (λ r. r.maxage ≡ maxage) (λ r h. h.1) rule) members shown.named none shown.files)))
     (some_rule (rules_of q) s.log (λ r. (r.count ≡ c) × (r.maxage ≡ maxage)) (λ r. r.count ≡ c) (λ r h. h.0) rule)
   where
     t : ℤ

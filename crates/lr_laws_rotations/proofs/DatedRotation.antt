@@ -1,5 +1,5 @@
 -- A whole dated rotation: it is one of its set, and aside of others.
-use Rattle.std.proofs.Common.{◌≡◌, inl, inr, ℕ, suc, Bool, true, false, cond, ◌||◌, refl, sym, ap, subst, Option, is_some, List, [], ◌∷◌, map, ℤ}
+use Rattle.std.proofs.Common.{◌≡◌, inl, inr, ℕ, suc, Bool, true, false, cond, ◌||◌, refl, sym, ap, subst, Option, Some, is_some, List, [], ◌∷◌, map, ℤ}
 use Rattle.lr_rules.specs.declared.path.Path.{Path}
 use Rattle.lr_rules.specs.declared.rule.Count.{Count}
 use Rattle.lr_rules.specs.declared.rule.Naming.{Naming}
@@ -9,11 +9,12 @@ use Rattle.lr_stamps.proofs.StampShapes.{dated_shape}
 use Rattle.lr_host.specs.declared.entry.Entry.TheVariants.{Renames}
 use Rattle.lr_host.specs.Forward.{IsForward}
 use Rattle.lr_host.specs.Runs.{rules_of, SomeRule, has_begun}
-use Rattle.lr_host.specs.Sets.{LogSet, Dated, order}
+use Rattle.lr_host.specs.Sets.{LogSet, Dated, order, IsUnplaced}
 use Rattle.lr_host.specs.Told.{Each}
-use Rattle.lr_host.specs.World.{Moves, changed, Past, world, names}
+use Rattle.lr_host.specs.Fits.{IsFileAt}
+use Rattle.lr_host.specs.World.{Names, Moves, changed, Past, world, names}
 use Rattle.lr_host.proofs.Each.{each_reverse}
-use Rattle.lr_laws.specs.Rotation.{IsAside, straight}
+use Rattle.lr_laws.specs.Rotation.{IsAside, IsTurn, straight, taken_up}
 use Rattle.lr_laws.proofs.Moments.{keyed}
 use Rattle.lr_laws.proofs.Outside.{apart_outside}
 use Rattle.lr_laws.specs.Stays.{RotatesDated}
@@ -27,25 +28,30 @@ use Rattle.lr_chain.proofs.DatedWhole.{steps_are}
 
 -- ---- they are one rotation
 
-all_keyed : (s : LogSet) → order s ≡ Dated → (ms : List Ranked) → AreDatedAt s.naming ms → AreKeyed (HasKey s) ms
+pub all_keyed : (s : LogSet) → order s ≡ Dated → (ms : List Ranked) → AreDatedAt s.naming ms → AreKeyed (HasKey s) ms
 all_keyed s dated [] h = tt
 all_keyed s dated (m ∷ ms) h = (keyed s dated m.path m.seconds m.serial h.0, all_keyed s dated ms h.1)
 
-pub is_one : (s : LogSet) (p : Past) (c : Count) (target : Path) (all : List Ranked) (seconds : ℤ) (serial : ℕ) → order s ≡ Dated → has_begun s p ≡ false → IsDatedAt s.naming seconds serial target → IsForward s p (stamp_key seconds serial)
-    → StandSo s.naming s.log target all (names (world p)) → AreOld s p (changed (Moves s.log target) (names (world p))) all → SomeRule (rules_of p) s.log (λ r. r.count ≡ c) → RotatesDated (dated_rotation c s.log target all) s p
-is_one s p c target all seconds serial dated nb at forward st old rule = record {
+-- what turns is the log, or what waits
+turns_so : (s : LogSet) (m : Names) (newest : ℤ) (log to : Path) → IsUnplaced s log → IsFileAt m log → s.key to ≡ Some newest → IsTurn s m newest log to
+turns_so s m newest log to (inl at_log) file is = straight at_log is
+turns_so s m newest log to (inr waits) file is = taken_up waits file is
+
+pub is_one : (s : LogSet) (p : Past) (log : Path) → IsUnplaced s log → (c : Count) (target : Path) (all : List Ranked) (seconds : ℤ) (serial : ℕ) → order s ≡ Dated → has_begun s p ≡ false → IsDatedAt s.naming seconds serial target → IsForward s p (stamp_key seconds serial)
+    → StandSo s.naming log target all (names (world p)) → AreOld s p (changed (Moves log target) (names (world p))) all → SomeRule (rules_of p) s.log (λ r. r.count ≡ c) → RotatesDated (dated_rotation c log target all) s p
+is_one s p log on c target all seconds serial dated nb at forward st old rule = record {
   dated = dated;
   not_begun = nb;
   newest = stamp_key seconds serial;
   forward = forward;
-  rotation = subst (IsDatedRotation s p (stamp_key seconds serial)) (sym (steps_are c s.log target all))
-      (removals_rotate s p (stamp_key seconds serial) false c (Renames s.log target ∷ []) turned (tt, inr (refl, st.free, straight refl (keyed s dated target seconds serial at))) rule all 0 [] refl tt (none_later all) st.falling (all_keyed s dated all st.named) st.files old);
+  rotation = subst (IsDatedRotation s p (stamp_key seconds serial)) (sym (steps_are c log target all))
+      (removals_rotate s p (stamp_key seconds serial) false c (Renames log target ∷ []) turned (tt, inr (refl, st.free, turns_so s (names (world p)) (stamp_key seconds serial) log target on st.log_file (keyed s dated target seconds serial at))) rule all 0 [] refl tt (none_later all) st.falling (all_keyed s dated all st.named) st.files old);
 }
   where
     turned : (is_some (s.key target) || false) ≡ true
     turned = ap (λ (o : Option ℤ). is_some o || false) (keyed s dated target seconds serial at)
 
-    none_later : (ms : List Ranked) → AreLaterThan s (changed (Moves s.log target) (names (world p))) [] ms
+    none_later : (ms : List Ranked) → AreLaterThan s (changed (Moves log target) (names (world p))) [] ms
     none_later [] = tt
     none_later (x ∷ ms) = tt
 

@@ -17,7 +17,7 @@ use Rattle.lr_host.specs.Opening.{IsJournal}
 use Rattle.lr_host.specs.Quiet.{AreQuiet}
 use Rattle.lr_host.specs.Runs.{rules_of, SomeRule, has_begun}
 use Rattle.lr_host.specs.Safe.{IsSafe}
-use Rattle.lr_host.specs.Sets.{LogSet}
+use Rattle.lr_host.specs.Sets.{LogSet, IsUnplaced}
 use Rattle.lr_host.specs.Steady.{NoneAttached}
 use Rattle.lr_host.specs.Steps.{FitAll}
 use Rattle.lr_host.specs.Told.{Each, Made}
@@ -137,8 +137,8 @@ module _ (clock : Clock) (log : Path) (n : Naming) (c : Count) (maxage : Option 
 
 -- ---- they are one rotation of the set
 
-module _ (clock : Clock) (s : LogSet) (c : Count) (maxage : Option ℕ) (anew : Make) (stand : Stand) (p q : Past) (es : List Entry) (family : IsFamily s.log s.naming) (start : s.naming.start ≤ 999999) (small : IsCount c) (journal : IsJournal p) (attached : NoneAttached s q) (made : Made p es q)
-    (quiet : AreQuiet es) (saw : SawFile s.log (reverse es)) (shown : Shown s.naming stand.members (reverse es)) (free : what_hinders s.naming c clock stand ≡ []) (not_begun : has_begun s q ≡ false) (now_is : (world q).now ≡ clock.now.seconds)
+module _ (clock : Clock) (s : LogSet) (log : Path) (on : IsUnplaced s log) (there_too : IsFamily log s.naming) (c : Count) (maxage : Option ℕ) (anew : Make) (stand : Stand) (p q : Past) (es : List Entry) (family : IsFamily s.log s.naming) (start : s.naming.start ≤ 999999) (small : IsCount c) (journal : IsJournal p) (attached : NoneAttached s q) (made : Made p es q)
+    (quiet : AreQuiet es) (saw : SawFile log (reverse es)) (shown : Shown s.naming stand.members (reverse es)) (free : what_hinders s.naming c clock stand ≡ []) (not_begun : has_begun s q ≡ false) (now_is : (world q).now ≡ clock.now.seconds)
     (rule : SomeRule (rules_of q) s.log (λ r. (r.count ≡ c) × (r.maxage ≡ maxage))) where
   abbrev n : Naming
   n = s.naming
@@ -152,27 +152,27 @@ module _ (clock : Clock) (s : LogSet) (c : Count) (maxage : Option ℕ) (anew : 
   by_age : SomeRule (rules_of q) s.log (λ r. r.maxage ≡ maxage)
   by_age = some_rule (rules_of q) s.log (λ r. (r.count ≡ c) × (r.maxage ≡ maxage)) (λ r. r.maxage ≡ maxage) (λ r h. h.1) rule
 
-  by_numbers : IsSafe s q → n.dated ≡ None → Rotates (rotation n c s.log (places_of all) (going c maxage clock.now.seconds all)) s q
-  by_numbers safe none = is_one s q c (places_of all) (going c maxage clock.now.seconds all) (by_places s.log n none family) file (there_by_places n (names (world q)) s.log all none file there)
-      (next_places clock s.log n c maxage anew stand family start small shown.named free none) (going_are c maxage clock.now.seconds all (rising n none all there.named there.newest_first))
+  by_numbers : IsSafe s q → n.dated ≡ None → Rotates (rotation n c log (places_of all) (going c maxage clock.now.seconds all)) s q
+  by_numbers safe none = is_one s q log on c (places_of all) (going c maxage clock.now.seconds all) (by_places log n none there_too) file (there_by_places n (names (world q)) log all none file there)
+      (next_places clock log n c maxage anew stand there_too start small shown.named free none) (going_are c maxage clock.now.seconds all (rising n none all there.named there.newest_first))
       (subst (λ (now : ℤ). places.MayGo s q c (going c maxage now all)) now_is (may_go s p q es c maxage all none made quiet attached by_age shown)) not_begun safe by_count
     where
-      file : IsFileAt (names (world q)) s.log
-      file = file_stands p q es made (quiet_still es quiet) s.log saw
+      file : IsFileAt (names (world q)) log
+      file = file_stands p q es made (quiet_still es quiet) log saw
 
       there : AreThere n (names (world q)) all
       there = set_stands s all p q es family journal attached made (quiet_still es quiet) shown
 
-  by_dates : IsForwardFor clock s q → (f : Format) → n.dated ≡ Some f → RotatesDated (dated_rotation c s.log (dated_target n clock all) (all_by n maxage clock all)) s q
-  by_dates forward f is = one_behind clock s c maxage all (dated_target n clock all) (next_serial all (clock_seconds n.dated clock)) p q es family journal attached made quiet saw shown
-      (is_next all (clock_seconds n.dated clock)) (dated_there clock s.log n c maxage anew stand family start small shown.named free f is) not_begun forward now_is rule
+  by_dates : IsForwardFor clock s q → (f : Format) → n.dated ≡ Some f → RotatesDated (dated_rotation c log (dated_target n clock all) (all_by n maxage clock all)) s q
+  by_dates forward f is = one_behind clock s log on there_too c maxage all (dated_target n clock all) (next_serial all (clock_seconds n.dated clock)) p q es family journal attached made quiet saw shown
+      (is_next all (clock_seconds n.dated clock)) (dated_there clock log n c maxage anew stand there_too start small shown.named free f is) not_begun forward now_is rule
 
-  rotates : IsSafe s q → IsForwardFor clock s q → RotatesSet (steps_of (ready_of s.log s.naming c maxage clock anew stand.members)) s q
+  rotates : IsSafe s q → IsForwardFor clock s q → RotatesSet (steps_of (ready_of log s.naming c maxage clock anew stand.members)) s q
   rotates safe forward = go n.dated refl
     where
-      go : (d : Option Format) → n.dated ≡ d → RotatesSet (steps_of (ready_of s.log n c maxage clock anew all)) s q
-      go None none = inl (subst (λ (steps : List Entry). Rotates steps s q) (sym (steps_numbers s.log n c maxage clock anew all none)) (by_numbers safe none))
-      go (Some f) is = inr (subst (λ (steps : List Entry). RotatesDated steps s q) (sym (steps_dates s.log n c maxage clock anew all f is)) (by_dates forward f is))
+      go : (d : Option Format) → n.dated ≡ d → RotatesSet (steps_of (ready_of log n c maxage clock anew all)) s q
+      go None none = inl (subst (λ (steps : List Entry). Rotates steps s q) (sym (steps_numbers log n c maxage clock anew all none)) (by_numbers safe none))
+      go (Some f) is = inr (subst (λ (steps : List Entry). RotatesDated steps s q) (sym (steps_dates log n c maxage clock anew all f is)) (by_dates forward f is))
 
 -- ---- the laws
 
@@ -180,11 +180,11 @@ pub family_fits : (clock : Clock) (m : Names) (log : Path) (n : Naming) (c : Cou
     → FitAll m (reverse (steps_of (ready_of log n c maxage clock anew stand.members)))
 family_fits clock m log n c maxage anew stand family start small file dir there free = fits clock log n c maxage anew stand family start small there.named free m file dir there
 
-pub family_is_one : (clock : Clock) (s : LogSet) (c : Count) (maxage : Option ℕ) (anew : Make) (stand : Stand) (p q : Past) (es : List Entry) → IsFamily s.log s.naming → s.naming.start ≤ 999999 → IsCount c → IsJournal p → NoneAttached s q → Made p es q → AreQuiet es
-    → SawFile s.log (reverse es) → Shown s.naming stand.members (reverse es) → what_hinders s.naming c clock stand ≡ [] → has_begun s q ≡ false → IsSafe s q → IsForwardFor clock s q → (world q).now ≡ clock.now.seconds
-    → SomeRule (rules_of q) s.log (λ r. (r.count ≡ c) × (r.maxage ≡ maxage)) → RotatesSet (steps_of (ready_of s.log s.naming c maxage clock anew stand.members)) s q
-family_is_one clock s c maxage anew stand p q es family start small journal attached made quiet saw shown free not_begun safe forward now_is rule =
-    rotates clock s c maxage anew stand p q es family start small journal attached made quiet saw shown free not_begun now_is rule safe forward
+pub family_is_one : (clock : Clock) (s : LogSet) (log : Path) → IsUnplaced s log → IsFamily log s.naming → (c : Count) (maxage : Option ℕ) (anew : Make) (stand : Stand) (p q : Past) (es : List Entry) → IsFamily s.log s.naming → s.naming.start ≤ 999999 → IsCount c → IsJournal p → NoneAttached s q → Made p es q → AreQuiet es
+    → SawFile log (reverse es) → Shown s.naming stand.members (reverse es) → what_hinders s.naming c clock stand ≡ [] → has_begun s q ≡ false → IsSafe s q → IsForwardFor clock s q → (world q).now ≡ clock.now.seconds
+    → SomeRule (rules_of q) s.log (λ r. (r.count ≡ c) × (r.maxage ≡ maxage)) → RotatesSet (steps_of (ready_of log s.naming c maxage clock anew stand.members)) s q
+family_is_one clock s log on there_too c maxage anew stand p q es family start small journal attached made quiet saw shown free not_begun safe forward now_is rule =
+    rotates clock s log on there_too c maxage anew stand p q es family start small journal attached made quiet saw shown free not_begun now_is rule safe forward
 
 pub family_is_aside : (clock : Clock) (s : LogSet) (log : Path) (n : Naming) (c : Count) (maxage : Option ℕ) (anew : Make) (stand : Stand) → IsFamily log n → n.start ≤ 999999 → IsCount c → AreNamed n stand.members → what_hinders n c clock stand ≡ [] → (Meet s.log s.naming log n → ⊥)
     → Each (IsAside s) (steps_of (ready_of log n c maxage clock anew stand.members))

@@ -1,5 +1,6 @@
 pub mod Aged
 pub mod Alike
+pub mod Behind
 pub mod CopyFits
 pub mod DatedRemovals
 pub mod DatedRotating

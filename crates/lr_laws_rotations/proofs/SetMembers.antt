@@ -18,12 +18,14 @@ use Rattle.lr_laws_family.proofs.Stood.{stand_behind}
 use Rattle.lr_laws_rotations.proofs.DatedStands.{is_dated}
 use Rattle.lr_laws_rotations.proofs.Turning.{key_at}
 
-pub set_stands : (s : LogSet) (members : List Member) (p q : Past) (es : List Entry) → IsFamily s.log s.naming → IsJournal p → NoneAttached s q → Made p es q → ChangeNothing es → Shown s.naming members (reverse es) → AreThere s.naming (names (world q)) members
-set_stands s members p q es family journal none made still = stand_behind s.log s.naming members p q es family journal (since_as (IsKeyless s) (IsNoMember s.naming) p q no_member (since_of (IsKeyless s) p q es made none)) made still
-  where
-    clash : (o : Option ℤ) (k : ℤ) → o ≡ Some k → o ≡ None → ⊥
-    clash o k a b = cc
+clash : (o : Option ℤ) (k : ℤ) → o ≡ Some k → o ≡ None → ⊥
+clash o k a b = cc
 
-    no_member : (x : Path) → IsKeyless s x → IsNoMember s.naming x
-    no_member x keyless (inl m) = clash (s.key x) (pos m.1.0) (ap s.key m.1.1.named ∙ key_at s m.1.0 (ap order_of m.0) m.1.1.bound) keyless
-    no_member x keyless (inr d) = clash (s.key x) (stamp_key d.0 d.1) (keyed s (is_dated s d.2.format d.2.dated) x d.0 d.1 d.2) keyless
+-- a path without a key is no member's
+pub keyless_no_member : (s : LogSet) (x : Path) → IsKeyless s x → IsNoMember s.naming x
+keyless_no_member s x keyless (inl m) = clash (s.key x) (pos m.1.0) (ap s.key m.1.1.named ∙ key_at s m.1.0 (ap order_of m.0) m.1.1.bound) keyless
+keyless_no_member s x keyless (inr d) = clash (s.key x) (stamp_key d.0 d.1) (keyed s (is_dated s d.2.format d.2.dated) x d.0 d.1 d.2) keyless
+
+pub set_stands : (s : LogSet) (members : List Member) (p q : Past) (es : List Entry) → IsFamily s.log s.naming → IsJournal p → NoneAttached s q → Made p es q → ChangeNothing es → Shown s.naming members (reverse es) → AreThere s.naming (names (world q)) members
+set_stands s members p q es family journal none made still =
+    stand_behind s.log s.naming members p q es family journal (since_as (IsKeyless s) (IsNoMember s.naming) p q (keyless_no_member s) (since_of (IsKeyless s) p q es made none)) made still

@@ -19,11 +19,11 @@ use Rattle.lr_chain.proofs.DatedSteps.{map_reverse}
 use Rattle.lr_chain.proofs.Either.{ready_numbers, ready_dates}
 use Rattle.lr_laws_rotations.specs.Steps.{unlinks, steps_of}
 
-unlinks_at : (n : Naming) (ks : List ℕ) → unlinks (map (removal_at n) ks) ≡ map (unlink_at n) ks
+pub unlinks_at : (n : Naming) (ks : List ℕ) → unlinks (map (removal_at n) ks) ≡ map (unlink_at n) ks
 unlinks_at n [] = refl
 unlinks_at n (k ∷ ks) = ap (λ (es : List Entry). unlink_at n k ∷ es) (unlinks_at n ks)
 
-moves_at : (n : Naming) (ks : List ℕ) → map move_step (map (move_from n) ks) ≡ map (move_at n) ks
+pub moves_at : (n : Naming) (ks : List ℕ) → map move_step (map (move_from n) ks) ≡ map (move_at n) ks
 moves_at n [] = refl
 moves_at n (k ∷ ks) = ap (λ (es : List Entry). move_at n k ∷ es) (moves_at n ks)
 
@@ -44,7 +44,7 @@ numbered_steps log n c maxage now anew members = all (unlinks_at n (leftovers c 
         ∙ (ap (λ (es : List Entry). ls' ++ (ss' ++ Renames log (path_at n 0) ∷ es)) r
         ∙ ap (λ (es : List Entry). ls' ++ es) (sym (append_assoc ss' (Renames log (path_at n 0) ∷ []) ts'))))
 
-unlinks_of : (xs : List Ranked) → unlinks (map removal_of xs) ≡ map unlink xs
+pub unlinks_of : (xs : List Ranked) → unlinks (map removal_of xs) ≡ map unlink xs
 unlinks_of [] = refl
 unlinks_of (x ∷ xs) = ap (λ (es : List Entry). unlink x ∷ es) (unlinks_of xs)
 

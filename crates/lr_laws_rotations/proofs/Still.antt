@@ -11,8 +11,7 @@ use Rattle.lr_host.specs.Opening.{IsJournal}
 use Rattle.lr_host.specs.Sets.{LogSet, in_set}
 use Rattle.lr_host.specs.Runs.{rules_of, has_begun}
 use Rattle.lr_host.specs.Safe.{IsSafe}
-use Rattle.lr_host.specs.Steady.{IsSteady}
-use Rattle.lr_host.proofs.Steady.{none_attached}
+use Rattle.lr_host.specs.Steady.{NoneAttached}
 use Rattle.lr_host.proofs.Each.{each_reverse, each_as}
 use Rattle.lr_host.specs.Quiet.{IsQuiet, AreQuiet}
 use Rattle.lr_laws.specs.Rotation.{IsAside}
@@ -22,8 +21,8 @@ use Rattle.lr_laws.proofs.Reach.{reach_set}
 quiet_aside : (s : LogSet) (es : List Entry) → AreQuiet es → Each (IsAside s) es
 quiet_aside s es quiet = each_as IsQuiet (IsAside s) es (λ e i. passed_aside s e i.0 i.1) quiet
 
-pub quiet_safe_on : (s : LogSet) (p q : Past) (es : List Entry) → AreQuiet es → IsJournal p → IsSafe s p → Made p (reverse es) q → IsSteady s q → IsSafe s q
-quiet_safe_on s p q es quiet j safe m st = aside_walked s p q (reverse es) j safe m (quiet_aside s (reverse es) (each_reverse IsQuiet es quiet)) (none_attached s q st)
+pub quiet_safe_on : (s : LogSet) (p q : Past) (es : List Entry) → AreQuiet es → IsJournal p → IsSafe s p → Made p (reverse es) q → NoneAttached s q → IsSafe s q
+quiet_safe_on s p q es quiet j safe m none = aside_walked s p q (reverse es) j safe m (quiet_aside s (reverse es) (each_reverse IsQuiet es quiet)) none
 
 -- the run is the same, and has begun no rotation
 pub record IsStill (s : LogSet) (p q : Past) : Type 0 where

@@ -5,18 +5,19 @@ use Rattle.std.proofs.lemmas.List.{reverse-append, append-nil}
 use Rattle.std.proofs.lemmas.Bool.Decides.{nat_tests}
 use Rattle.lr_rules.specs.declared.rule.Count.{Count}
 use Rattle.lr_rules.specs.declared.rule.Count.TheVariants as count
+use Rattle.lr_rules.specs.declared.path.Path.{Path}
 use Rattle.lr_host.specs.declared.thing.Thing.TheVariants as thing
 use Rattle.lr_host.specs.declared.entry.Entry.{Entry}
 use Rattle.lr_host.specs.declared.entry.Entry.TheVariants as entry
 use Rattle.lr_host.specs.World.{Names, put, Past, world, names, names_after}
 use Rattle.lr_host.specs.Fits.{IsFileAt}
 use Rattle.lr_host.specs.Steps.{changes_of}
-use Rattle.lr_host.specs.Sets.{LogSet, Order, Numbered, order, order_of, is_unplaced, IsKeyBy}
+use Rattle.lr_host.specs.Sets.{LogSet, Order, Numbered, order, order_of, IsUnplaced, is_unplaced, IsKeyBy}
 use Rattle.lr_host.specs.Released.{ByAge}
 use Rattle.lr_host.specs.Runs.{rules_of, SomeRule, has_begun}
 use Rattle.lr_host.specs.Safe.{IsSafe}
 use Rattle.lr_host.proofs.Names.{put_other}
-use Rattle.lr_laws.specs.Rotation.{IsPastCount, straight, IsStep, limit_by, limit_after, IsRotation}
+use Rattle.lr_laws.specs.Rotation.{IsPastCount, IsTurn, straight, taken_up, IsStep, limit_by, limit_after, IsRotation}
 use Rattle.lr_laws.specs.Stays.{Rotates}
 use Rattle.lr_laws.proofs.Stated.{ready_first}
 use Rattle.lr_family.specs.Spots.{path_at}
@@ -31,7 +32,7 @@ use Rattle.lr_laws_family.specs.Numbered.{HasName, HaveNext}
 use Rattle.lr_laws_rotations.proofs.Fitting.{Before, unlinked, moved, move_free, log_free, after_one, left_apart, so_standing, above_all, all_below, at_start}
 use Rattle.lr_laws_family.proofs.Numbers.{kept_next, first_named, top_named, next_named, next_at}
 
-pub numbered : (s : LogSet) → IsFamily s.log s.naming → order s ≡ Numbered
+pub numbered : (s : LogSet) {log : Path} → IsFamily log s.naming → order s ≡ Numbered
 numbered s f = ap order_of f.numbered
 
 -- a numbered member's key is its place
@@ -63,7 +64,7 @@ turns_both : (s : LogSet) (p : Past) (limit : ℕ) (m : Names) (xs ys : List Ent
 turns_both s p limit m [] ys a b = b limit
 turns_both s p limit m (x ∷ xs) ys a b = (a.0, turns_both s p (limit_after s limit (x ∷ [])) (names_after m (changes_of (x ∷ []))) xs ys a.1 b)
 
-module _ (s : LogSet) (p : Past) (family : IsFamily s.log s.naming) (c : Count) (rule : SomeRule (rules_of p) s.log (λ r. r.count ≡ c)) where
+module _ (s : LogSet) (p : Past) (log : Path) (on : IsUnplaced s log) (family : IsFamily log s.naming) (c : Count) (rule : SomeRule (rules_of p) s.log (λ r. r.count ≡ c)) where
   abbrev before : Names
   before = names (world p)
 
@@ -77,25 +78,25 @@ module _ (s : LogSet) (p : Past) (family : IsFamily s.log s.naming) (c : Count) 
       le : (k l : ℕ) → nat_le k l ≡ true → k ≤ l
       le k l t = grind (arith, nat_tests)
 
-  unlinks_turn : (m : Names) (limit : ℕ) (ls ks : List ℕ) (rest : List Entry) → Every (HasName s.naming) ls → Every (HasName s.naming) ks → Falls ls → Every (λ l. Every (λ k. k ≢ l) ks) ls → Every (λ l. is_left c l ≡ true) ls → Before s.log s.naming m limit ls ks
-      → ((v : Names) → Before s.log s.naming v limit [] ks → TurnsOn s p limit v rest) → TurnsOn s p limit m (map (unlink_at s.naming) ls ++ rest)
+  unlinks_turn : (m : Names) (limit : ℕ) (ls ks : List ℕ) (rest : List Entry) → Every (HasName s.naming) ls → Every (HasName s.naming) ks → Falls ls → Every (λ l. Every (λ k. k ≢ l) ks) ls → Every (λ l. is_left c l ≡ true) ls → Before log s.naming m limit ls ks
+      → ((v : Names) → Before log s.naming v limit [] ks → TurnsOn s p limit v rest) → TurnsOn s p limit m (map (unlink_at s.naming) ls ++ rest)
   unlinks_turn m limit [] ks rest il ik falls apart may b then = then m b
   unlinks_turn m limit (l ∷ ls) ks rest il ik falls apart may b then = (
     inr (l, key_at s l (numbered s family) il.0, inl (left_may c refl l may.0)),
     unlinks_turn (put m (path_at s.naming l) thing.Nothing) limit ls ks rest il.1 ik falls.1 apart.1 may.1
-        (unlinked s.log s.naming family m limit l ls ks il.0 il.1 ik (every_as (λ k. k < l) (λ k. k ≢ l) ls (λ k lt e. omega (arith, lt, e)) falls.0) apart.0 b) then,
+        (unlinked log s.naming family m limit l ls ks il.0 il.1 ik (every_as (λ k. k < l) (λ k. k ≢ l) ls (λ k lt e. omega (arith, lt, e)) falls.0) apart.0 b) then,
   )
 
-  moves_turn : (m : Names) (limit : ℕ) (ks : List ℕ) (rest : List Entry) → Every (HasName s.naming) ks → Every (λ k. HasName s.naming (k + 1)) ks → Falls ks → Every (λ k. k < limit) ks → Before s.log s.naming m limit [] ks
-      → ((v : Names) (l : ℕ) → Before s.log s.naming v l [] [] → TurnsOn s p l v rest) → TurnsOn s p limit m (map (move_at s.naming) ks ++ rest)
+  moves_turn : (m : Names) (limit : ℕ) (ks : List ℕ) (rest : List Entry) → Every (HasName s.naming) ks → Every (λ k. HasName s.naming (k + 1)) ks → Falls ks → Every (λ k. k < limit) ks → Before log s.naming m limit [] ks
+      → ((v : Names) (l : ℕ) → Before log s.naming v l [] [] → TurnsOn s p l v rest) → TurnsOn s p limit m (map (move_at s.naming) ks ++ rest)
   moves_turn m limit [] rest ik next falls small b then = then m limit b
   moves_turn m limit (k ∷ ks) rest ik next falls small b then = (
     (
-      move_free s.log s.naming family m limit k ks next.0 falls.0 small.0 b,
+      move_free log s.naming family m limit k ks next.0 falls.0 small.0 b,
       inl (k, small.0, key_at s k (numbered s family) ik.0, key_at s (k + 1) (numbered s family) next.0),
     ),
     subst (λ (l : ℕ). TurnsOn s p l after (map (move_at s.naming) ks ++ rest)) (sym at_limit)
-        (moves_turn after k ks rest ik.1 next.1 falls.1 falls.0 (moved s.log s.naming family m limit k ks ik.0 next.0 ik.1 falls.0 small.0 b) then),
+        (moves_turn after k ks rest ik.1 next.1 falls.1 falls.0 (moved log s.naming family m limit k ks ik.0 next.0 ik.1 falls.0 small.0 b) then),
   )
     where
       after : Names
@@ -104,36 +105,45 @@ module _ (s : LogSet) (p : Past) (family : IsFamily s.log s.naming) (c : Count) 
       at_limit : limit_by (s.key (path_at s.naming k)) (is_unplaced s (path_at s.naming k)) limit ≡ k
       at_limit = ap (λ (o : Option ℤ). limit_by o (is_unplaced s (path_at s.naming k)) limit) (key_at s k (numbered s family) ik.0)
 
-  log_turns : (m : Names) (limit : ℕ) → HasName s.naming 0 → Before s.log s.naming m limit [] [] → TurnsOn s p limit m (entry.Renames s.log (path_at s.naming 0) ∷ [])
-  log_turns m limit first b = ((log_free s.log s.naming family m limit first b, inr (straight refl (key_at s 0 (numbered s family) first))), tt)
+  -- from where it stands, or from where it waits
+  turns_so : (m : Names) → IsFileAt m log → HasName s.naming 0 → IsUnplaced s log → IsTurn s m (pos 0) log (path_at s.naming 0)
+  turns_so m file first (inl at_log) = straight at_log (key_at s 0 (numbered s family) first)
+  turns_so m file first (inr waits) = taken_up waits file (key_at s 0 (numbered s family) first)
+
+  log_turns : (m : Names) (limit : ℕ) → HasName s.naming 0 → Before log s.naming m limit [] [] → TurnsOn s p limit m (entry.Renames log (path_at s.naming 0) ∷ [])
+  log_turns m limit first b = ((log_free log s.naming family m limit first b, inr (turns_so m b.log_file first on)), tt)
 
   -- ---- those that go behind them
 
-  -- the member from this place came to the next, by identity
-  abbrev HasCome : Names → ℕ → Type 0
-  HasCome m k = HasName s.naming (suc k) × (m (path_at s.naming (suc k)) ≡ before (path_at s.naming k))
+  -- the member from this place, where the names were b, came to the next, by identity
+  abbrev pub HasCome : Names → Names → ℕ → Type 0
+  HasCome b m k = HasName s.naming (suc k) × (m (path_at s.naming (suc k)) ≡ b (path_at s.naming k))
 
   -- it may go
-  abbrev MayLeave : ℕ → Type 0
-  MayLeave k = (is_left c (suc k) ≡ true) ⊎ ((g : ℕ) → before (path_at s.naming k) ≡ thing.File g → SomeRule (rules_of p) s.log (ByAge p g))
+  abbrev pub MayLeave : Names → ℕ → Type 0
+  MayLeave b k = (is_left c (suc k) ≡ true) ⊎ ((g : ℕ) → b (path_at s.naming k) ≡ thing.File g → SomeRule (rules_of p) s.log (ByAge p g))
 
-  retires_turn : (m : Names) (limit : ℕ) (ks : List ℕ) → HasName s.naming 0 → Falls ks → Every (HasCome m) ks → Every MayLeave ks → TurnsOn s p limit m (map (unlink_at s.naming) (retired c ks))
-  retires_turn m limit [] first falls come may = none (is_left c 0) refl
+  retires_turn : (b m : Names) (limit : ℕ) (ks : List ℕ) → HasName s.naming 0 → Falls ks → Every (HasCome b m) ks → Every (MayLeave b) ks → TurnsOn s p limit m (map (unlink_at s.naming) (retired c ks))
+  retires_turn b m limit [] first falls come may = none (is_left c 0) refl
     where
       none : (b : Bool) → is_left c 0 ≡ b → TurnsOn s p limit m (map (unlink_at s.naming) (cond b (0 ∷ []) []))
       none true e = (inr (0, key_at s 0 (numbered s family) first, inl (left_may c refl 0 e)), tt)
       none false e = tt
-  retires_turn m limit (k ∷ ks) first falls come may = (
+  retires_turn b m limit (k ∷ ks) first falls come may = (
     inr (suc k, key_at s (suc k) (numbered s family) come.0.0, ⊎_elim (λ full. inl (left_may c refl (suc k) full)) (λ old. inr (λ g is. old g (sym come.0.1 ∙ is))) may.0),
-    retires_turn (put m (path_at s.naming (suc k)) thing.Nothing) limit ks first falls.1 (every_both (λ j. j < k) (HasCome m) (HasCome (put m (path_at s.naming (suc k)) thing.Nothing)) ks others falls.0 come.1) may.1,
+    retires_turn b (put m (path_at s.naming (suc k)) thing.Nothing) limit ks first falls.1 (every_both (λ j. j < k) (HasCome b m) (HasCome b (put m (path_at s.naming (suc k)) thing.Nothing)) ks others falls.0 come.1) may.1,
   )
     where
-      others : (j : ℕ) → j < k → HasCome m j → HasCome (put m (path_at s.naming (suc k)) thing.Nothing) j
+      others : (j : ℕ) → j < k → HasCome b m j → HasCome b (put m (path_at s.naming (suc k)) thing.Nothing) j
       others j lt h = (h.0, put_other m (path_at s.naming (suc k)) (path_at s.naming (suc j)) thing.Nothing (λ e. let same : suc j ≡ suc k = places_apart s.naming (suc j) (suc k) h.0 come.0.0 e in omega (arith, same, lt)) ∙ h.1)
+
+  -- behind steps that are done, those that go are steps by themselves, where the names were b before the moves
+  pub retires_alone : (b : Names) (limit : ℕ) (done : List Entry) (ks : List ℕ) → IsRotation s p limit done → HasName s.naming 0 → Falls ks → Every (HasCome b (names_after before (changes_of done))) ks → Every (MayLeave b) ks → IsRotation s p limit (reverse (retire_steps s.naming c ks) ++ done)
+  retires_alone b limit done ks rot first falls come may = turns_behind s p limit done (retire_steps s.naming c ks) rot (retires_turn b (names_after before (changes_of done)) (limit_after s limit done) ks first falls come may)
 
   -- ---- the whole
 
-  module _ (places from : List ℕ) (f : IsFileAt (names (world p)) s.log) (t : AreThere s.naming (names (world p)) places) (next : HaveNext s.naming c places) (going : AreGoing c places from) (may : MayGo s p c from) where
+  module _ (places from : List ℕ) (f : IsFileAt (names (world p)) log) (t : AreThere s.naming (names (world p)) places) (next : HaveNext s.naming c places) (going : AreGoing c places from) (may : MayGo s p c from) where
     falls : Falls places
     falls = falls_all places t.falling
 
@@ -147,19 +157,19 @@ module _ (s : LogSet) (p : Past) (family : IsFamily s.log s.naming) (c : Count) 
     first = first_named s.naming c places next
 
     -- up to the log's rename
-    turn : TurnsOn s p above_all before (leftover_steps s.naming c places ++ turn_steps s.naming c s.log places)
-    turn = unlinks_turn before above_all (leftovers c places) (kept c places) (turn_steps s.naming c s.log places)
+    turn : TurnsOn s p above_all before (leftover_steps s.naming c places ++ turn_steps s.naming c log places)
+    turn = unlinks_turn before above_all (leftovers c places) (kept c places) (turn_steps s.naming c log places)
         (every_filter (HasName s.naming) (is_left c) places named) kept_named (falls_filter (is_left c) places falls) (left_apart c places) (every_passes (is_left c) places)
-        (at_start s.log s.naming before c places f t)
-        (λ v b. moves_turn v above_all (kept c places) (entry.Renames s.log (path_at s.naming 0) ∷ [])
+        (at_start log s.naming before c places f t)
+        (λ v b. moves_turn v above_all (kept c places) (entry.Renames log (path_at s.naming 0) ∷ [])
         kept_named (kept_next s.naming c places next) (falls_filter (λ k. not (is_left c k)) places falls) (all_below s.naming (kept c places) kept_named) b (λ w l b'. log_turns w l first b'))
 
     -- the names behind it
-    abbrev behind : Names
-    behind = run before (leftover_steps s.naming c places ++ turn_steps s.naming c s.log places)
+    abbrev pub behind : Names
+    behind = run before (leftover_steps s.naming c places ++ turn_steps s.naming c log places)
 
-    came : (k : ℕ) → Contains from k → HasCome behind k
-    came k h = (i, so.up k i (stays_below s.log s.naming family.kin family.numbered c k (going.moved k h) n))
+    pub came : (k : ℕ) → Contains from k → HasCome before behind k
+    came k h = (i, so.up k i (stays_below log s.naming family.kin family.numbered c k (going.moved k h) n))
       where
         n : HasName s.naming (k + 1)
         n = next_at s.naming c places next k (going.there k h) (going.moved k h)
@@ -167,22 +177,22 @@ module _ (s : LogSet) (p : Past) (family : IsFamily s.log s.naming) (c : Count) 
         i : HasName s.naming (suc k)
         i = omega (arith, n)
 
-        so : Renamed s.log s.naming family.kin family.numbered c before behind
-        so = renamed_so s.log s.naming family.kin family.numbered before c places (top_named s.naming c places next) falls named (next_named s.naming c places next) (so_standing before s.log s.naming places f t)
+        so : Renamed log s.naming family.kin family.numbered c before behind
+        so = renamed_so log s.naming family.kin family.numbered before c places (top_named s.naming c places next) falls named (next_named s.naming c places next) (so_standing before log s.naming places f t)
 
-    whole : IsRotation s p above_all (reverse (rotation s.naming c s.log places from))
+    whole : IsRotation s p above_all (reverse (rotation s.naming c log places from))
     whole =
-        subst (λ (xs : List Entry). IsRotation s p above_all xs) (append-nil (reverse (rotation s.naming c s.log places from)))
-        (turns_behind s p above_all [] (rotation s.naming c s.log places from) tt
-        (subst (TurnsOn s p above_all before) (append_assoc (leftover_steps s.naming c places) (turn_steps s.naming c s.log places) (retire_steps s.naming c from))
-        (turns_both s p above_all before (leftover_steps s.naming c places ++ turn_steps s.naming c s.log places) (retire_steps s.naming c from) turn
-        (λ l. retires_turn behind l from first (falls_all from going.falling) (every_from (HasCome behind) from came) (every_from MayLeave from may)))))
+        subst (λ (xs : List Entry). IsRotation s p above_all xs) (append-nil (reverse (rotation s.naming c log places from)))
+        (turns_behind s p above_all [] (rotation s.naming c log places from) tt
+        (subst (TurnsOn s p above_all before) (append_assoc (leftover_steps s.naming c places) (turn_steps s.naming c log places) (retire_steps s.naming c from))
+        (turns_both s p above_all before (leftover_steps s.naming c places ++ turn_steps s.naming c log places) (retire_steps s.naming c from) turn
+        (λ l. retires_turn before behind l from first (falls_all from going.falling) (every_from (HasCome before behind) from came) (every_from (MayLeave before) from may)))))
 
-pub is_one : (s : LogSet) (p : Past) (c : Count) (places from : List ℕ) → IsFamily s.log s.naming → IsFileAt (names (world p)) s.log → AreThere s.naming (names (world p)) places → HaveNext s.naming c places → AreGoing c places from → MayGo s p c from
-    → has_begun s p ≡ false → IsSafe s p → SomeRule (rules_of p) s.log (λ r. r.count ≡ c) → Rotates (rotation s.naming c s.log places from) s p
-is_one s p c places from family f t next going may not_begun safe rule = record {
+pub is_one : (s : LogSet) (p : Past) (log : Path) → IsUnplaced s log → (c : Count) (places from : List ℕ) → IsFamily log s.naming → IsFileAt (names (world p)) log → AreThere s.naming (names (world p)) places → HaveNext s.naming c places → AreGoing c places from → MayGo s p c from
+    → has_begun s p ≡ false → IsSafe s p → SomeRule (rules_of p) s.log (λ r. r.count ≡ c) → Rotates (rotation s.naming c log places from) s p
+is_one s p log on c places from family f t next going may not_begun safe rule = record {
   numbered = numbered s family;
   limit = above_all;
   ready = ready_first s p above_all safe (numbered s family) not_begun;
-  rotation = whole s p family c rule places from f t next going may;
+  rotation = whole s p log on family c rule places from f t next going may;
 }

@@ -12,7 +12,7 @@ ghost use Rattle.lr_host.specs.Opening.{IsJournal};
 ghost use Rattle.lr_host.specs.Quiet.{AreQuiet, ChangeNothing};
 ghost use Rattle.lr_host.specs.Runs.{rules_of, SomeRule, has_begun};
 ghost use Rattle.lr_host.specs.Safe.{IsSafe};
-ghost use Rattle.lr_host.specs.Sets.{LogSet};
+ghost use Rattle.lr_host.specs.Sets.{LogSet, IsUnplaced};
 ghost use Rattle.lr_host.specs.Steady.{NoneAttached};
 ghost use Rattle.lr_host.specs.Steps.{FitAll};
 ghost use Rattle.lr_host.specs.Told.{Each, Made};
@@ -49,14 +49,15 @@ pub fn seen_rotation_fits()
 /// Behind looks of a run that saw the log and its members, where the run has begun no rotation of the set, nothing hinders
 /// one, and no writer was attached to a member, they are those of one rotation of the set; of dates where the set's moments
 /// haven't gone ahead of the clock's stamp. What goes is what a rule of the log lets go by this count and by this age, before
-/// the run's moment, which is the clock's.
+/// the run's moment, which is the clock's. What is renamed is the log, or a file where the log waits that was set aside.
 pub fn rotation_is_one()
-    ensures { (clock : Clock) (s : LogSet) (c : Count) (maxage : Option ℕ) (anew : Make) (stand : Stand) (p q : Past)
-        (es : List Entry) → IsFamily s.log s.naming → s.naming.start ≤ 999999 → IsCount c → IsJournal p → NoneAttached s q
-        → Made p es q → AreQuiet es → SawFile s.log (reverse es) → Shown s.naming stand.members (reverse es)
+    ensures { (clock : Clock) (s : LogSet) (log : Path) → IsUnplaced s log → IsFamily log s.naming → (c : Count)
+        (maxage : Option ℕ) (anew : Make) (stand : Stand) (p q : Past) (es : List Entry) → IsFamily s.log s.naming
+        → s.naming.start ≤ 999999 → IsCount c → IsJournal p → NoneAttached s q → Made p es q → AreQuiet es
+        → SawFile log (reverse es) → Shown s.naming stand.members (reverse es)
         → what_hinders s.naming c clock stand ≡ [] → has_begun s q ≡ false → IsSafe s q → IsForwardFor clock s q
         → (world q).now ≡ clock.now.seconds → SomeRule (rules_of q) s.log (λ r. (r.count ≡ c) × (r.maxage ≡ maxage))
-        → RotatesSet (steps_of (ready_of s.log s.naming c maxage clock anew stand.members)) s q }
+        → RotatesSet (steps_of (ready_of log s.naming c maxage clock anew stand.members)) s q }
 {}
 
 /// They lie aside of each set that the log's doesn't meet.

@@ -1,5 +1,5 @@
 -- What is done to other logs is beside a set, and outside of a family.
-use Rattle.std.proofs.Common.{◌≡◌, ◌≢◌, inl, inr, ⊎_elim, ℕ, Bool, true, false, cond, bytes_eq, refl, sym, ◌∙◌, subst, Option, Some, None, List, [], ◌∷◌, ◌++◌}
+use Rattle.std.proofs.Common.{◌≡◌, ◌≢◌, inl, inr, ⊎_elim, ℕ, Bool, true, false, cond, bytes_eq, refl, sym, ◌∙◌, ap, subst, Option, Some, None, List, [], ◌∷◌, ◌++◌}
 use Rattle.std.specs.Prelude.{codes}
 use Rattle.std.specs.List.{flat_map}
 use Rattle.std.proofs.lemmas.List.Elements.{All-cons, All-nil}
@@ -51,14 +51,25 @@ no_own_out s x none = go (in_reach s x) refl
 own_dir_out : (s : LogSet) (t : Target) (x : Path) → t.log ≡ s.log → t.naming ≡ s.naming → HasDir t → IsItsDir t x → in_reach s x ≡ false
 own_dir_out s t x log_is naming_is h d = no_own_out s x (λ own. (h x d.0 d.1).1 (subst (λ (l : Path). IsOwnName l t.naming x) (sym log_is) (subst (λ (n : Naming). IsOwnName s.log n x) (sym naming_is) own)))
 
--- where the log isn't copied, its directory may be made, and it is made anew, and nothing more
-also_beside : (s : LogSet) (t : Target) (e : Entry) → t.log ≡ s.log → t.naming ≡ s.naming → HasDir t → t.job ≡ None → AlsoDoes t e → IsBesideSet s e
-also_beside s t (entry.MakesDir x mode) log_is naming_is h none d = inl (tt, own_dir_out s t x log_is naming_is h d)
-also_beside s t (entry.Makes x mode) log_is naming_is h none (inl is) = inr (is ∙ log_is)
-also_beside s t (entry.Makes x mode) log_is naming_is h none (inr p) = absurd (no_job t.job p.0 p.1 none)
-also_beside s t (entry.Appends x bytes) log_is naming_is h none p = absurd (no_job t.job p.0 p.1 none)
-also_beside s t (entry.Truncates x) log_is naming_is h none p = absurd (no_job t.job p.0.0 p.0.1 none)
-also_beside s t _ log_is naming_is h none p = absurd p
+-- what its copy does besides lies outside of the set: no path of a part file is one that the set reaches, and no log is emptied
+abbrev pub CopiesOutside : LogSet → Target → Type 0
+CopiesOutside s t = (job : Job) → t.job ≡ Some job → (in_reach s job.part ≡ false) × (job.cut ≡ false)
+
+-- where there is none, nothing is
+pub none_copies : (s : LogSet) (t : Target) → t.job ≡ None → CopiesOutside s t
+none_copies s t none job is = absurd (no_job t.job job is none)
+
+-- then its directory may be made, and it is made anew, and a part file is written, and nothing more
+also_beside : (s : LogSet) (t : Target) (e : Entry) → t.log ≡ s.log → t.naming ≡ s.naming → HasDir t → CopiesOutside s t → AlsoDoes t e → IsBesideSet s e
+also_beside s t (entry.MakesDir x mode) log_is naming_is h out d = inl (tt, own_dir_out s t x log_is naming_is h d)
+also_beside s t (entry.Makes x mode) log_is naming_is h out (inl is) = inr (is ∙ log_is)
+also_beside s t (entry.Makes x mode) log_is naming_is h out (inr p) = inl (ap (in_reach s) p.2 ∙ (out p.0 p.1).0, tt)
+also_beside s t (entry.Appends x bytes) log_is naming_is h out p = inl (ap (in_reach s) p.2 ∙ (out p.0 p.1).0, tt)
+also_beside s t (entry.Truncates x) log_is naming_is h out p = absurd (clash p.0.0.cut p.0.2 (out p.0.0 p.0.1).1)
+  where
+    clash : (b : Bool) → b ≡ true → b ≡ false → ⊥
+    clash b x y = cc
+also_beside s t _ log_is naming_is h out p = absurd p
 
 no_name_out : (s : LogSet) (x : Path) → (IsName s.log s.naming x → ⊥) → in_reach s x ≡ false
 no_name_out s x none = no_name_elsewhere s (entry.Unlinks x) (All-cons (λ y. IsName s.log s.naming y → ⊥) x [] none (All-nil (λ y. IsName s.log s.naming y → ⊥)))
@@ -80,10 +91,10 @@ module _ (s : LogSet) (state : Path) (no_state : IsName s.log s.naming state →
   others_beside (t ∷ ts) h apart e (inl i) = any_beside s t e h.0 (apart t (inl refl) i.0) i.1
   others_beside (t ∷ ts) h apart e (inr i) = others_beside ts h.1 (λ x j. apart x (inr j)) e i
 
-  pub between_beside : (t : Target) (ts : List Target) (e : Entry) → t.log ≡ s.log → t.naming ≡ s.naming → HasDir t → t.job ≡ None → HaveNames ts → ((x : Target) → IsIn x ts → x.log ≢ s.log → Meet s.log s.naming x.log x.naming → ⊥) → StandsBetween state t ts e → IsBesideSet s e
-  between_beside t ts e same naming_is dir none h apart (inl o) = inl (others_beside ts h apart e (subst (λ (x : Path). IsOfOther x ts e) same o))
-  between_beside t ts e same naming_is dir none h apart (inr (inl o)) = inl (state_beside e o)
-  between_beside t ts e same naming_is dir none h apart (inr (inr also)) = also_beside s t e same naming_is dir none also
+  pub between_beside : (t : Target) (ts : List Target) (e : Entry) → t.log ≡ s.log → t.naming ≡ s.naming → HasDir t → CopiesOutside s t → HaveNames ts → ((x : Target) → IsIn x ts → x.log ≢ s.log → Meet s.log s.naming x.log x.naming → ⊥) → StandsBetween state t ts e → IsBesideSet s e
+  between_beside t ts e same naming_is dir out h apart (inl o) = inl (others_beside ts h apart e (subst (λ (x : Path). IsOfOther x ts e) same o))
+  between_beside t ts e same naming_is dir out h apart (inr (inl o)) = inl (state_beside e o)
+  between_beside t ts e same naming_is dir out h apart (inr (inr also)) = also_beside s t e same naming_is dir out also
 
 -- ---- outside of a family
 

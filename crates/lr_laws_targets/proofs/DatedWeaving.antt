@@ -13,7 +13,7 @@ use Rattle.lr_host.proofs.Left.{changes_filter}
 use Rattle.lr_laws.proofs.Calls.{passed_aside}
 use Rattle.std.specs.Prelude.{filter}
 use Rattle.lr_laws.specs.Rotation.{IsAside, LogFits}
-use Rattle.lr_laws.specs.DatedRotation.{has_turned, IsDatedStep, IsDatedRotation}
+use Rattle.lr_laws.specs.DatedRotation.{turned_behind, IsDatedStep, IsDatedRotationBy}
 use Rattle.lr_laws.proofs.DatedAside.{aside_turned}
 use Rattle.lr_laws_family.specs.Beside.{MakesAt}
 use Rattle.lr_laws_family.specs.Weave.{Weave, none, own, other}
@@ -59,9 +59,9 @@ own_alike s p newest n b os es _ st alike = alike
 
 -- ---- whether a member got a file
 
-own_turned : (s : LogSet) (os es : List Entry) (e : Entry) → has_turned s os ≡ has_turned s es → has_turned s (e ∷ os) ≡ has_turned s (e ∷ es)
-own_turned s os es (Renames from to) same = ap (λ (b : Bool). is_some (s.key to) || b) same
-own_turned s os es _ same = same
+own_turned : (s : LogSet) (first : Bool) (os es : List Entry) (e : Entry) → turned_behind s first os ≡ turned_behind s first es → turned_behind s first (e ∷ os) ≡ turned_behind s first (e ∷ es)
+own_turned s first os es (Renames from to) same = ap (λ (b : Bool). is_some (s.key to) || b) same
+own_turned s first os es _ same = same
 
 -- ---- a rotation with others between its steps
 
@@ -82,16 +82,16 @@ step_as s p newest b b' n n' (Unlinks x) same alike (inr (turned, k, is, inr old
 step_as s p newest b b' n n' (Makes x mode) same alike st = st
 step_as s p newest b b' n n' _ same alike st = absurd st
 
-pub record IsDatedWoven (s : LogSet) (p : Past) (newest : ℤ) (os es : List Entry) : Type 0 where
-  pub rotation : IsDatedRotation s p newest es
+pub record IsDatedWoven (s : LogSet) (p : Past) (newest : ℤ) (first : Bool) (os es : List Entry) : Type 0 where
+  pub rotation : IsDatedRotationBy s p newest first es
   pub fits : LogFits s (names (world p)) es
-  pub turned : has_turned s os ≡ has_turned s es
+  pub turned : turned_behind s first os ≡ turned_behind s first es
   pub alike : AreAlike s (names_after (names (world p)) (changes_of os)) (names_after (names (world p)) (changes_of es))
 
 -- the making of the log is a step of the rotation, and changes no name that the rotation asks for
-anew_more : (s : LogSet) (p : Past) (newest : ℤ) (os es : List Entry) (e : Entry) → MakesAt s.log e → IsDatedWoven s p newest os es → IsDatedWoven s p newest os (e ∷ es)
-anew_more s p newest os es (Makes x mode) is k = record { rotation = (k.rotation, inr is); fits = (k.fits, λ to renames. absurd (cc)); turned = k.turned; alike = k.alike }
-anew_more s p newest os es _ is k = absurd is
+anew_more : (s : LogSet) (p : Past) (newest : ℤ) (first : Bool) (os es : List Entry) (e : Entry) → MakesAt s.log e → IsDatedWoven s p newest first os es → IsDatedWoven s p newest first os (e ∷ es)
+anew_more s p newest first os es (Makes x mode) is k = record { rotation = (k.rotation, inr is); fits = (k.fits, λ to renames. absurd (cc)); turned = k.turned; alike = k.alike }
+anew_more s p newest first os es _ is k = absurd is
 
 -- what lies apart renames no log
 none_to : (s : LogSet) (e : Entry) → IsApart s e → (to : Path) → e ≡ Renames s.log to → ⊥
@@ -100,66 +100,66 @@ none_to s e out to is = clash (in_reach s s.log) (logged s) (subst (IsApart s) i
     clash : (b : Bool) → b ≡ true → b ≡ false → ⊥
     clash b p q = cc
 
-apart_more : (s : LogSet) (p : Past) (newest : ℤ) (os es : List Entry) (e : Entry) → IsApart s e → IsDatedWoven s p newest os es → IsDatedWoven s p newest os (e ∷ es)
-apart_more s p newest os es e out k = record {
+apart_more : (s : LogSet) (p : Past) (newest : ℤ) (first : Bool) (os es : List Entry) (e : Entry) → IsApart s e → IsDatedWoven s p newest first os es → IsDatedWoven s p newest first os (e ∷ es)
+apart_more s p newest first os es e out k = record {
   rotation = (k.rotation, inl (apart_aside s e out));
   fits = (k.fits, λ to is. absurd (none_to s e out to is));
-  turned = k.turned ∙ sym (aside_turned s false e es (apart_aside s e out));
+  turned = k.turned ∙ sym (aside_turned s first e es (apart_aside s e out));
   alike = λ y i. k.alike y i ∙ apart_alike s (names (world p)) es e out y i;
 }
 
-pub dated_woven : (s : LogSet) (p : Past) (newest : ℤ) (os es : List Entry) → Weave (IsApartOrMakes s) os es → IsDatedRotation s p newest os → LogFits s (names (world p)) os → IsDatedWoven s p newest os es
-dated_woven s p newest _ _ none rot fit = record { rotation = tt; fits = tt; turned = refl; alike = λ y i. refl }
-dated_woven s p newest _ _ (own {steps = os} {all = es} e w) rot fit = more (dated_woven s p newest os es w rot.0 fit.0)
+pub dated_woven : (s : LogSet) (p : Past) (newest : ℤ) (first : Bool) (os es : List Entry) → Weave (IsApartOrMakes s) os es → IsDatedRotationBy s p newest first os → LogFits s (names (world p)) os → IsDatedWoven s p newest first os es
+dated_woven s p newest first _ _ none rot fit = record { rotation = tt; fits = tt; turned = refl; alike = λ y i. refl }
+dated_woven s p newest first _ _ (own {steps = os} {all = es} e w) rot fit = more (dated_woven s p newest first os es w rot.0 fit.0)
   where
     n : Names
     n = names (world p)
 
-    step : (k : IsDatedWoven s p newest os es) → IsAside s e ⊎ IsDatedStep s p newest (names_after n (changes_of os)) (has_turned s os) e → IsAside s e ⊎ IsDatedStep s p newest (names_after n (changes_of es)) (has_turned s es) e
+    step : (k : IsDatedWoven s p newest first os es) → IsAside s e ⊎ IsDatedStep s p newest (names_after n (changes_of os)) (turned_behind s first os) e → IsAside s e ⊎ IsDatedStep s p newest (names_after n (changes_of es)) (turned_behind s first es) e
     step k (inl out) = inl out
-    step k (inr st) = inr (step_as s p newest (has_turned s os) (has_turned s es) (names_after n (changes_of os)) (names_after n (changes_of es)) e k.turned k.alike st)
+    step k (inr st) = inr (step_as s p newest (turned_behind s first os) (turned_behind s first es) (names_after n (changes_of os)) (names_after n (changes_of es)) e k.turned k.alike st)
 
-    more : IsDatedWoven s p newest os es → IsDatedWoven s p newest (e ∷ os) (e ∷ es)
+    more : IsDatedWoven s p newest first os es → IsDatedWoven s p newest first (e ∷ os) (e ∷ es)
     more k = record {
       rotation = (k.rotation, step k rot.1);
       fits = (k.fits, λ to is. let f = fit.1 to is in (f.0, sym (k.alike s.log (logged s)) ∙ f.1));
-      turned = own_turned s os es e k.turned;
-      alike = own_alike s p newest n (has_turned s os) os es e rot.1 k.alike;
+      turned = own_turned s first os es e k.turned;
+      alike = own_alike s p newest n (turned_behind s first os) os es e rot.1 k.alike;
     }
-dated_woven s p newest os _ (other {all = es} e (inr anew) w) rot fit = anew_more s p newest os es e anew (dated_woven s p newest os es w rot fit)
-dated_woven s p newest os _ (other {all = es} e (inl out) w) rot fit = apart_more s p newest os es e out (dated_woven s p newest os es w rot fit)
+dated_woven s p newest first os _ (other {all = es} e (inr anew) w) rot fit = anew_more s p newest first os es e anew (dated_woven s p newest first os es w rot fit)
+dated_woven s p newest first os _ (other {all = es} e (inl out) w) rot fit = apart_more s p newest first os es e out (dated_woven s p newest first os es w rot fit)
 
 -- ---- the entries of the walk are the tool's
 
-turned_filter : (s : LogSet) (es : List Entry) → has_turned s (filter is_change es) ≡ has_turned s es
-turned_filter s [] = refl
-turned_filter s (e ∷ es) = go (is_change e) refl (turned_filter s es)
+pub turned_filter : (s : LogSet) (first : Bool) (es : List Entry) → turned_behind s first (filter is_change es) ≡ turned_behind s first es
+turned_filter s first [] = refl
+turned_filter s first (e ∷ es) = go (is_change e) refl (turned_filter s first es)
   where
-    over : (e : Entry) → has_turned s (filter is_change es) ≡ has_turned s es → has_turned s (e ∷ filter is_change es) ≡ has_turned s (e ∷ es)
+    over : (e : Entry) → turned_behind s first (filter is_change es) ≡ turned_behind s first es → turned_behind s first (e ∷ filter is_change es) ≡ turned_behind s first (e ∷ es)
     over (entry.Renames from to) r = ap (λ (b : Bool). is_some (s.key to) || b) r
     over _ r = r
 
-    passed : (e : Entry) → is_change e ≡ false → has_turned s (e ∷ es) ≡ has_turned s es
+    passed : (e : Entry) → is_change e ≡ false → turned_behind s first (e ∷ es) ≡ turned_behind s first es
     passed (entry.Renames from to) h = absurd (cc)
     passed _ h = refl
 
-    go : (b : Bool) → is_change e ≡ b → has_turned s (filter is_change es) ≡ has_turned s es → has_turned s (cond b (e ∷ filter is_change es) (filter is_change es)) ≡ has_turned s (e ∷ es)
+    go : (b : Bool) → is_change e ≡ b → turned_behind s first (filter is_change es) ≡ turned_behind s first es → turned_behind s first (cond b (e ∷ filter is_change es) (filter is_change es)) ≡ turned_behind s first (e ∷ es)
     go true h r = over e r
     go false h r = r ∙ sym (passed e h)
 
-pub rotation_filter : (s : LogSet) (newest : ℤ) (p q : Past) (es : List Entry) → Made p es q → IsDatedRotation s p newest (filter is_change es) → IsDatedRotation s p newest es
-rotation_filter s newest p _ _ at_first r = tt
-rotation_filter s newest p _ es (by_writer {q = q} m i f) r = rotation_filter s newest p q es m r
-rotation_filter s newest p _ _ (by_tool {es = es} {q = q} {e = e} m i f) r = go (rotation_filter s newest p q es m) (is_change e) refl r
+pub rotation_filter : (s : LogSet) (newest : ℤ) (first : Bool) (p q : Past) (es : List Entry) → Made p es q → IsDatedRotationBy s p newest first (filter is_change es) → IsDatedRotationBy s p newest first es
+rotation_filter s newest first p _ _ at_first r = tt
+rotation_filter s newest first p _ es (by_writer {q = q} m i f) r = rotation_filter s newest first p q es m r
+rotation_filter s newest first p _ _ (by_tool {es = es} {q = q} {e = e} m i f) r = go (rotation_filter s newest first p q es m) (is_change e) refl r
   where
-    go : (IsDatedRotation s p newest (filter is_change es) → IsDatedRotation s p newest es) → (b : Bool) → is_change e ≡ b → IsDatedRotation s p newest (cond b (e ∷ filter is_change es) (filter is_change es)) → IsDatedRotation s p newest (e ∷ es)
+    go : (IsDatedRotationBy s p newest first (filter is_change es) → IsDatedRotationBy s p newest first es) → (b : Bool) → is_change e ≡ b → IsDatedRotationBy s p newest first (cond b (e ∷ filter is_change es) (filter is_change es)) → IsDatedRotationBy s p newest first (e ∷ es)
     go further true h r = (
       further r.0,
-      subst (λ (b : Bool). IsAside s e ⊎ IsDatedStep s p newest (names_after (names (world p)) (changes_of es)) b e) (turned_filter s es)
-          (subst (λ (cs : List Change). IsAside s e ⊎ IsDatedStep s p newest (names_after (names (world p)) cs) (has_turned s (filter is_change es)) e) (changes_filter es) r.1),
+      subst (λ (b : Bool). IsAside s e ⊎ IsDatedStep s p newest (names_after (names (world p)) (changes_of es)) b e) (turned_filter s first es)
+          (subst (λ (cs : List Change). IsAside s e ⊎ IsDatedStep s p newest (names_after (names (world p)) cs) (turned_behind s first (filter is_change es)) e) (changes_filter es) r.1),
     )
     go further false h r = (further r, inl (passed_aside s e i h))
 
-pub later_rotation : (s : LogSet) (p : Past) (newest : ℤ) (new es : List Entry) → IsDatedRotation s p newest (new ++ es) → IsDatedRotation s p newest es
-later_rotation s p newest [] es r = r
-later_rotation s p newest (e ∷ new) es r = later_rotation s p newest new es r.0
+pub later_rotation : (s : LogSet) (p : Past) (newest : ℤ) (first : Bool) (new es : List Entry) → IsDatedRotationBy s p newest first (new ++ es) → IsDatedRotationBy s p newest first es
+later_rotation s p newest first [] es r = r
+later_rotation s p newest first (e ∷ new) es r = later_rotation s p newest first new es r.0

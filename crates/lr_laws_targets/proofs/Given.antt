@@ -11,7 +11,6 @@ use Rattle.lr_rules.specs.declared.rule.Count.TheVariants as count
 use Rattle.lr_rules.specs.declared.rule.Naming.{Naming}
 use Rattle.lr_rules.specs.declared.rule.Rule.{Rule}
 use Rattle.lr_rules.specs.declared.rule.Way.{Way}
-use Rattle.lr_rules.specs.declared.rule.Way.TheVariants.{Rename}
 use Rattle.lr_rules.specs.declared.rules.Rules.{Rules}
 use Rattle.lr_rules.specs.Limits.{meets_limits, is_count, is_small, is_criterion, is_log_word, or_none, is_size}
 use Rattle.lr_rules.specs.declared.rule.Format.{Format}
@@ -25,7 +24,7 @@ use Rattle.lr_host.specs.Fits.{IsFileAt}
 use Rattle.lr_host.specs.Quiet.{IsQuiet, AreQuiet}
 use Rattle.lr_host.specs.Sets.{LogSet, Order, Numbered, Dated, order, IsKeyBy, order_of}
 use Rattle.lr_host.specs.Runs.{rules_of, SomeRule, StoodAtStart}
-use Rattle.lr_host.specs.Steady.{IsSteadyAt, IsPassedOver}
+use Rattle.lr_host.specs.Steady.{IsSteadyAtBy, IsPassedOver}
 use Rattle.lr_host.specs.Told.{Each, IsWriters, Made, at_first, by_writer, by_tool}
 use Rattle.lr_host.specs.Lists.{IsIn}
 use Rattle.lr_host.proofs.Each.{each_first, each_reverse}
@@ -38,7 +37,7 @@ use Rattle.lr_family.specs.Parts.{IsDated, IsMember}
 use Rattle.lr_chain.specs.Ready.{IsCount}
 use Rattle.lr_laws.proofs.AsideName.{no_numbered, no_dated}
 use Rattle.lr_laws_family.specs.Members.{IsNoMember}
-use Rattle.lr_laws_targets.specs.Target.{Gives, IsGiven, Target, StaysBefore, GoesBy}
+use Rattle.lr_laws_targets.specs.Target.{Gives, IsGiven, Target, GoesBy}
 use Rattle.lr_laws_family.specs.Weave.{Among}
 
 -- what holds of all holds of each of them
@@ -119,7 +118,7 @@ stamp_in s x dated some = go (s.key x) refl
     go None e = absurd (some e)
     go (Some k) e = let h = (keys x k).0 e in (h.0, h.1, h.3)
 
-member_in : (s : LogSet) (x : Path) → (s.key x ≡ None → ⊥) → IsMember s.naming x
+pub member_in : (s : LogSet) (x : Path) → (s.key x ≡ None → ⊥) → IsMember s.naming x
 member_in s x some = go s.naming.dated refl
   where
     go : (d : Option Format) → s.naming.dated ≡ d → IsMember s.naming x
@@ -147,9 +146,9 @@ journal_before p _ es (by_writer {q = q} m i f) j = journal_before p q es m j.0
 journal_before p _ _ (by_tool {es = es} {q = q} m i f) j = journal_before p q es m j.0
 
 -- a set of another log, that is steady where the log names a file, doesn't meet the log's
-pub no_meet : (s : LogSet) (u v : Past) (rules : List Rule) (looks : List Entry) (x : Target) → AreQuiet looks → Made u (reverse looks) v → ((y : Path) → StoodAtStart y u → IsFileAt (names (world u)) y)
-    → IsJournal v → IsSteadyAt s v → rules_of v ≡ rules → IsGiven rules looks x → IsFileAt (names (world v)) x.log → x.log ≢ s.log → Meet s.log s.naming x.log x.naming → ⊥
-no_meet s u v rules looks x quiet m begun journal steady is g file other meet =
+pub no_meet : (way : Way) (s : LogSet) (u v : Past) (rules : List Rule) (looks : List Entry) (x : Target) → AreQuiet looks → Made u (reverse looks) v → ((y : Path) → StoodAtStart y u → IsFileAt (names (world u)) y)
+    → IsJournal v → IsSteadyAtBy way s v → rules_of v ≡ rules → IsGiven rules looks x → IsFileAt (names (world v)) x.log → x.log ≢ s.log → Meet s.log s.naming x.log x.naming → ⊥
+no_meet way s u v rules looks x quiet m begun journal steady is g file other meet =
     none.4.1 (subst (λ (k : Naming). IsMember k x.log) (sym (named none.1 (none.0, none.2, none.3) none.4.0)) member)
   where
     t : Stretch u (Gives rules g.rule g.word x.log)
@@ -171,8 +170,8 @@ no_meet s u v rules looks x quiet m begun journal steady is g file other meet =
 
     -- each rule that gives the set's log names its members as the set does
     named : (r : Rule) → Contains rules r → RuleGives r s.log → naming_of r s.log ≡ s.naming
-    named r among gives_it = (all_in (λ (q : Rule). RuleGives q s.log → (q.way ≡ Rename) × (naming_of q s.log ≡ s.naming)) rules r
-        (subst (All (λ (q : Rule). RuleGives q s.log → (q.way ≡ Rename) × (naming_of q s.log ≡ s.naming))) is steady.rules) among gives_it).1
+    named r among gives_it = (all_in (λ (q : Rule). RuleGives q s.log → (q.way ≡ way) × (naming_of q s.log ≡ s.naming)) rules r
+        (subst (All (λ (q : Rule). RuleGives q s.log → (q.way ≡ way) × (naming_of q s.log ≡ s.naming))) is steady.rules) among gives_it).1
 
     naming : naming_of g.rule s.log ≡ s.naming
     naming = named g.rule g.among (g.has.0, g.word, g.has.1, g.has.2, wild.1)
@@ -187,21 +186,21 @@ no_meet s u v rules looks x quiet m begun journal steady is g file other meet =
     none = t.is.alone t.from t.to (reverse t.part) t.made (made_journal u t.from (reverse t.before) t.ahead (journal_before u v (reverse looks) m journal)) (sym (reverse-reverse t.part)) wild.0 s.log (λ e. other (sym e)) s.log_path wild.1 stood
         (subst (λ (k : Naming). IsMember k x.log) (sym naming) member)
 
--- where the set is steady, the rule that gives its log rotates it by rename and gives it the set's naming
-of_steady : (s : LogSet) (v : Past) (rules : List Rule) (looks : List Entry) (x : Target) → IsSteadyAt s v → rules_of v ≡ rules → (g : IsGiven rules looks x) → RuleGives g.rule x.log → s.log ≡ x.log
-    → (g.rule.way ≡ Rename) × (naming_of g.rule s.log ≡ s.naming)
-of_steady s v rules looks x steady is g h same =
-    all_in (λ (r : Rule). RuleGives r s.log → (r.way ≡ Rename) × (naming_of r s.log ≡ s.naming)) rules g.rule
-    (subst (All (λ (r : Rule). RuleGives r s.log → (r.way ≡ Rename) × (naming_of r s.log ≡ s.naming))) is steady.rules) g.among
+-- where the set is steady, the rule that gives its log rotates it in this way and gives it the set's naming
+of_steady : (way : Way) (s : LogSet) (v : Past) (rules : List Rule) (looks : List Entry) (x : Target) → IsSteadyAtBy way s v → rules_of v ≡ rules → (g : IsGiven rules looks x) → RuleGives g.rule x.log → s.log ≡ x.log
+    → (g.rule.way ≡ way) × (naming_of g.rule s.log ≡ s.naming)
+of_steady way s v rules looks x steady is g h same =
+    all_in (λ (r : Rule). RuleGives r s.log → (r.way ≡ way) × (naming_of r s.log ≡ s.naming)) rules g.rule
+    (subst (All (λ (r : Rule). RuleGives r s.log → (r.way ≡ way) × (naming_of r s.log ≡ s.naming))) is steady.rules) g.among
     (subst (λ (y : Path). RuleGives g.rule y) (sym same) h)
 
 -- the rule gives the set of its log the naming that the set has
-pub naming_same : (s : LogSet) (v : Past) (rules : List Rule) (looks : List Entry) (x : Target) → IsSteadyAt s v → rules_of v ≡ rules → (g : IsGiven rules looks x) → RuleGives g.rule x.log → s.log ≡ x.log → s.naming ≡ x.naming
-naming_same s v rules looks x steady is g h same = sym (of_steady s v rules looks x steady is g h same).1 ∙ (ap (naming_of g.rule) same ∙ g.naming_is)
+pub naming_same : (way : Way) (s : LogSet) (v : Past) (rules : List Rule) (looks : List Entry) (x : Target) → IsSteadyAtBy way s v → rules_of v ≡ rules → (g : IsGiven rules looks x) → RuleGives g.rule x.log → s.log ≡ x.log → s.naming ≡ x.naming
+naming_same way s v rules looks x steady is g h same = sym (of_steady way s v rules looks x steady is g h same).1 ∙ (ap (naming_of g.rule) same ∙ g.naming_is)
 
--- and its log stays where it is up to its rename
-pub no_copy : (s : LogSet) (v : Past) (rules : List Rule) (looks : List Entry) (x : Target) → IsSteadyAt s v → rules_of v ≡ rules → (g : IsGiven rules looks x) → RuleGives g.rule x.log → s.log ≡ x.log → StaysBefore x × (x.job ≡ None)
-no_copy s v rules looks x steady is g h same = subst (λ (w : Way). GoesBy w x) (of_steady s v rules looks x steady is g h same).0 g.way_is
+-- and its log goes this way
+pub goes_by : (way : Way) (s : LogSet) (v : Past) (rules : List Rule) (looks : List Entry) (x : Target) → IsSteadyAtBy way s v → rules_of v ≡ rules → (g : IsGiven rules looks x) → RuleGives g.rule x.log → s.log ≡ x.log → GoesBy way x
+goes_by way s v rules looks x steady is g h same = subst (λ (w : Way). GoesBy w x) (of_steady way s v rules looks x steady is g h same).0 g.way_is
 
 -- what the rule says of the log, some rule of the run does
 pub by_rule : (P : Rule → Type 0) (v : Past) (rules : List Rule) (looks : List Entry) (x : Target) → rules_of v ≡ rules → (g : IsGiven rules looks x) → RuleGives g.rule x.log → P g.rule → SomeRule (rules_of v) x.log P

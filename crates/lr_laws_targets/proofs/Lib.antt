@@ -1,3 +1,4 @@
+pub mod AsideSafety
 pub mod Beside
 pub mod CallsFit
 pub mod DatedWeaving
@@ -11,10 +12,13 @@ pub mod Own
 pub mod OwnSafety
 pub mod PartFile
 pub mod Plan
+pub mod Reached
 pub mod Rotating
 pub mod RunSafety
 pub mod Safety
 pub mod Shapes
+pub mod Splitting
+pub mod Stretches
 pub mod Waiting
 pub mod Way
 pub mod Whole

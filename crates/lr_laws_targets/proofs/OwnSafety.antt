@@ -1,11 +1,12 @@
 -- The set of a log stays safe where a run rotates the log behind all its looks, with others between its steps.
-use Rattle.std.proofs.Common.{◌≡◌, ◌≤◌, ⊎_elim, sym, ◌∙◌, ap, subst, append_assoc, None, List, [], ◌∷◌, ◌++◌, map, reverse, append-nil}
+use Rattle.std.proofs.Common.{◌≡◌, ◌≤◌, ⊎_elim, false, sym, ◌∙◌, ap, subst, append_assoc, None, List, [], ◌∷◌, ◌++◌, map, reverse, append-nil}
 use Rattle.std.specs.Prelude.{filter, All}
 use Rattle.std.proofs.lemmas.List.{reverse-append, reverse-reverse}
 use Rattle.std.proofs.lemmas.List.Elements.{All-head, All-tail}
 use Rattle.lr_rules.specs.declared.clock.Clock.{Clock}
 use Rattle.lr_rules.specs.declared.path.Path.{Path}
 use Rattle.lr_rules.specs.declared.rule.Naming.{Naming}
+use Rattle.lr_rules.specs.declared.rule.Way.{Way}
 use Rattle.lr_rules.specs.declared.rules.Rules.{Rules}
 use Rattle.lr_host.specs.declared.entry.Entry.{Entry}
 use Rattle.lr_host.specs.declared.entry.Entry.TheVariants.{Renames}
@@ -13,7 +14,7 @@ use Rattle.lr_host.specs.Fits.{IsFileAt}
 use Rattle.lr_host.specs.Quiet.{IsQuiet, AreQuiet}
 use Rattle.lr_host.specs.Runs.{rules_of, SomeRule}
 use Rattle.lr_host.specs.Safe.{IsSafe}
-use Rattle.lr_host.specs.Sets.{LogSet}
+use Rattle.lr_host.specs.Sets.{LogSet, IsUnplaced}
 use Rattle.lr_host.specs.Steady.{NoneAttached}
 use Rattle.lr_host.specs.Steps.{changes_of, is_change}
 use Rattle.lr_host.specs.Told.{Each, Made}
@@ -48,12 +49,13 @@ use Rattle.lr_laws_rotations.proofs.Moments.{saw_one}
 use Rattle.lr_laws_rotations.proofs.Weaving.{IsApartOrMakes, IsWoven, woven}
 use Rattle.lr_laws_targets.specs.Apart.{HasNames}
 use Rattle.lr_laws_targets.specs.Seen.{IsLogSeen}
-use Rattle.lr_laws_targets.specs.Target.{Target, StaysBefore, rotation_of}
+use Rattle.lr_laws_targets.specs.Target.{Target, rotation_of}
 use Rattle.lr_laws_targets.proofs.CallsFit.{unlinks_spare, moves_spare}
 use Rattle.lr_laws_targets.proofs.DatedWeaving.{IsDatedWoven, dated_woven, rotation_filter as dated_filter, later_rotation as later_dated}
 use Rattle.lr_laws_targets.proofs.Given.{journal_before}
 use Rattle.lr_laws_targets.proofs.LogSeen.{any_names}
 use Rattle.lr_laws_targets.proofs.Own.{family_members}
+use Rattle.lr_laws_targets.proofs.Reached.{first_family}
 use Rattle.lr_laws_targets.proofs.Rotating.{renamed_are}
 use Rattle.lr_laws_targets.proofs.Safety.{Here}
 
@@ -109,46 +111,50 @@ module _ (s : LogSet) (t : Target) (h : HasNames t) (same : t.log ≡ s.log) (m 
 
 -- ---- the set's own log
 
-module _ (clock : Clock) (s : LogSet) (state : Path) (rules : Rules) (u v : Past) (looks : List Entry) (quiet : AreQuiet looks) (made : Made u (reverse looks) v) (here : Here s state clock.now.seconds rules v) (none_at : NoneAttached s v) (forward : IsForwardFor clock s v)
-    (t : Target) (seen : IsLogSeen rules clock looks t) (same : t.log ≡ s.log) (naming : s.naming ≡ t.naming) (stays : StaysBefore t × (t.job ≡ None)) (rule : SomeRule (rules_of v) s.log (λ r. (r.count ≡ t.count) × (r.maxage ≡ t.maxage))) where
+module _ (clock : Clock) (way : Way) (s : LogSet) (state : Path) (rules : Rules) (u v : Past) (looks : List Entry) (quiet : AreQuiet looks) (made : Made u (reverse looks) v) (here : Here way s state clock.now.seconds rules v) (none_at : NoneAttached s v) (forward : IsForwardFor clock s v)
+    (t : Target) (seen : IsLogSeen rules clock looks t) (same : t.log ≡ s.log) (naming : s.naming ≡ t.naming) (at : IsUnplaced s t.ready.log) (rule : SomeRule (rules_of v) s.log (λ r. (r.count ≡ t.count) × (r.maxage ≡ t.maxage))) where
   abbrev h : HasNames t
   h = any_names rules clock looks t seen
 
   in_order : reverse (reverse looks) ≡ looks
   in_order = reverse-reverse looks
 
-  quiet_back : AreQuiet (reverse looks)
+  pub quiet_back : AreQuiet (reverse looks)
   quiet_back = each_reverse IsQuiet looks quiet
 
-  saw : SawFile s.log (reverse (reverse looks))
+  pub saw : SawFile s.log (reverse (reverse looks))
   saw = subst (SawFile s.log) (sym in_order) (subst (λ (x : Path). SawFile x looks) same (saw_one t.log looks seen.log_seen))
 
   file : IsFileAt (names (world v)) s.log
   file = file_stands u v (reverse looks) made (quiet_still (reverse looks) quiet_back) s.log saw
 
-  shown : Shown s.naming t.stand.members (reverse (reverse looks))
+  -- what is renamed was seen too
+  saw_first : SawFile t.ready.log (reverse (reverse looks))
+  saw_first = subst (SawFile t.ready.log) (sym in_order) (saw_one t.ready.log looks seen.way_seen.first)
+
+  pub shown : Shown s.naming t.stand.members (reverse (reverse looks))
   shown = subst (Shown s.naming t.stand.members) (sym in_order) (subst (λ (n : Naming). Shown n t.stand.members looks) (sym naming) seen.seen)
 
-  family : IsFamily s.log s.naming
+  pub family : IsFamily s.log s.naming
   family = subst (λ (x : Path). IsFamily x s.naming) same (subst (λ (n : Naming). IsFamily t.log n) (sym naming) seen.family)
 
-  start : s.naming.start ≤ 999999
+  pub start : s.naming.start ≤ 999999
   start = subst (λ (n : Naming). n.start ≤ 999999) (sym naming) h.start
 
-  free : what_hinders s.naming t.count clock t.stand ≡ []
+  pub free : what_hinders s.naming t.count clock t.stand ≡ []
   free = subst (λ (n : Naming). what_hinders n t.count clock t.stand ≡ []) (sym naming) seen.free
 
-  ready : with_dir None t.ready ≡ ready_of s.log s.naming t.count t.maxage clock t.ready.make t.stand.members
-  ready = seen.ready ∙ (ap (λ (x : Path). ready_of x t.naming t.count t.maxage clock t.ready.make t.stand.members) (stays.0.first_is ∙ same) ∙ ap (λ (n : Naming). ready_of s.log n t.count t.maxage clock t.ready.make t.stand.members) (sym naming))
+  pub ready : with_dir None t.ready ≡ ready_of t.ready.log s.naming t.count t.maxage clock t.ready.make t.stand.members
+  ready = seen.ready ∙ ap (λ (n : Naming). ready_of t.ready.log n t.count t.maxage clock t.ready.make t.stand.members) (sym naming)
 
   -- its steps are those of one rotation of the set
-  one : RotatesSet (steps_of t.ready) s v
+  pub one : RotatesSet (steps_of t.ready) s v
   one = subst (λ (r : Ready). RotatesSet (steps_of r) s v) (sym ready)
-      (family_is_one clock s t.count t.maxage t.ready.make t.stand u v (reverse looks) family start h.count (journal_before u v (reverse looks) made here.journal) none_at made quiet_back saw shown free here.not_begun here.safe forward here.now_is rule)
+      (family_is_one clock s t.ready.log at (first_family s t h same naming family) t.count t.maxage t.ready.make t.stand u v (reverse looks) family start h.count (journal_before u v (reverse looks) made here.journal) none_at made quiet_back saw_first shown free here.not_begun here.safe forward here.now_is rule)
 
-  module _ (acts : List Entry) (q : Past) (w : FirstWoven (IsApartOrMakes s) (rotation_of t) (filter is_change acts)) (behind : Made v (reverse acts) q) (none_q : NoneAttached s q) where
+  module _ (acts : List Entry) (q : Past) (w : FirstWoven (IsApartOrMakes s) (steps_of t.ready) (filter is_change acts)) (behind : Made v (reverse acts) q) (none_q : NoneAttached s q) where
     split : reverse (steps_of t.ready) ≡ reverse w.first.0 ++ reverse w.made
-    split = ap reverse (sym (renamed_are t stays.1) ∙ w.first.1) ∙ reverse-append w.made w.first.0
+    split = ap reverse w.first.1 ∙ reverse-append w.made w.first.0
 
     fits : LogFits s (names (world v)) (reverse w.made)
     fits = log_fits_first s (names (world v)) (reverse w.first.0) (reverse w.made) (subst (LogFits s (names (world v))) split (log_fits s t h same (names (world v)) file))
@@ -167,12 +173,16 @@ module _ (clock : Clock) (s : LogSet) (state : Path) (rules : Rules) (u v : Past
     by_dates one =
         dated_walked s v q one.newest (reverse acts) one.dated here.journal here.safe here.not_begun one.forward behind
         (log_filter s (names (world v)) (reverse acts) (subst (LogFits s (names (world v))) (sym (filter_reverse is_change acts)) all.fits))
-        (dated_filter s one.newest v q (reverse acts) behind (subst (IsDatedRotation s v one.newest) (sym (filter_reverse is_change acts)) all.rotation)) none_q
+        (dated_filter s one.newest false v q (reverse acts) behind (subst (IsDatedRotation s v one.newest) (sym (filter_reverse is_change acts)) all.rotation)) none_q
       where
-        all : IsDatedWoven s v one.newest (reverse w.made) (reverse (filter is_change acts))
-        all = dated_woven s v one.newest (reverse w.made) (reverse (filter is_change acts)) (weave_back (IsApartOrMakes s) w.made (filter is_change acts) w.woven)
-            (later_dated s v one.newest (reverse w.first.0) (reverse w.made) (subst (IsDatedRotation s v one.newest) split one.rotation)) fits
+        all : IsDatedWoven s v one.newest false (reverse w.made) (reverse (filter is_change acts))
+        all = dated_woven s v one.newest false (reverse w.made) (reverse (filter is_change acts)) (weave_back (IsApartOrMakes s) w.made (filter is_change acts) w.woven)
+            (later_dated s v one.newest false (reverse w.first.0) (reverse w.made) (subst (IsDatedRotation s v one.newest) split one.rotation)) fits
 
-    -- it is turned, with the steps of others between its own
-    pub own_safe : IsSafe s q
-    own_safe = ⊎_elim by_numbers by_dates one
+    -- over a first part of these steps, with those of others between
+    pub steps_safe : IsSafe s q
+    steps_safe = ⊎_elim by_numbers by_dates one
+
+  -- it is renamed to its final path
+  pub own_safe : t.job ≡ None → (acts : List Entry) (q : Past) → FirstWoven (IsApartOrMakes s) (rotation_of t) (filter is_change acts) → Made v (reverse acts) q → NoneAttached s q → IsSafe s q
+  own_safe none acts q w behind none_q = steps_safe acts q (subst (λ (steps : List Entry). FirstWoven (IsApartOrMakes s) steps (filter is_change acts)) (renamed_are t none) w) behind none_q

@@ -18,6 +18,12 @@ has_way way.Copy t g = inl g.0
 has_way way.CopyTruncate t g = inl g.0
 has_way way.RenameCopy t g = inr g
 
+-- the rule renames the log: to its final path, or aside
+abbrev pub IsRenaming : Way → Type 0
+IsRenaming way.Rename = Unit {0}
+IsRenaming way.RenameCopy = Unit {0}
+IsRenaming _ = ⊥
+
 -- the log's path, or the one beside it
 abbrev pub IsOnWay : Target → Path → Type 0
 IsOnWay t x = (x ≡ t.log) ⊎ IsBesideLog t.log t.naming x

@@ -1,5 +1,5 @@
 -- What a run does to its logs: the entries of each rotation, of the others, and of the state.
-use Rattle.std.specs.Prelude.{◌≡◌, ◌≢◌, ◌⊎◌, ℕ, List, [], ◌∷◌, ◌++◌, codes, cond, bytes_eq, Option, Some, None}
+use Rattle.std.specs.Prelude.{◌≡◌, ◌≢◌, ◌⊎◌, ℕ, true, List, [], ◌∷◌, ◌++◌, codes, cond, bytes_eq, Option, Some, None}
 use Rattle.std.specs.List.{flat_map}
 use Rattle.lr_rules.specs.declared.path.Path.{Path}
 use Rattle.lr_host.specs.declared.entry.Entry.{Entry}
@@ -21,9 +21,9 @@ IsOfState state (entry.Appends x bytes) = IsStatePath state x
 IsOfState state (entry.Unlinks x) = IsStatePath state x
 IsOfState state _ = ⊥
 
--- the log is copied
-abbrev pub IsCopied : Target → Type 0
-IsCopied t = (job : Job) × (t.job ≡ Some job)
+-- the log is emptied behind its copy
+abbrev pub IsEmptied : Target → Type 0
+IsEmptied t = (job : Job) × (t.job ≡ Some job) × (job.cut ≡ true)
 
 -- the path is that of the part file of its copy
 abbrev pub IsPartFile : Target → Path → Type 0
@@ -34,12 +34,12 @@ abbrev pub IsItsDir : Target → Path → Type 0
 IsItsDir t x = (mode : Option ℕ) × (t.ready.dir ≡ Some (x, mode))
 
 -- What a rotation does besides its renames and unlinks: the family's directory is made where it wasn't there; the log is made anew;
--- where it is copied, its part file is made and filled, and the log is emptied.
+-- where it is copied, its part file is made and filled, and the log is emptied where the copy asks for that.
 abbrev pub AlsoDoes : Target → Entry → Type 0
 AlsoDoes t (entry.MakesDir x mode) = IsItsDir t x
 AlsoDoes t (entry.Makes x mode) = (x ≡ t.log) ⊎ IsPartFile t x
 AlsoDoes t (entry.Appends x bytes) = IsPartFile t x
-AlsoDoes t (entry.Truncates x) = IsCopied t × (x ≡ t.log)
+AlsoDoes t (entry.Truncates x) = IsEmptied t × (x ≡ t.log)
 AlsoDoes t _ = ⊥
 
 -- the entry is of the rotation of this log

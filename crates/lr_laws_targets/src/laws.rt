@@ -2,6 +2,7 @@
 ghost use Rattle.std.specs.Prelude.{◌≡◌, ◌≢◌, ℤ, List, [], ◌∷◌, ◌++◌, reverse, Option, Some, None};
 ghost use Rattle.lr_rules.specs.declared.clock.Clock.{Clock};
 ghost use Rattle.lr_rules.specs.declared.path.Path.{Path};
+ghost use Rattle.lr_rules.specs.declared.rule.Way.TheVariants.{RenameCopy};
 ghost use Rattle.lr_rules.specs.declared.rules.Rules.{Rules};
 ghost use Rattle.lr_host.specs.declared.entry.Entry.{Entry};
 ghost use Rattle.lr_host.specs.declared.entry.Entry.TheVariants.{Starts};
@@ -17,7 +18,7 @@ ghost use Rattle.lr_host.specs.World.{Past, ◌▸◌, world, names};
 ghost use Rattle.lr_copy.specs.declared.job.Job.{Job};
 ghost use Rattle.lr_copy.specs.Fits.{ArePaths};
 ghost use Rattle.lr_laws.specs.Forward.{IsForwardFor};
-ghost use Rattle.lr_laws.specs.Stays.{KeepsSafeWhere};
+ghost use Rattle.lr_laws.specs.Stays.{KeepsSafeBy, KeepsSafeWhere};
 ghost use Rattle.lr_laws_rotations.specs.Calls.{CanCalls};
 ghost use Rattle.lr_laws_family.specs.Made.{RotatesAmong};
 ghost use Rattle.lr_laws_family.specs.Turned.{IsRotation};
@@ -33,10 +34,13 @@ ghost use Rattle.lr_laws_targets.specs.Seen.{IsLogSeen};
 /// Over calls that leave the entries of such a run, as far as it came, each set stays safe of which no member's moment has
 /// gone ahead of the clock's: the set of a log that was rotated, or of any other, numbered or dated, whatever other logs'
 /// steps and the state's entries stand between, with writers' entries in a journal where the set is steady. Of a numbered set
-/// nothing is asked. It is not where the rule of its log asks for a copy.
+/// nothing is asked. So does each set whose log is set aside, and copied from there. It is not where the rule of its log asks
+/// for a copy of the log where it stands.
 pub fn all_logs_stay_safe()
-    ensures { (clock : Clock) (before after : Option Journal) → Left (IsWholeRunBy clock) before after
+    ensures renamed { (clock : Clock) (before after : Option Journal) → Left (IsWholeRunBy clock) before after
         → KeepsSafeWhere (IsForwardFor clock) before after }
+    ensures aside { (clock : Clock) (before after : Option Journal) → Left (IsWholeRunBy clock) before after
+        → KeepsSafeBy RenameCopy (IsForwardFor clock) before after }
 {}
 
 /// In a journal, behind looks that saw a log and its family, the calls of its rotation fit by themselves, one after another,

@@ -1,6 +1,6 @@
 mod Ending
 mod Examples
-mod LettingGo
+pub mod LettingGo
 mod SettingOut
 mod Sparing
 mod Waits

@@ -1,13 +1,17 @@
 -- A log that is let go where it waited, behind its copy.
-use Rattle.std.specs.Prelude.{◌≡◌, ◌≢◌, Option, Some, None}
+use Rattle.std.specs.Prelude.{◌≡◌, ◌≢◌, true, Option, Some, None}
 use Rattle.lr_rules.specs.declared.path.Path.{Path}
+use Rattle.lr_rules.specs.declared.rule.Way.TheVariants.{RenameCopy}
 use Rattle.lr_rules.specs.Names.{aside_path}
 use Rattle.lr_host.specs.declared.entry.Entry.TheVariants.{Unlinks}
 use Rattle.lr_host.specs.declared.journal.Journal.{Journal}
 use Rattle.lr_host.specs.Opening.{IsJournal}
-use Rattle.lr_host.specs.Safe.{IsPrefix}
+use Rattle.lr_host.specs.Quiet.{AttachedOnlySince}
+use Rattle.lr_host.specs.Safe.{IsPrefix, IsSafe}
 use Rattle.lr_host.specs.Sets.{LogSet}
+use Rattle.lr_host.specs.Steady.{IsSteadyBy}
 use Rattle.lr_host.specs.World.{Past, ◌▸◌, past}
+use Rattle.lr_family.specs.Parts.{IsMembersPart}
 use Rattle.lr_copy.specs.declared.job.Job.{Job}
 use Rattle.lr_copied.specs.Whole.{WritersSpare, IsWhole}
 
@@ -36,3 +40,23 @@ LetsGo job (Some j) (Some k) = IsJournal (past j) → WritersSpare job (past j) 
     → LetsGoWhole s (past j) (past k)
 LetsGo job None None = Unit {0}
 LetsGo job _ _ = ⊥
+
+-- ---- over a whole call
+
+-- no writer was attached to a member between the two pasts, nor to a member's part file
+abbrev pub WritersSpareCopies : LogSet → Past → Past → Type 0
+WritersSpareCopies s p q = AttachedOnlySince (λ x. (s.key x ≡ None) × (IsMembersPart s.naming x → ⊥)) p q
+
+-- The promise over a call, for logs that are set aside: where the journal is told, each set of which the condition holds before, and
+-- which is safe then, is safe after, where it is steady in that; and where writers spared its copies, its log was let go only behind
+-- a whole one.
+abbrev pub KeepsMovedWhere : (LogSet → Past → Type 0) → Option Journal → Option Journal → Type 0
+KeepsMovedWhere when (Some j) (Some k) = (s : LogSet) → s.naming.aside ≡ true → when s (past j) → IsJournal (past j) → IsSafe s (past j)
+    → IsSteadyBy RenameCopy s (past k)
+    → IsSafe s (past k) × (WritersSpareCopies s (past j) (past k) → LetsGoWhole s (past j) (past k))
+KeepsMovedWhere when None None = Unit {0}
+KeepsMovedWhere when _ _ = ⊥
+
+-- so whatever the set
+abbrev pub KeepsMoved : Option Journal → Option Journal → Type 0
+KeepsMoved before after = KeepsMovedWhere (λ s p. Unit {0}) before after

@@ -31,6 +31,8 @@ mod Covering
 pub mod Made
 mod Guarding
 pub mod Renewing
+pub mod Moving
+pub mod Lets
 mod Newest
 pub mod Emptying
 mod Trying

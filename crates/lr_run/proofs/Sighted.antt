@@ -31,7 +31,10 @@ use Rattle.lr_run.specs.Ran.{RunEnds, halted, came, RanSo}
 use Rattle.lr_run.specs.Saw.{Saw, ShowsStateFile, by_dir, by_none, ShowsSaw}
 use Rattle.lr_run.specs.State.{IsNewText}
 use Rattle.lr_run.specs.Work.{Work}
+use Rattle.lr_laws.specs.Forward.{IsForwardFor}
+use Rattle.lr_move.specs.Moved.{KeepsMovedWhere}
 use Rattle.lr_run.proofs.Emptying.{left_copied}
+use Rattle.lr_run.proofs.Moving.{quiet_moved}
 use Rattle.lr_run.proofs.Renewing.{left_whole, quiet_alone}
 use Rattle.lr_run.proofs.Seeing.{state_so, looks_so, some_so}
 
@@ -91,3 +94,7 @@ dry_whole state rules clock asked earlier r ran = left_whole state (IsNewText st
 -- it empties nothing
 pub dry_copied : (state : Path) (rules : Rules) (clock : Clock) (asked : Asked) (earlier : List Fault) (r : Result Ran RunStop) {o n : Option Journal} → RanSo true state rules clock asked earlier r o n → EmptiesWhole (IsCopyBy rules.sets clock) o n
 dry_copied state rules clock asked earlier r ran = left_copied rules.sets clock (RunEnds true state rules clock asked earlier r ran.work) ran.shows (λ ts made h. quiet_empties (IsCopyBy rules.sets clock) ts (ends_quiet state rules clock asked earlier r ran.work ts h))
+
+-- it lets no log go
+pub dry_moved : (state : Path) (rules : Rules) (clock : Clock) (asked : Asked) (earlier : List Fault) (r : Result Ran RunStop) {o n : Option Journal} → RanSo true state rules clock asked earlier r o n → KeepsMovedWhere (IsForwardFor clock) o n
+dry_moved state rules clock asked earlier r ran = quiet_moved (IsForwardFor clock) (left_as ran.shows (λ ts h. ends_quiet state rules clock asked earlier r ran.work ts h))

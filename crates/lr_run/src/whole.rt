@@ -10,6 +10,7 @@ ghost use Rattle.lr_emptied.specs.Emptied.{EmptiesWhole};
 ghost use Rattle.lr_laws.specs.Forward.{IsForwardFor};
 ghost use Rattle.lr_laws.specs.Stays.{KeepsSafeWhere};
 ghost use Rattle.lr_laws_targets.specs.Runs.{IsWholeRunBy};
+ghost use Rattle.lr_move.specs.Moved.{KeepsMovedWhere};
 ghost use Rattle.lr_plan.specs.Asked.{asking};
 ghost use Rattle.lr_run.specs.Internal.{StopsSo, dir_fault_of};
 ghost use Rattle.lr_run.specs.Copied.{IsCopyBy};
@@ -132,6 +133,7 @@ pub fn real_run<H: Host>(
 ) -> Result<Ran, RunStop>
     requires disk { WhereTold (H.told host.old) IsJournal }
     ensures safe { KeepsSafeWhere (IsForwardFor clock.entry.now) (H.told host.old) (H.told host.new) }
+    ensures moved { KeepsMovedWhere (IsForwardFor clock.entry.now) (H.told host.old) (H.told host.new) }
     ensures state { KeepsWhole settings.now.state (IsNewText settings.now.state clock.entry.now
         (asking settings.now.force settings.now.mailer) rules.now) (H.told host.old) (H.told host.new) }
     ensures copied { EmptiesWhole (IsCopyBy rules.now.sets clock.entry.now) (H.told host.old) (H.told host.new) }

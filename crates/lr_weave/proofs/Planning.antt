@@ -264,7 +264,7 @@ dir_plain : (P : Entry → Type 0) (t : Target) (d : Option (Path × Option ℕ)
 dir_plain P t None h is = tt
 dir_plain P t (Some (x, mode)) h is = (h (entry.MakesDir x mode) (mode, is), tt)
 
-copy_plain : (P : Entry → Type 0) (t : Target) (job : Job) (b c : Bool) → OfMaking P t → t.job ≡ Some job → (c ≡ true → job.from ≡ t.log)
+copy_plain : (P : Entry → Type 0) (t : Target) (job : Job) (b c : Bool) → OfMaking P t → t.job ≡ Some job → (c ≡ true → (job.from ≡ t.log) × (job.cut ≡ true))
     → ArePlain P (step_if b (step.Removes job.part) ++ (step.Takes job.part job.mode ∷ step.Copies job.from job.part job.limit ∷ step.SyncsFile job.part ∷ step.Renames job.part job.to ∷ step.SyncsDir job.dir ∷ step_if c (step.Truncates job.from)))
 copy_plain P t job b c h is cut = plain_on P (step_if b (step.Removes job.part)) _ (removed b) (taken, (filled, (tt, (tt, (tt, emptied c cut)))))
   where
@@ -278,9 +278,9 @@ copy_plain P t job b c h is cut = plain_on P (step_if b (step.Removes job.part))
     filled : (piece : List ℕ) → P (entry.Appends job.part piece)
     filled piece = h (entry.Appends job.part piece) (job, is, refl)
 
-    emptied : (c : Bool) → (c ≡ true → job.from ≡ t.log) → ArePlain P (step_if c (step.Truncates job.from))
-    emptied true from = (h (entry.Truncates job.from) ((job, is), from refl), tt)
-    emptied false from = tt
+    emptied : (c : Bool) → (c ≡ true → (job.from ≡ t.log) × (job.cut ≡ true)) → ArePlain P (step_if c (step.Truncates job.from))
+    emptied true so = (let both = so refl in h (entry.Truncates job.from) ((job, is, both.1), both.0), tt)
+    emptied false so = tt
 
 -- a copy that empties what it copies is of the log where it stands
 cut_none : (a b : Job) → Some a ≡ Some b → a.cut ≡ true → b.cut ≡ false → ⊥
@@ -299,7 +299,7 @@ cut_from t job (inr (asked, inr taken)) shape is cut = absurd (let none : None �
 
 -- the copy that there is, if any
 own_copy_plain : (P : Entry → Type 0) (t : Target) (job : Job) → OfMaking P t → HasWay t → HasJob t → t.job ≡ Some job → ArePlain P (copy job)
-own_copy_plain P t job h way shape is = copy_plain P t job job.stale job.cut h is (λ cut. cut_from t job way (shape job is) is cut)
+own_copy_plain P t job h way shape is = copy_plain P t job job.stale job.cut h is (λ cut. (cut_from t job way (shape job is) is cut, cut))
 
 transfer_plain : (P : Entry → Type 0) (t : Target) (from target : Path) (j : Option Job) (a : Option Path) → OfMaking P t → HasWay t → HasJob t → t.job ≡ j → ArePlain P (transfer from target j a)
 transfer_plain P t from target None a h way shape is = (tt, tt)

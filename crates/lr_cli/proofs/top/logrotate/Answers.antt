@@ -1,11 +1,12 @@
 use Rattle.std.proofs.Common.{inl, inr, refl, ap, ◌∙◌, Err}
-use Rattle.lr_host.proofs.Left.{left_first}
+use Rattle.lr_host.proofs.Left.{left_as, left_first}
 use Rattle.lr_run.specs.Dry.{AreSights}
 use Rattle.lr_report.specs.declared.outcome.Outcome.TheVariants.{BadWords, OutOfMemory}
 use Rattle.lr_cli.specs.Faults.{answer_of, plan_told}
 use Rattle.lr_cli.specs.Printed.{without_out}
 use Rattle.lr_clock.proofs.Clocked.{own_seconds}
 use Rattle.lr_cli.proofs.Called.{has_counted, has_clocked, not_counted, none_out, says_nothing, says_so, safe_alone, turns_safe}
+use Rattle.lr_cli.proofs.Moved.{ends_lets, moved_alone, turns_moved}
 use Rattle.lr_cli.proofs.Still.{left_dry}
 use Rattle.lr_cli.proofs.top.logrotate.Goals as goal
 
@@ -54,3 +55,13 @@ returns-clause-clock g c = λ report done. has_clocked c.args.zone.now _ c.args.
 
 pub returns-clause-dry : goal.returns-clause-dry
 returns-clause-dry g c = λ request asks dry. let s = returns-clause-told g c in left_dry c.args.here.now c.args.words.now c.args.zone.now c.args.now request s.plan _ s.came asks dry s.shown
+
+pub returns-in-Err-Refused-clause-moved : goal.returns-in-Err-Refused-clause-moved
+returns-in-Err-Refused-clause-moved g c = moved_alone c.args.zone.now c.args.now _
+
+pub returns-in-Err-Memory-clause-moved : goal.returns-in-Err-Memory-clause-moved
+returns-in-Err-Memory-clause-moved g c = moved_alone c.args.zone.now c.args.now _
+
+pub returns-clause-moved : goal.returns-clause-moved
+returns-clause-moved g c = turns_moved c.args.zone.now _ c.args.now (own_seconds c.args.now c.ranges.now.sfits) c.run_at-run.ensures.shape
+    (left_as c.run_at-run.ensures.told.shows (λ ts e. ends_lets c.in-Ok.request c.args.zone.now _ (plan_told c.run_at-run.result) (answer_of c.run_at-run.result) c.run_at-run.ensures.told.came ts e))

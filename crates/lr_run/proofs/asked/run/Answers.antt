@@ -3,7 +3,7 @@ use Rattle.lr_laws_targets.proofs.RunSafety.{all_safe}
 use Rattle.lr_plan.specs.Asked.{asking}
 use Rattle.lr_run.proofs.Evidence.{answers_of}
 use Rattle.lr_run.proofs.Short.{answers_short, dry_short}
-use Rattle.lr_run.proofs.Sighted.{dry_sights, dry_shape, dry_whole, dry_copied}
+use Rattle.lr_run.proofs.Sighted.{dry_sights, dry_shape, dry_whole, dry_copied, dry_moved}
 use Rattle.lr_run.proofs.asked.run.Goals as goal
 
 pub returns-then-settings-clause-told : goal.returns-then-settings-clause-told
@@ -32,3 +32,6 @@ returns-else-settings-clause-short g c = left_as (answers_of c.args.settings.now
 
 pub returns-then-settings-clause-dry : goal.returns-then-settings-clause-dry
 returns-then-settings-clause-dry g c = λ e. dry_sights c.args.settings.now.state c.args.rules.now c.args.clock.now (asking c.args.settings.now.force c.args.settings.now.mailer) c.args.earlier.items c.dry_run.result c.dry_run.ensures.told
+
+pub returns-then-settings-clause-moved : goal.returns-then-settings-clause-moved
+returns-then-settings-clause-moved g c = dry_moved c.args.settings.now.state c.args.rules.now c.args.clock.now (asking c.args.settings.now.force c.args.settings.now.mailer) c.args.earlier.items c.dry_run.result c.dry_run.ensures.told

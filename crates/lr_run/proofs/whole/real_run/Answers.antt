@@ -8,6 +8,7 @@ use Rattle.lr_run.specs.declared.answer.RunStop.TheVariants as stop
 use Rattle.lr_run.specs.Ran.{RanSo}
 use Rattle.lr_run.proofs.Emptying.{run_copied}
 use Rattle.lr_run.proofs.Evidence.{answers_of}
+use Rattle.lr_run.proofs.Lets.{run_moved}
 use Rattle.lr_run.proofs.Parts.{none_made, ran_so, stopped_so}
 use Rattle.lr_run.proofs.Shape.{none_run, whole_run}
 use Rattle.lr_run.proofs.Renewing.{run_whole}
@@ -73,3 +74,15 @@ returns-in-Ok-make_run-clause-copied g c = run_copied c.args.settings.now.state 
 
 pub returns-in-Err-clause-copied : goal.returns-in-Err-clause-copied
 returns-in-Err-clause-copied g c = run_copied c.args.settings.now.state (asking c.args.settings.now.force c.args.settings.now.mailer) c.args.clock.now c.args.rules.now c.args.earlier.items (Err c.in-Err.why) (answers_of c.args.settings.now.state (asking c.args.settings.now.force c.args.settings.now.mailer) c.args.clock.now c.args.rules.now c.args.earlier.items (Err c.in-Err.why) (returns-in-Err-clause-told g c))
+
+pub returns-in_default-clause-moved : goal.returns-in_default-clause-moved
+returns-in_default-clause-moved g c = run_moved c.args.settings.now.state (asking c.args.settings.now.force c.args.settings.now.mailer) c.args.clock.now c.args.rules.now c.args.earlier.items (Err stop.Memory) (answers_of c.args.settings.now.state (asking c.args.settings.now.force c.args.settings.now.mailer) c.args.clock.now c.args.rules.now c.args.earlier.items (Err stop.Memory) (returns-in_default-clause-told g c))
+
+pub returns-in_default-progress_from-clause-moved : goal.returns-in_default-progress_from-clause-moved
+returns-in_default-progress_from-clause-moved g c = run_moved c.args.settings.now.state (asking c.args.settings.now.force c.args.settings.now.mailer) c.args.clock.now c.args.rules.now c.args.earlier.items (Err stop.Memory) (answers_of c.args.settings.now.state (asking c.args.settings.now.force c.args.settings.now.mailer) c.args.clock.now c.args.rules.now c.args.earlier.items (Err stop.Memory) (returns-in_default-progress_from-clause-told g c))
+
+pub returns-in-Ok-make_run-clause-moved : goal.returns-in-Ok-make_run-clause-moved
+returns-in-Ok-make_run-clause-moved g c = run_moved c.args.settings.now.state (asking c.args.settings.now.force c.args.settings.now.mailer) c.args.clock.now c.args.rules.now c.args.earlier.items (Ok c.ran_of.result) (answers_of c.args.settings.now.state (asking c.args.settings.now.force c.args.settings.now.mailer) c.args.clock.now c.args.rules.now c.args.earlier.items (Ok c.ran_of.result) (returns-in-Ok-make_run-clause-told g c))
+
+pub returns-in-Err-clause-moved : goal.returns-in-Err-clause-moved
+returns-in-Err-clause-moved g c = run_moved c.args.settings.now.state (asking c.args.settings.now.force c.args.settings.now.mailer) c.args.clock.now c.args.rules.now c.args.earlier.items (Err c.in-Err.why) (answers_of c.args.settings.now.state (asking c.args.settings.now.force c.args.settings.now.mailer) c.args.clock.now c.args.rules.now c.args.earlier.items (Err c.in-Err.why) (returns-in-Err-clause-told g c))
