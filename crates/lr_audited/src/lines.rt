@@ -8,9 +8,9 @@ ghost use Rattle.lr_audited.specs.Lines.{part_lines, family_lines, set_lines, se
 
 use crate::line::{Line, What};
 use lr_family::{Member, Place};
-use lr_host::{Kind, Seen};
 use lr_naming::aside_path;
 use lr_plan::{LogLook, Looks, SetLooks};
+use lr_planning::is_file;
 use lr_rules::{Count, Memory, Naming, Path, Rule, Rules};
 use std::alloc::Global;
 
@@ -103,15 +103,6 @@ fn add_parts(alloc: Global, lines: &mut Vec<Line>, log: &Path, parts: &[Path]) -
         add_line(alloc, lines, part, What::Part, log)?;
     }
     Ok(())
-}
-
-fn is_file(seen: &Option<Seen>) -> bool
-    ensures { result ≡ is_file seen.now }
-{
-    match seen {
-        Some(seen) => matches!(seen.kind, Kind::File),
-        None => false,
-    }
 }
 
 // Adds the line of a log's file that waits for its copy.

@@ -21,7 +21,7 @@ use Rattle.lr_family.proofs.OnlyLooks.{AreLooking, looking_both, looking_sees}
 use Rattle.lr_cat.specs.declared.texts.TextStop.{TextStop}
 use Rattle.lr_cat.specs.declared.texts.TextStop.TheVariants as stop
 use Rattle.lr_cat.specs.Saw.{Saw, ShowsSaw, SeesNone, not_stood, not_looked, no_file, Works, not_seen, broke_off, read_all, files_of}
-use Rattle.lr_cat.specs.Sights.{IsSight, AreSights}
+use Rattle.lr_glob.specs.Looking.{IsSight, AreSights}
 use Rattle.lr_cat.specs.Texts.{FileText, ReadsTexts, ReadsSome, BreaksOff, ReadsAllOf}
 use Rattle.lr_cat.proofs.Putting.{whole_only}
 use Rattle.lr_cat.proofs.Standing.{log_looks, looks_sights, stand_looks, stop_looks}

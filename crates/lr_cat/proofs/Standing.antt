@@ -34,7 +34,7 @@ use Rattle.lr_cat.specs.declared.seeing.LogStop.TheVariants as logs
 use Rattle.lr_cat.specs.declared.stop.CatStop.{CatStop}
 use Rattle.lr_cat.specs.InternalSaw.{FindsNone, SeesAll, SeesNot, log_fault, stand_stop}
 use Rattle.lr_cat.specs.Saw.{FindsLog, SeesNone, not_stood, not_looked, no_file, files_behind}
-use Rattle.lr_cat.specs.Sights.{IsSight, AreSights}
+use Rattle.lr_glob.specs.Looking.{IsSight, AreSights}
 use Rattle.lr_cat.specs.Texts.{CanReadAll}
 
 -- ---- what looks change

@@ -29,7 +29,7 @@ use Rattle.lr_cat.specs.Cats.{Cats, no_directory, began, StopsSo}
 use Rattle.lr_cat.specs.InternalCats.{EndsWork, BeginsAndEnds, Goes, begun, GoesShort, dir_fault}
 use Rattle.lr_cat.specs.InternalSaw.{SeesAll, SeesNot}
 use Rattle.lr_cat.specs.Saw.{Works, read_all, broke_off}
-use Rattle.lr_cat.specs.Sights.{AreSights}
+use Rattle.lr_glob.specs.Looking.{AreSights}
 use Rattle.lr_cat.specs.Stops.{CameTo}
 use Rattle.lr_cat.specs.Texts.{FileText, BreaksOff, ReadsAllOf, TookBy, Passes}
 use Rattle.lr_cat.proofs.Sighted.{saw_sights, none_sights, all_sights, broken_sights, sights_both}

@@ -9,7 +9,7 @@ use Rattle.lr_rules.specs.declared.fault.Fault.{Fault}
 use Rattle.lr_rules.specs.declared.fault.Fault.TheVariants as fault
 use Rattle.lr_host.specs.declared.entry.Entry.{Entry}
 use Rattle.lr_host.specs.declared.entry.Entry.TheVariants.{Starts, Ends}
-use Rattle.lr_cat.specs.Sights.{AreSights}
+use Rattle.lr_glob.specs.Looking.{AreSights}
 use Rattle.lr_host.specs.Told.{Then, Are, Maybe}
 use Rattle.lr_family.specs.declared.directory.DirStop.{DirStop}
 use Rattle.lr_family.specs.declared.directory.DirStop.TheVariants as seen

@@ -10,7 +10,6 @@ pub mod InternalTexts
 pub mod Outcome
 pub mod Saw
 pub mod Says
-pub mod Sights
 pub mod Stops
 pub mod Texts
 pub mod Words

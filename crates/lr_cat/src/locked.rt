@@ -4,7 +4,7 @@ ghost use Rattle.lr_rules.specs.declared.fault.Fault.TheVariants as fault;
 ghost use Rattle.lr_rules.specs.Limits.{is_format, or_none};
 ghost use Rattle.lr_rules.specs.Path.{parent_of};
 ghost use Rattle.lr_host.specs.declared.entry.Entry.TheVariants as entry;
-ghost use Rattle.lr_cat.specs.Sights.{AreSights};
+ghost use Rattle.lr_glob.specs.Looking.{AreSights};
 ghost use Rattle.lr_host.specs.Told.{Left, Can, NoneFell, Onward, WhereTold};
 ghost use Rattle.lr_host.specs.World.{world};
 ghost use Rattle.lr_cat.specs.Cats.{Cats, StopsSo};

@@ -20,6 +20,5 @@ pub mod Removed
 pub mod Retired
 pub mod Retiring
 pub mod Serials
-pub mod Steps
 pub mod Turned
 pub mod Whole

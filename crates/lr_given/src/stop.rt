@@ -1,4 +1,6 @@
 // Why the machine gives no words, directory or zone.
+ghost use Rattle.std.specs.Prelude.{◌≡◌};
+
 use lr_report::Outcome;
 use std::io::ErrorKind;
 
@@ -18,7 +20,10 @@ pub fn stop_of(kind: ErrorKind) -> GivenStop {
 }
 
 /// The outcome of a call for which there is nothing to do.
-pub fn outcome_of(stop: GivenStop) -> Outcome {
+pub fn outcome_of(stop: GivenStop) -> Outcome
+    ensures bad_words { stop ≡ GivenStop.BadWords → result ≡ Outcome.BadWords }
+    ensures memory { stop ≡ GivenStop.Memory → result ≡ Outcome.OutOfMemory }
+{
     match stop {
         GivenStop::BadWords => Outcome::BadWords,
         GivenStop::Memory => Outcome::OutOfMemory,

@@ -1,4 +1,4 @@
--- Entries that are looks and listings.
+-- Entries that are looks and listings, and reads.
 use Rattle.std.specs.Prelude.{List}
 use Rattle.lr_host.specs.declared.entry.Entry.{Entry}
 use Rattle.lr_host.specs.declared.entry.Entry.TheVariants as entry
@@ -12,3 +12,13 @@ IsLooking _ = ⊥
 
 abbrev pub AreLooking : List Entry → Type 0
 AreLooking ts = Each IsLooking ts
+
+-- a look, a listing or a read
+abbrev pub IsSight : Entry → Type 0
+IsSight (entry.Look x seen) = Unit {0}
+IsSight (entry.List dir listed) = Unit {0}
+IsSight (entry.Reads x from piece) = Unit {0}
+IsSight _ = ⊥
+
+abbrev pub AreSights : List Entry → Type 0
+AreSights ts = Each IsSight ts

@@ -1,4 +1,4 @@
--- Where the steps of a rotation by rename stand among others, those before and behind the rename are told apart.
+-- Where the steps of a rotation stand among others, those before and behind one of them are told apart: of one by rename, its rename.
 use Rattle.std.proofs.Common.{◌≡◌, Bool, true, false, cond, refl, sym, ap, subst, List, [], ◌∷◌, ◌++◌}
 use Rattle.std.specs.Prelude.{filter}
 use Rattle.lr_rules.specs.declared.path.Path.{Path}
@@ -14,18 +14,18 @@ use Rattle.lr_laws_family.specs.Weave.{Weave, none, own, other}
 use Rattle.lr_laws_family.proofs.Splitting.{weave_nil}
 
 -- The entries before one of the own, and those behind it.
-record Parts (P : Entry → Type 0) (old : List Entry) (e : Entry) (new ts : List Entry) : Type 0 where
-  early : List Entry
-  late : List Entry
-  joined : ts ≡ early ++ e ∷ late
-  before : Weave P old (filter is_disk_change early)
-  behind : Weave P new (filter is_disk_change late)
+pub record Parts (P : Entry → Type 0) (old : List Entry) (e : Entry) (new ts : List Entry) : Type 0 where
+  pub early : List Entry
+  pub late : List Entry
+  pub joined : ts ≡ early ++ e ∷ late
+  pub before : Weave P old (filter is_disk_change early)
+  pub behind : Weave P new (filter is_disk_change late)
 
 no_end : (old new : List Entry) (e : Entry) → old ++ e ∷ new ≡ [] → ⊥
 no_end [] new e is = cc
 no_end (o ∷ old) new e is = cc
 
-parts : (P : Entry → Type 0) (ts old new : List Entry) (e : Entry) → Weave P (old ++ e ∷ new) (filter is_disk_change ts) → Parts P old e new ts
+pub parts : (P : Entry → Type 0) (ts old new : List Entry) (e : Entry) → Weave P (old ++ e ∷ new) (filter is_disk_change ts) → Parts P old e new ts
 parts P [] old new e w = absurd (no_end old new e (weave_nil P (old ++ e ∷ new) [] w refl))
 parts P (t ∷ ts) old new e w = go (λ old w. parts P ts old new e w) (is_disk_change t) refl w
   where

@@ -14,4 +14,5 @@ mod copying;
 mod directory;
 mod planning;
 
+pub use aside::is_file;
 pub use planning::plan;

@@ -10,8 +10,7 @@ use Rattle.lr_rules.specs.declared.fault.Fault.TheVariants as fault
 use Rattle.lr_rules.specs.declared.fault.StateKind.TheVariants as kind
 use Rattle.lr_rules.specs.Path.{parent_of}
 use Rattle.lr_host.specs.declared.entry.Entry.{Entry}
-use Rattle.lr_host.specs.declared.entry.Entry.TheVariants as entry
-use Rattle.lr_host.specs.Told.{Each, Then}
+use Rattle.lr_host.specs.Told.{Then}
 use Rattle.lr_host.specs.Looks.{Sees, IsDir, IsNoDir, IsNothing}
 use Rattle.lr_state.specs.Table.{Entry as Row}
 use Rattle.lr_plan.specs.Asked.{Asked}
@@ -27,18 +26,6 @@ use Rattle.lr_record.specs.After.{after}
 use Rattle.lr_record.specs.Measured.{measured_text}
 use Rattle.lr_looks.specs.Reserved.{reserved_by}
 use Rattle.lr_run.specs.Runs.{logs_in, SomeSeen}
-
--- ---- looks alone
-
--- a look, a listing or a read
-abbrev pub IsSight : Entry → Type 0
-IsSight (entry.Look path seen) = Unit {0}
-IsSight (entry.List dir names) = Unit {0}
-IsSight (entry.Reads path from piece) = Unit {0}
-IsSight _ = ⊥
-
-abbrev pub AreSights : List Entry → Type 0
-AreSights ts = Each IsSight ts
 
 -- ---- the plan
 

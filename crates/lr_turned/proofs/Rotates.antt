@@ -24,6 +24,7 @@ use Rattle.lr_laws_family.specs.Shown.{SawFile}
 use Rattle.lr_laws_family.specs.Weave.{Weave}
 use Rattle.lr_laws_family.proofs.Core.{unlinks_each, moves_each, newest_own}
 use Rattle.lr_laws_family.proofs.These.{IsOfThese}
+use Rattle.lr_laws_family.proofs.Woven.{Parts, parts}
 use Rattle.lr_laws_targets.specs.AllTurns.{paths_beside}
 use Rattle.lr_laws_targets.specs.Rotation.{by_of, rotation_by}
 use Rattle.lr_laws_targets.specs.Runs.{AllTurnedBy}
@@ -36,7 +37,7 @@ use Rattle.lr_laws_targets.proofs.Whole.{front, front_is, front_still, first_see
 use Rattle.lr_turned.specs.Copied.{CopyStands, IsSameFor}
 use Rattle.lr_turned.proofs.Among.{early_woven, late_woven}
 use Rattle.lr_turned.proofs.Ways.{by_is, source_is, not_emptied, not_copied, aside_steps}
-use Rattle.lr_turned.proofs.Weaves.{Parts, parts, weave_nothing}
+use Rattle.lr_turned.proofs.Weaves.{weave_nothing}
 
 -- The run rotated each log whole, and this one it copied, one entry behind another, emptying it behind that copy alone.
 module _ (state : Path) (clock : Clock) (rules : Rules) (reads tail : List Entry) (t : AllTurnedBy state clock rules tail) (x : Target) (job : Job) (quiet : AreQuiet reads) (one : IsIn x t.turns.targets) (job_is : x.job ≡ Some job) (of : IsOfMembers x.naming (rotation_by x))
