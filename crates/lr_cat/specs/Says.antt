@@ -37,7 +37,7 @@ pub record CatSays (here : Path) (words : List (List ℕ)) (seconds : ℤ) (outc
   pub shown : Left (CatShows here words seconds outcome came) told later
   -- the output took those texts, in that order
   pub took : TookOf came before after
-  -- no name and no byte was changed; so each set that was safe in the journal before is safe in that after, where it is steady there
+  -- no name and no byte was changed; so each set that was safe in the journal before is safe in that after, where it is steady
   pub still : Left ChangeNothing told later
   pub safe : KeepsSafe told later
   -- where no fault of its own ended it, the files are those that stood as it began, and the texts are theirs

@@ -88,8 +88,8 @@ pub record IsCalled (request : Request) (c : Came) (outcome : Outcome) (counted 
 
 -- ---- at each moment of a call
 
--- The text is the new one of the state, by what a call, dry or not, came to and answers: that which it read, brought up to its clock
--- by the logs that its acts rotated. One that is dry or has no report writes none.
+-- The text is the new one of the state, by what a call, dry or not, came to and answers: that which it read, brought up to its
+-- clock by the logs that its acts rotated. One that is dry or has no report writes none.
 abbrev pub IsTextOf : Bool → Outcome → Option Came → List ℕ → Type 0
 IsTextOf false (Done report) (Some c) text = text ≡ text_by c.work.saw c.clock (rotated_logs c.work.acts.marks)
 IsTextOf debug outcome came text = ⊥

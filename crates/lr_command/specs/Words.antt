@@ -1,6 +1,6 @@
 -- What the words of the command line ask for.
-use Rattle.std.specs.Prelude.{◌≡◌, refl, ℕ, Bool, true, false, not, ◌&&◌, ◌==◌, List, [], ◌∷◌, map, Option, Some, None, is_none, codes}
-use Rattle.std.specs.Prelude.{if◌then◌else◌}
+use Rattle.std.specs.Prelude.{◌≡◌, refl, ℕ, Bool, true, false, not, ◌&&◌, ◌==◌, List, [], ◌∷◌, map}
+use Rattle.std.specs.Prelude.{Option, Some, None, is_none, codes, if◌then◌else◌}
 use Rattle.std.specs.List.{list_all}
 use Rattle.clap.specs.Words.{Row}
 use Rattle.lr_rules.specs.declared.path.Path.{Path}

@@ -47,12 +47,12 @@ LetsGo job _ _ = ⊥
 abbrev pub WritersSpareCopies : LogSet → Past → Past → Type 0
 WritersSpareCopies s p q = AttachedOnlySince (λ x. (s.key x ≡ None) × (IsMembersPart s.naming x → ⊥)) p q
 
--- The promise over a call, for logs that are set aside: where the journal is told, each set of which the condition holds before, and
--- which is safe then, is safe after, where it is steady in that; and where writers spared its copies, its log was let go only behind
--- a whole one.
+-- The promise over a call, for logs that are set aside: where the journal is told, each set of which the condition holds before,
+-- and which is safe then, is safe after, where it is steady in that; and where writers spared its copies, its log was let go only
+-- behind a whole one.
 abbrev pub KeepsMovedWhere : (LogSet → Past → Type 0) → Option Journal → Option Journal → Type 0
-KeepsMovedWhere when (Some j) (Some k) = (s : LogSet) → s.naming.aside ≡ true → when s (past j) → IsJournal (past j) → IsSafe s (past j)
-    → IsSteadyBy RenameCopy s (past k)
+KeepsMovedWhere when (Some j) (Some k) = (s : LogSet) → s.naming.aside ≡ true → when s (past j) → IsJournal (past j)
+    → IsSafe s (past j) → IsSteadyBy RenameCopy s (past k)
     → IsSafe s (past k) × (WritersSpareCopies s (past j) (past k) → LetsGoWhole s (past j) (past k))
 KeepsMovedWhere when None None = Unit {0}
 KeepsMovedWhere when _ _ = ⊥
