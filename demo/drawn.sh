@@ -85,8 +85,9 @@ draw_definition() {
     esac
     # By names the real tool gives the log to whom they name, and here it gets those that the log had: so they are the same.
     one_of copy copytruncate renamecopy create nocreate 'create 600' "create 640 $user $group"
-    [ "$it" != renamecopy ] || perhaps 5 create
-    perhaps 5 "$it"
+    way=$it
+    perhaps 5 "$way"
+    [ "$way" != renamecopy ] || perhaps 5 create
     perhaps 2 'maxsize 40'
     perhaps 3 notifempty
     perhaps 2 sharedscripts

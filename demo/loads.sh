@@ -10,6 +10,12 @@ lay_logs() {
     { sed "s#^#$logs/#" "$scratch/names" && printf '{\nrotate 2\n}\n'; } >"$conf"
 }
 
+# So many logs that are set aside, copied and let go, each with a member.
+lay_aside() {
+    lay_logs "$1"
+    sed -i 's/^{$/{\nrenamecopy/' "$conf"
+}
+
 # The same, by one pattern.
 lay_matches() {
     lay_logs "$1"
