@@ -86,6 +86,10 @@ draw_definition() {
     # By names the real tool gives the log to whom they name, and here it gets those that the log had: so they are the same.
     one_of copy copytruncate renamecopy create nocreate 'create 600' "create 640 $user $group"
     way=$it
+    # The real tool makes no copy of which none is kept, and starts no preremove then, but by this one.
+    case $kept$way in
+    0copy*) way=renamecopy ;;
+    esac
     perhaps 5 "$way"
     [ "$way" != renamecopy ] || perhaps 5 create
     perhaps 2 'maxsize 40'
