@@ -20,7 +20,7 @@ use Rattle.lr_copied.proofs.Named.{whole}
 use Rattle.lr_emptied.specs.Emptied.{CopiedLast, EmptiesCopied, IsCopied, EmptiesWhole}
 
 -- whole since an earlier moment
-pub whole_since : (from to : Path) (p b u : Past) → IsPrefix p b → IsWhole from to b u → IsWhole from to p u
+unfoldable pub whole_since : (from to : Path) (p b u : Past) → IsPrefix p b → IsWhole from to b u → IsWhole from to p u
 whole_since from to p b u i w = record {
   log = w.log;
   copy = w.copy;

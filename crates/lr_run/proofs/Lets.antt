@@ -1,5 +1,5 @@
 -- Entries over which a set whose log is set aside lets it go only behind a copy, and the promise over a call that leaves them.
-use Rattle.std.proofs.Common.{◌≡◌, sym, subst, true, List, ◌++◌, reverse, Option, Some, Result}
+use Rattle.std.proofs.Common.{◌≡◌, sym, subst, true, false, List, ◌++◌, reverse, Option, Some, Result}
 use Rattle.std.proofs.lemmas.List.{reverse-append, reverse-reverse}
 use Rattle.lr_rules.specs.declared.clock.Clock.{Clock}
 use Rattle.lr_rules.specs.declared.fault.Fault.{Fault}

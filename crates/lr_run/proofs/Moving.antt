@@ -1,5 +1,5 @@
 -- A set whose log is set aside: where each unlink of the path where it waits is behind a copy from there, the log is let go whole.
-use Rattle.std.proofs.Common.{◌≡◌, ◌≢◌, ◌⊎◌, inl, inr, ⊎_elim, ℕ, Bool, true, false, ◌&&◌, ◌||◌, is_some, bytes_eq, refl, sym, ◌∙◌, ap, subst, List, [], ◌∷◌, ◌++◌, map, reverse, append_assoc, append-nil, Option, Some, None, Result, Ok, Err}
+use Rattle.std.proofs.Common.{◌≡◌, ◌≢◌, ◌⊎◌, inl, inr, ⊎_elim, Bool, true, false, ◌&&◌, is_some, bytes_eq, refl, sym, ◌∙◌, ap, subst, List, [], ◌∷◌, ◌++◌, map, reverse, append_assoc, append-nil, Option, Some, None, Result, Ok, Err}
 use Rattle.std.specs.Prelude.{All}
 use Rattle.std.specs.List.{flat_map}
 use Rattle.std.proofs.lemmas.List.{reverse-append, reverse-reverse}
@@ -11,20 +11,60 @@ use Rattle.lr_rules.specs.declared.fault.Fault.{Fault}
 use Rattle.lr_rules.specs.declared.rule.Rule.{Rule}
 use Rattle.lr_rules.specs.declared.rule.Way.TheVariants.{RenameCopy}
 use Rattle.lr_rules.specs.declared.rules.Rules.{Rules}
+use Rattle.lr_rules.specs.declared.path.Path.{Path}
+use Rattle.lr_rules.specs.declared.rule.Naming.{Naming}
 use Rattle.lr_rules.specs.Path.{parent_of}
+use Rattle.lr_rules.specs.Names.{aside_path, IsOwnName, set_aside}
+use Rattle.lr_rules.specs.StatePath.{state_part}
 use Rattle.lr_host.specs.declared.journal.Journal.{Journal}
+use Rattle.lr_host.specs.declared.entry.Entry.{Entry}
+use Rattle.lr_host.specs.declared.entry.Entry.TheVariants.{Starts, Ends, Unlinks}
 use Rattle.lr_host.specs.Looks.{IsDir}
 use Rattle.lr_host.specs.Steady.{IsSteadyBy}
+use Rattle.lr_host.specs.Lists.{IsIn}
+use Rattle.lr_host.specs.Opening.{IsJournal}
+use Rattle.lr_host.specs.Quiet.{IsQuiet, AreQuiet}
+use Rattle.lr_host.specs.Safe.{IsPrefix, shorter, IsSafe}
+use Rattle.lr_host.specs.Sets.{LogSet, IsAsideOf, is_unplaced, in_reach}
+use Rattle.lr_host.specs.Told.{Made, at_first, by_tool, Left, not_told, is_told}
+use Rattle.lr_host.specs.World.{Past, ◌▸◌, past}
 use Rattle.lr_host.proofs.Each.{each_as}
-use Rattle.lr_reading.proofs.Quiet.{state_quiet}
+use Rattle.lr_host.proofs.Lists.{in_front, in_back}
+use Rattle.lr_host.proofs.Made.{Cut, cut, made_journal, made_on}
+use Rattle.lr_host.proofs.Quiet.{since_as, since_before, since_behind}
+use Rattle.lr_laws.proofs.Outside.{apart_outside}
+use Rattle.lr_durable.proofs.Lists.{IsOnWay, on_way, made_prefix}
+use Rattle.lr_family.specs.Parts.{part_of, IsMember, IsMembersPart}
+use Rattle.lr_scripts.specs.declared.removal.Removal.{Removal}
+use Rattle.lr_copy.specs.declared.job.Job.{Job}
+use Rattle.lr_copy.specs.Fits.{ArePaths}
+use Rattle.lr_copied.specs.Whole.{Named, WritersSpare}
+use Rattle.lr_copied.proofs.Moments.{IsLast, is_last}
+use Rattle.lr_chain.specs.declared.ready.Ready.{Ready}
+use Rattle.lr_move.specs.Moved.{CopiesAside, IsLetGo, LetsGoWhole, WritersSpareCopies, KeepsMovedWhere}
+use Rattle.lr_move.proofs.LettingGo.{may_go}
 use Rattle.lr_due.specs.declared.answer.Due.{Due}
-use Rattle.lr_laws.specs.Forward.{IsForwardFor}
-use Rattle.lr_plan.specs.Asked.{Asked}
+use Rattle.lr_reading.proofs.Quiet.{state_quiet}
 use Rattle.lr_plan.specs.declared.looks.LogLook.{LogLook}
 use Rattle.lr_plan.specs.declared.plan.Plan.{Plan}
+use Rattle.lr_plan.specs.declared.plan.LogPlan.{LogPlan}
+use Rattle.lr_plan.specs.declared.plan.SetPlan.{SetPlan}
+use Rattle.lr_plan.specs.Asked.{Asked}
 use Rattle.lr_plan.specs.Planned.{decision}
 use Rattle.lr_plan.specs.Steps.{steps_of_plan}
+use Rattle.lr_emptied.specs.LetGo.{CopiedFrom, UnlinksCopied, AreElsewhere, MayLetGo, MayAllLetGo}
 use Rattle.lr_emptied.proofs.Letting.{Spares, both_copied, same_copied, spared_copied, plan_lets, sets_letting, sets_cut_letting, state_letting}
+use Rattle.lr_emptied.proofs.Whole.{whole_since}
+use Rattle.lr_laws_rotations.proofs.SetMembers.{keyless_no_member}
+use Rattle.lr_laws_targets.specs.Rotation.{paths_in}
+use Rattle.lr_laws_targets.specs.Target.{Target, IsJob, HasWay, source_by}
+use Rattle.lr_laws_targets.proofs.Reached.{IsKnownFor, waits_at}
+use Rattle.lr_laws_targets.proofs.RunSafety.{known_targets, part_apart}
+use Rattle.lr_laws_targets.proofs.Safety.{quiet_call_safe_by}
+use Rattle.lr_laws_targets.proofs.Own.{family_members, target_member, member_own, named_own}
+use Rattle.lr_laws_targets.proofs.PartFile.{part_no_waiting, job_part}
+use Rattle.lr_laws_targets.proofs.Way.{aside_own}
+use Rattle.lr_weave.specs.Planned.{bare_removal, IsReadyFor, AreReadyFor, HaveLogs}
 use Rattle.lr_seen.specs.Targets.{groups_of, all_targets}
 use Rattle.lr_seen.proofs.Ready.{plans_have_logs}
 use Rattle.lr_seen.proofs.Seen.{targets_seen}
@@ -34,48 +74,7 @@ use Rattle.lr_run.specs.declared.answer.RunStop.TheVariants as stop
 use Rattle.lr_run.specs.Answers.{Answers}
 use Rattle.lr_run.specs.Runs as runs
 use Rattle.lr_run.specs.Runs.{Looked, plan_in, Worked, Works, not_known, too_big, worked, Runs, no_directory, not_seen, not_begun, BrokeOff, at_first as at_none, in_looks, in_acts}
-use Rattle.lr_run.proofs.Shape.{some_quiet, seen_later, seen_quiet, looked_parts, in_parts, whole_run}
-use Rattle.lr_rules.specs.declared.path.Path.{Path}
-use Rattle.lr_rules.specs.declared.rule.Naming.{Naming}
-use Rattle.lr_rules.specs.Names.{aside_path, IsOwnName, set_aside}
-use Rattle.lr_rules.specs.StatePath.{state_part}
-use Rattle.lr_host.specs.declared.entry.Entry.{Entry}
-use Rattle.lr_host.specs.declared.entry.Entry.TheVariants.{Starts, Ends, Unlinks}
-use Rattle.lr_host.specs.Lists.{IsIn}
-use Rattle.lr_host.specs.Opening.{IsJournal}
-use Rattle.lr_host.specs.Quiet.{IsQuiet, AreQuiet}
-use Rattle.lr_host.specs.Safe.{IsPrefix, shorter, IsSafe}
-use Rattle.lr_host.specs.Sets.{LogSet, IsAsideOf, is_unplaced, in_reach}
-use Rattle.lr_host.specs.Told.{Made, at_first, by_tool, Left, not_told, is_told}
-use Rattle.lr_host.specs.World.{Past, ◌▸◌, past}
-use Rattle.lr_host.proofs.Lists.{in_front, in_back}
-use Rattle.lr_host.proofs.Made.{Cut, cut, made_journal, made_on}
-use Rattle.lr_host.proofs.Quiet.{sees_quiet, since_as, since_before, since_behind}
-use Rattle.lr_laws.proofs.Outside.{apart_outside}
-use Rattle.lr_family.specs.Parts.{part_of, IsMember, IsMembersPart}
-use Rattle.lr_scripts.specs.declared.removal.Removal.{Removal}
-use Rattle.lr_chain.specs.declared.ready.Ready.{Ready}
-use Rattle.lr_copy.specs.declared.job.Job.{Job}
-use Rattle.lr_copy.specs.Fits.{ArePaths}
-use Rattle.lr_durable.proofs.Lists.{IsOnWay, on_way, made_prefix}
-use Rattle.lr_copied.specs.Whole.{Named, WritersSpare}
-use Rattle.lr_copied.proofs.Moments.{IsLast, is_last}
-use Rattle.lr_plan.specs.declared.plan.LogPlan.{LogPlan}
-use Rattle.lr_plan.specs.declared.plan.SetPlan.{SetPlan}
-use Rattle.lr_emptied.specs.LetGo.{CopiedFrom, UnlinksCopied, AreElsewhere, MayLetGo, MayAllLetGo}
-use Rattle.lr_emptied.proofs.Whole.{whole_since}
-use Rattle.lr_laws_rotations.proofs.SetMembers.{keyless_no_member}
-use Rattle.lr_laws_targets.specs.Rotation.{paths_in}
-use Rattle.lr_laws_targets.specs.Target.{Target, IsJob, HasWay, source_by}
-use Rattle.lr_laws_targets.proofs.Reached.{IsKnownFor, waits_at}
-use Rattle.lr_laws_targets.proofs.RunSafety.{all_safe_aside, known_targets, part_apart}
-use Rattle.lr_laws_targets.proofs.Safety.{quiet_call_safe_by}
-use Rattle.lr_laws_targets.proofs.Own.{family_members, target_member, part_file_own, member_own, named_own}
-use Rattle.lr_laws_targets.proofs.PartFile.{part_no_waiting, job_part}
-use Rattle.lr_laws_targets.proofs.Way.{aside_own}
-use Rattle.lr_weave.specs.Planned.{bare_removal, IsReadyFor, AreReadyFor, HaveLogs}
-use Rattle.lr_move.specs.Moved.{CopiesAside, IsLetGo, LetsGoWhole, WritersSpareCopies, KeepsMovedWhere}
-use Rattle.lr_move.proofs.LettingGo.{may_go}
+use Rattle.lr_run.proofs.Shape.{sees_quiet, some_quiet, seen_later, seen_quiet, looked_parts, in_parts}
 
 -- The job copies the log of the set from where it waits to a member, by the part file of that.
 pub record IsOwnCopy (s : LogSet) (job : Job) : Type 0 where
@@ -90,17 +89,18 @@ spares s job p q own only = since_as (λ x. (s.key x ≡ None) × (IsMembersPart
     (λ x h. ((λ same. h.1 (job.to, own.to_is, same ∙ own.part_is)), (λ same. own.aside.member (ap s.key (sym same) ∙ h.0)))) only
 
 module _ (s : LogSet) (p q : Past) (es : List Entry) (made : Made p es q) (j : IsJournal p) (only : WritersSpareCopies s p q) where
-  abbrev x : Path
-  x = aside_path s.log
+  abbrev waiting : Path
+  waiting = aside_path s.log
 
   abbrev last : Entry
-  last = Unlinks x
+  last = Unlinks waiting
 
   -- since an earlier moment
   let_since : (b u : Past) → IsPrefix p b → IsLetGo s b u → IsLetGo s p u
-  let_since b u i l = record { to = l.to; member = l.member; whole = whole_since x l.to p b u i l.whole; other = l.other }
+  unfolding whole_since
+  let_since b u i l = record { to = l.to; member = l.member; whole = whole_since waiting l.to p b u i l.whole; other = l.other }
 
-  just : (u : Past) (w : IsOnWay p (u ▸ last) q es) → IsLast p u last w.old → UnlinksCopied (IsOwnCopy s) x (reverse es) → IsLetGo s p u
+  just : (u : Past) (w : IsOnWay p (u ▸ last) q es) → IsLast p u last w.old → UnlinksCopied (IsOwnCopy s) waiting (reverse es) → IsLetGo s p u
   just u w k f = go (f (reverse k.front) (reverse w.new) all_are)
     where
       all_are : reverse es ≡ reverse k.front ++ (last ∷ reverse w.new)
@@ -110,7 +110,7 @@ module _ (s : LogSet) (p q : Past) (es : List Entry) (made : Made p es q) (j : I
       only_u : (job : Job) → IsOwnCopy s job → WritersSpare job p u
       only_u job own = since_before _ p u q k.front (w.new ++ last ∷ []) k.made (made_on u (u ▸ last) q (last ∷ []) w.new (by_tool at_first tt k.fits) w.behind) (spares s job p q own only)
 
-      go : CopiedFrom (IsOwnCopy s) x (reverse k.front) → IsLetGo s p u
+      go : CopiedFrom (IsOwnCopy s) waiting (reverse k.front) → IsLetGo s p u
       go c = from_there (cut p u k.front (reverse c.named) (reverse c.front) in_two k.made)
         where
           in_two : k.front ≡ reverse c.named ++ reverse c.front
@@ -121,7 +121,7 @@ module _ (s : LogSet) (p q : Past) (es : List Entry) (made : Made p es q) (j : I
               (may_go s c.job c.count d.mid u (reverse c.named) d.second (made_journal p d.mid (reverse c.front) d.first j) c.is.paths
               (since_behind _ p d.mid u (reverse c.front) (reverse c.named) d.first d.second (only_u c.job c.is)) c.is.aside (subst (Named c.job c.count) (sym (reverse-reverse c.named)) c.is_named))
 
-  pub lets_go_whole : UnlinksCopied (IsOwnCopy s) x (reverse es) → LetsGoWhole s p q
+  pub lets_go_whole : UnlinksCopied (IsOwnCopy s) waiting (reverse es) → LetsGoWhole s p q
   lets_go_whole f u since until = behind (on_way p (u ▸ last) q es made (shorter since) until)
     where
       behind : IsOnWay p (u ▸ last) q es → IsLetGo s p u
@@ -167,7 +167,7 @@ module _ (s : LogSet) (asked : s.naming.aside ≡ true) (t : Target) (k : IsKnow
       own log same = keyless_no_member s waits (own_waits log).keyless (subst (IsMember s.naming) same (subst (λ (n : Naming). IsMember n y) (sym (k.naming log)) member))
 
   part_other : (job : Job) → t.job ≡ Some job → job.part ≢ waits
-  part_other job is same = ⊎_elim (λ log. part_no_waiting t.ready.target s.log (sym (job_part t job k.names.family (target_member t k.names) (k.names.job job is)) ∙ same)) (λ other. other_name job.part other (part_file_own t k.names job is) same) same_or_not
+  part_other job is same = part_no_waiting t.ready.target s.log (sym (job_part t job k.names.family (target_member t k.names) (k.names.job job is)) ∙ same)
 
   -- the copy of the set's own log
   own_copy : (job : Job) → t.job ≡ Some job → t.aside ≡ Some waits → IsOwnCopy s job × (job.from ≡ waits) × (job.cut ≡ false)
@@ -242,7 +242,7 @@ module _ (s : LogSet) (asked : s.naming.aside ≡ true) where
 
 -- what only looks unlinks nothing
 quiet_spares : (x : Path) (e : Entry) → IsQuiet e → Spares x e
-quiet_spares x (Unlinks y) i = absurd (let is = i.1 in cc)
+quiet_spares x (Unlinks y) i = absurd (let is : true ≡ false = i.1 in cc)
 quiet_spares x _ i = tt
 
 pub quiet_lets : (P : Job → Type 0) (x : Path) (ts : List Entry) → AreQuiet ts → UnlinksCopied P x ts
