@@ -8,7 +8,7 @@ use Rattle.lr_rules.specs.declared.rule.Naming.{Naming}
 use Rattle.lr_rules.specs.declared.fault.CallKind.TheVariants as call
 use Rattle.lr_rules.specs.declared.fault.Fault.{Fault}
 use Rattle.lr_rules.specs.declared.fault.Fault.TheVariants as fault
-use Rattle.lr_rules.specs.Names.{naming_of}
+use Rattle.lr_rules.specs.Names.{aside_path, naming_of}
 use Rattle.lr_rules.specs.Path.{parent_of}
 use Rattle.lr_host.specs.declared.entry.Entry.{Entry}
 use Rattle.lr_host.specs.declared.entry.Entry.TheVariants as entry
@@ -46,7 +46,7 @@ use Rattle.lr_cat.specs.declared.words.Wanted.{Wanted}
 use Rattle.lr_cat.specs.Came.{Came, report_by, LogEnds, held, called, RulesEnd, given, ConfsEnd, not_read, read, CatEnds, no_clock, no_memory, behind_clock, CatShows, bad_words, wants}
 use Rattle.lr_cat.specs.Cats.{Cats, no_directory, began}
 use Rattle.lr_cat.specs.Complete.{IsClear, IsDirOrNone, IsFileOrNone, NoRise, PrintsAll, printed}
-use Rattle.lr_cat.specs.Saw.{Works, SeesNone, not_stood, not_looked, no_file, read_all, files_of}
+use Rattle.lr_cat.specs.Saw.{Works, FindsNone, FindsNot, not_looked, no_file, SeesNone, not_stood, not_found, read_all, aside_of, files_of}
 use Rattle.lr_cat.specs.Says.{HasCounted, HasFault}
 use Rattle.lr_cat.specs.Texts.{FileText, BreaksOff, ReadsSome, text_fault}
 use Rattle.lr_cat.specs.Words.{wanted}
@@ -147,6 +147,22 @@ module _ (w : Wanted) (c : Came) (p q : Past) (es : List Entry) (journal : IsJou
   stands_files x us (inl h) in_all = sees_dir us h.1 in_all
   stands_files x us (inr h) in_all = none_in_files h.0 x h.2 h.3.back h.3.second (λ e i. in_all e (subst (IsIn e) (sym h.3.joined) (in_back e h.3.front h.3.back i)))
 
+  -- beside the members
+  find_counted : (path : Option Path) (f : Fault) (us : List Entry) → FindsNot path f us → Within us → ((x : Path) → path ≡ Some x → IsFileOrNone (names (world p) x)) → IsCounted f
+  find_counted path f us (not_looked x some is none) in_all free = subst IsCounted (sym is) tt
+  find_counted path f us (no_file x some is s) in_all free = absurd (sees_file x us s in_all (free x some))
+
+  free_at : (path x : Path) → IsFileOrNone (names (world p) path) → Some path ≡ Some x → IsFileOrNone (names (world p) x)
+  free_at path x free some = subst (λ (y : Path). IsFileOrNone (names (world p) y)) (same_Some path x some) free
+
+  free_aside : (b : Bool) (x : Path) → c.naming.aside ≡ b → aside_of b w.log ≡ Some x → IsFileOrNone (names (world p) x)
+  free_aside true x is some = free_at (aside_path w.log) x (clear.aside is) some
+  free_aside false x is some = absurd (some_none x (sym some))
+
+  both_counted : (f : Fault) (us : List Entry) → FindsNone (aside_of c.naming.aside w.log) w.log f us → Within us → IsCounted f
+  both_counted f us (inl h) in_all = find_counted (aside_of c.naming.aside w.log) f us h in_all (λ x some. free_aside c.naming.aside x refl some)
+  both_counted f us (inr h) in_all = find_counted (Some w.log) f h.1.back h.1.second (λ e i. in_all e (subst (IsIn e) (sym h.1.joined) (in_back e h.1.front h.1.back i))) (λ x some. free_at w.log x clear.log some)
+
   none_counted : (f : Fault) (us : List Entry) → SeesNone c.naming w.log f us → Within us → IsCounted f
   none_counted f us (not_stood why is h) in_all = by why is h
     where
@@ -154,8 +170,7 @@ module _ (w : Wanted) (c : Came) (p q : Past) (es : List Entry) (journal : IsJou
       by (stands.Call kind path) is h = let same : fault.Call kind path ≡ f = cc in subst IsCounted same tt
       by (stands.NotFile path) is h = absurd (stands_files path us h in_all)
       by stands.Memory is h = absurd (cc)
-  none_counted f us (not_looked stand is h) in_all = subst IsCounted (sym is) tt
-  none_counted f us (no_file stand is h) in_all = absurd (sees_file w.log h.back h.second (λ e i. in_all e (subst (IsIn e) (sym h.joined) (in_back e h.front h.back i))) clear.log)
+  none_counted f us (not_found stand h) in_all = both_counted f h.back h.second (λ e i. in_all e (subst (IsIn e) (sym h.joined) (in_back e h.front h.back i)))
 
   -- ---- the reads
 
@@ -181,7 +196,7 @@ module _ (w : Wanted) (c : Came) (p q : Past) (es : List Entry) (journal : IsJou
 
   works_counted : (f : Fault) (us : List Entry) → Works c.naming w.log (Some f) c.texts us → Within us → IsCounted f
   works_counted f us (Works.not_seen g is e h) in_all = none_counted f us (subst (λ (k : Fault). SeesNone c.naming w.log k us) (same_Some g f (sym is)) h) in_all
-  works_counted f us (Works.broke_off saw g is h) in_all = broken_counted f (files_of w.log saw) h.back (subst (λ (k : Fault). BreaksOff (files_of w.log saw) k c.texts h.back) (same_Some g f (sym is)) h.second)
+  works_counted f us (Works.broke_off saw g is h) in_all = broken_counted f (files_of saw) h.back (subst (λ (k : Fault). BreaksOff (files_of saw) k c.texts h.back) (same_Some g f (sym is)) h.second)
       (λ e i. in_all e (subst (IsIn e) (sym h.joined) (in_back e h.front h.back i)))
   works_counted f us (read_all saw is h) in_all = absurd (some_none f is)
 

@@ -10,21 +10,20 @@ use Rattle.lr_rules.specs.declared.fault.Fault.{Fault}
 use Rattle.lr_host.specs.declared.entry.Entry.{Entry}
 use Rattle.lr_host.specs.declared.entry.Entry.TheVariants as entry
 use Rattle.lr_host.specs.declared.journal.Journal.{Journal}
-use Rattle.lr_host.specs.Looks.{IsNoFile}
 use Rattle.lr_host.specs.Quiet.{IsQuiet, AreQuiet, ChangeNothing}
 use Rattle.lr_host.specs.Reading.{IsReadOf}
 use Rattle.lr_host.specs.Told.{Each, Are, Left, not_told, is_told, Made, at_first, by_writer, by_tool, IsWriters, Then, WhereTold}
 use Rattle.lr_host.specs.World.{Past, ◌▸◌, past, world}
 use Rattle.lr_host.proofs.Each.{each_append, each_as, each_in_order}
 use Rattle.lr_host.proofs.Quiet.{quiet_still}
-use Rattle.lr_family.proofs.OnlyLooks.{AreLooking, looking_both, looking_sees}
+use Rattle.lr_family.proofs.OnlyLooks.{AreLooking, looking_both}
 use Rattle.lr_cat.specs.declared.texts.TextStop.{TextStop}
 use Rattle.lr_cat.specs.declared.texts.TextStop.TheVariants as stop
-use Rattle.lr_cat.specs.Saw.{Saw, ShowsSaw, SeesNone, not_stood, not_looked, no_file, Works, not_seen, broke_off, read_all, files_of}
+use Rattle.lr_cat.specs.Saw.{Saw, ShowsSaw, SeesNone, not_stood, not_found, Works, not_seen, broke_off, read_all, aside_of, files_of}
 use Rattle.lr_glob.specs.Looking.{IsSight, AreSights}
 use Rattle.lr_cat.specs.Texts.{FileText, ReadsTexts, ReadsSome, BreaksOff, ReadsAllOf}
 use Rattle.lr_cat.proofs.Putting.{whole_only}
-use Rattle.lr_cat.proofs.Standing.{log_looks, looks_sights, stand_looks, stop_looks}
+use Rattle.lr_cat.proofs.Standing.{both_looks, looks_sights, none_looks, stand_looks, stop_looks}
 
 -- ---- which they are
 
@@ -54,20 +53,19 @@ pub all_sights : (files : List Path) (texts : List FileText) (ts : List Entry) �
 all_sights files texts ts r = texts_sights texts ts r.reads
 
 saw_looks : (n : Naming) (log : Path) (saw : Saw) (ts : List Entry) → ShowsSaw n log saw ts → AreLooking ts
-saw_looks n log saw ts s = looking_both ts (λ us h. stand_looks n saw.stand us h) (λ us h. log_looks log saw.there us h) s
+saw_looks n log saw ts s = looking_both ts (λ us h. stand_looks n saw.stand us h) (λ us h. both_looks (aside_of n.aside log) log saw.aside saw.log us h) s
 
 pub saw_sights : (n : Naming) (log : Path) (saw : Saw) (ts : List Entry) → ShowsSaw n log saw ts → AreSights ts
 saw_sights n log saw ts s = looks_sights ts (saw_looks n log saw ts s)
 
 pub none_sights : (n : Naming) (log : Path) (f : Fault) (ts : List Entry) → SeesNone n log f ts → AreSights ts
 none_sights n log f ts (not_stood why is h) = looks_sights ts (stop_looks n why ts h)
-none_sights n log f ts (not_looked stand is h) = looks_sights ts (stand_looks n stand ts h)
-none_sights n log f ts (no_file stand is h) = looks_sights ts (looking_both ts (λ us s. stand_looks n stand us s) (λ us s. looking_sees log IsNoFile us s) h)
+none_sights n log f ts (not_found stand h) = looks_sights ts (looking_both ts (λ us s. stand_looks n stand us s) (λ us s. none_looks (aside_of n.aside log) log f us s) h)
 
 pub works_sights : (n : Naming) (log : Path) (own : Option Fault) (texts : List FileText) (ts : List Entry) → Works n log own texts ts → AreSights ts
 works_sights n log own texts ts (not_seen f is none h) = none_sights n log f ts h
-works_sights n log own texts ts (broke_off saw f is h) = sights_both ts (λ us s. saw_sights n log saw us s) (λ us b. broken_sights (files_of log saw) f texts us b) h
-works_sights n log own texts ts (read_all saw is h) = sights_both ts (λ us s. saw_sights n log saw us s) (λ us r. all_sights (files_of log saw) texts us r) h
+works_sights n log own texts ts (broke_off saw f is h) = sights_both ts (λ us s. saw_sights n log saw us s) (λ us b. broken_sights (files_of saw) f texts us b) h
+works_sights n log own texts ts (read_all saw is h) = sights_both ts (λ us s. saw_sights n log saw us s) (λ us r. all_sights (files_of saw) texts us r) h
 
 -- ---- what they leave
 

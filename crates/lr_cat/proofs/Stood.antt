@@ -1,5 +1,5 @@
--- Each member that stood, and the log, was seen.
-use Rattle.std.proofs.Common.{◌≡◌, ◌≢◌, ◌⊎◌, inl, ⊎_elim, ℕ, Bool, true, false, List, [], ◌∷◌, ◌++◌, Option, None, reverse, refl, sym, ap, ◌∙◌, subst}
+-- Each member that stood, and each file beside them, was seen.
+use Rattle.std.proofs.Common.{◌≡◌, ◌≢◌, ◌⊎◌, inl, ⊎_elim, ℕ, Bool, true, false, List, [], ◌∷◌, ◌++◌, Option, Some, None, reverse, sym, ap, ◌∙◌, subst}
 use Rattle.lr_rules.specs.declared.path.Path.{Path}
 use Rattle.lr_rules.specs.declared.rule.Naming.{Naming}
 use Rattle.lr_rules.specs.Path.{joined}
@@ -29,7 +29,7 @@ use Rattle.lr_laws_family.proofs.Picking.{has_or_none}
 use Rattle.lr_laws_family.proofs.Shows.{stand_shown}
 use Rattle.lr_laws_family.proofs.Stood.{quiet_journal}
 use Rattle.lr_stood.specs.True.{HasMember}
-use Rattle.lr_cat.specs.Saw.{FindsLog}
+use Rattle.lr_cat.specs.Saw.{Finds}
 
 -- a look that saw nothing
 nothing_look : (x : Path) (ts : List Entry) → Sees x IsNothing ts → IsIn (entry.Look x None) ts
@@ -51,10 +51,10 @@ module _ (p q : Past) (es : List Entry) (journal : IsJournal p) (m : Made p es q
       let f = stands x (entry.Look x None) t file in
       nothing_no_file (names (world t.at) x) f.0 (seen_none (world t.at) (names (world t.at) x) t.fits) f.1
 
-  -- the log
-  pub log_stood : (log : Path) (there : Bool) (ts : List Entry) → FindsLog log there ts → ((e : Entry) → IsIn e ts → IsIn e (reverse es)) → IsFileAt (names (world p)) log → there ≡ true
-  log_stood log true ts s in_all file = refl
-  log_stood log false ts s in_all file = absurd (none_stood log (in_all (entry.Look log None) (nothing_look log ts s)) file)
+  -- a file beside the members
+  pub file_stood : (x : Path) (found : Option Path) (ts : List Entry) → Finds (Some x) found ts → ((e : Entry) → IsIn e ts → IsIn e (reverse es)) → IsFileAt (names (world p)) x → found ≡ Some x
+  file_stood x (Some y) ts s in_all file = ap (λ (z : Path). Some z) s.0
+  file_stood x None ts s in_all file = absurd (none_stood x (in_all (entry.Look x None) (nothing_look x ts s)) file)
 
   module _ (log : Path) (n : Naming) (family : IsFamily log n) where
     -- so does a listing of its directory without its name

@@ -1,5 +1,5 @@
 -- A call that no fault of its own ended put out the log's whole history.
-use Rattle.std.proofs.Common.{◌≡◌, inl, inr, ℕ, ℤ, Bool, true, false, List, [], ◌∷◌, ◌++◌, map, reverse, Option, Some, None, refl, sym, ap, ◌∙◌, subst, append_assoc}
+use Rattle.std.proofs.Common.{◌≡◌, inl, inr, ℕ, ℤ, Bool, List, [], ◌∷◌, ◌++◌, map, reverse, Option, Some, None, refl, sym, ap, ◌∙◌, subst, append_assoc}
 use Rattle.std.proofs.lemmas.List.{reverse-reverse}
 use Rattle.std.proofs.lemmas.Option.{same_Some}
 use Rattle.lr_rules.specs.declared.path.Path.{Path}
@@ -7,7 +7,7 @@ use Rattle.lr_rules.specs.declared.clock.Clock.{Clock}
 use Rattle.lr_rules.specs.declared.rules.Rules.{Rules}
 use Rattle.lr_rules.specs.declared.rule.Naming.{Naming}
 use Rattle.lr_rules.specs.declared.fault.Fault.{Fault}
-use Rattle.lr_rules.specs.Names.{naming_of}
+use Rattle.lr_rules.specs.Names.{aside_path, naming_of}
 use Rattle.lr_host.specs.declared.entry.Entry.{Entry}
 use Rattle.lr_host.specs.declared.entry.Entry.TheVariants.{Starts, Ends}
 use Rattle.lr_host.specs.Lists.{IsIn}
@@ -29,12 +29,12 @@ use Rattle.lr_cat.specs.declared.words.Wanted.{Wanted}
 use Rattle.lr_cat.specs.Came.{Came, LogEnds, held, short, called, RulesEnd, no_log, lacks, given, ConfsEnd, not_read, broke_off, read, CatEnds, no_clock, no_memory, behind_clock, CatShows, bad_words, no_words, wants}
 use Rattle.lr_cat.specs.Cats.{Cats, no_directory, began}
 use Rattle.lr_cat.specs.History.{HasText, IsHistory}
-use Rattle.lr_cat.specs.Saw.{Saw, ShowsSaw, Works, read_all, files_behind, files_of}
+use Rattle.lr_cat.specs.Saw.{Finds, Saw, ShowsSaw, Works, read_all, aside_of, files_behind, files_of, listed}
 use Rattle.lr_cat.specs.Texts.{FileText, paths_of, ReadsWhole, ReadsTexts, ReadsAllOf}
 use Rattle.lr_cat.specs.Words.{wanted}
 use Rattle.lr_cat.proofs.Lasting.{text_of}
 use Rattle.lr_cat.proofs.Sighted.{saw_sights, all_sights, sights_both, sights_still}
-use Rattle.lr_cat.proofs.Stood.{log_stood, member_stood}
+use Rattle.lr_cat.proofs.Stood.{file_stood, member_stood}
 
 pub some_none : {A : Type 0} (x : A) → Some x ≡ None → ⊥
 some_none x e = absurd (cc)
@@ -47,7 +47,7 @@ pub record IsWork (w : Wanted) (c : Came) (ts : List Entry) : Type 0 where
   pub is : ts ≡ front ++ (Starts w.state c.clock.now c.rules ∷ (between ++ Ends ∷ []))
   pub family : IsFamily w.log c.naming
   pub saw : Saw
-  pub works : Then (ShowsSaw c.naming w.log saw) (ReadsAllOf (files_of w.log saw) c.texts) between
+  pub works : Then (ShowsSaw c.naming w.log saw) (ReadsAllOf (files_of saw) c.texts) between
 
 module _ (w : Wanted) (clock : Clock) (m : Meaning) (rules : Rules) (n : Naming) (own : Option Fault) (texts : List FileText) where
   abbrev it : Came
@@ -114,19 +114,25 @@ one_text (u ∷ texts) ts r t (inr i) = let s = one_text texts r.back r.second t
 has_text : (files : List Path) (texts : List FileText) (x : Path) → files ≡ paths_of texts → IsIn x files → HasText texts x
 has_text files texts x is i = in_unmap (λ (t : FileText). t.path) x texts (subst (IsIn x) is i)
 
--- the log, and each member, is one of the files
-log_file : (log : Path) (saw : Saw) → saw.there ≡ true → IsIn log (files_of log saw)
-log_file log saw there = in_reverse log (files_behind log saw.there saw.stand.members) (subst (λ (b : Bool). IsIn log (files_behind log b saw.stand.members)) (sym there) (inl refl))
+-- the log, what was set aside, and each member, is one of the files
+in_listed : (x : Path) (found : Option Path) → found ≡ Some x → IsIn x (listed found)
+in_listed x found is = subst (λ (o : Option Path). IsIn x (listed o)) (sym is) (inl refl)
 
-member_file : (log : Path) (saw : Saw) (x : Path) → HasMember saw.stand.members x → IsIn x (files_of log saw)
-member_file log saw x h = in_reverse x (files_behind log saw.there saw.stand.members) (go saw.there)
-  where
-    among : IsIn x (map (λ (m : Member). m.path) saw.stand.members)
-    among = subst (λ (y : Path). IsIn y (map (λ (m : Member). m.path) saw.stand.members)) h.2 (in_map (λ (m : Member). m.path) h.0 saw.stand.members h.1)
+module _ (saw : Saw) where
+  abbrev members : List Path
+  members = map (λ (m : Member). m.path) saw.stand.members
 
-    go : (there : Bool) → IsIn x (files_behind log there saw.stand.members)
-    go true = inr among
-    go false = among
+  log_file : (x : Path) → saw.log ≡ Some x → IsIn x (files_of saw)
+  log_file x is = in_reverse x (files_behind saw.log saw.aside saw.stand.members) (in_front x (listed saw.log) (listed saw.aside ++ members) (in_listed x saw.log is))
+
+  aside_file : (x : Path) → saw.aside ≡ Some x → IsIn x (files_of saw)
+  aside_file x is = in_reverse x (files_behind saw.log saw.aside saw.stand.members) (in_back x (listed saw.log) (listed saw.aside ++ members) (in_front x (listed saw.aside) members (in_listed x saw.aside is)))
+
+  member_file : (x : Path) → HasMember saw.stand.members x → IsIn x (files_of saw)
+  member_file x h = in_reverse x (files_behind saw.log saw.aside saw.stand.members) (in_back x (listed saw.log) (listed saw.aside ++ members) (in_back x (listed saw.aside) members among))
+    where
+      among : IsIn x members
+      among = subst (λ (y : Path). IsIn y members) h.2 (in_map (λ (m : Member). m.path) h.0 saw.stand.members h.1)
 
 module _ (w : Wanted) (c : Came) (p q : Past) (es : List Entry) (journal : IsJournal p) (m : Made p es q) (still : ChangeNothing es) (k : IsWork w c (reverse es)) where
   abbrev begin : Entry
@@ -146,7 +152,7 @@ module _ (w : Wanted) (c : Came) (p q : Past) (es : List Entry) (journal : IsJou
 
   quiet : ChangeNothing (reverse behind)
   quiet = still_reverse behind (still_both k.between (Ends ∷ [])
-      (sights_still k.between (sights_both k.between (λ us s. saw_sights c.naming w.log k.saw us s) (λ us r. all_sights (files_of w.log k.saw) c.texts us r) k.works)) refl)
+      (sights_still k.between (sights_both k.between (λ us s. saw_sights c.naming w.log k.saw us s) (λ us r. all_sights (files_of k.saw) c.texts us r) k.works)) refl)
 
   -- the entries of the looks, and those of the reads
   looked : (e : Entry) → IsIn e k.works.front → IsIn e (reverse (reverse behind))
@@ -155,8 +161,14 @@ module _ (w : Wanted) (c : Came) (p q : Past) (es : List Entry) (journal : IsJou
   in_stand : (e : Entry) → IsIn e k.works.first.front → IsIn e (reverse (reverse behind))
   in_stand e i = looked e (subst (IsIn e) (sym k.works.first.joined) (in_front e k.works.first.front k.works.first.back i))
 
-  in_log : (e : Entry) → IsIn e k.works.first.back → IsIn e (reverse (reverse behind))
-  in_log e i = looked e (subst (IsIn e) (sym k.works.first.joined) (in_back e k.works.first.front k.works.first.back i))
+  in_beside : (e : Entry) → IsIn e k.works.first.back → IsIn e (reverse (reverse behind))
+  in_beside e i = looked e (subst (IsIn e) (sym k.works.first.joined) (in_back e k.works.first.front k.works.first.back i))
+
+  in_aside : (e : Entry) → IsIn e k.works.first.second.front → IsIn e (reverse (reverse behind))
+  in_aside e i = in_beside e (subst (IsIn e) (sym k.works.first.second.joined) (in_front e k.works.first.second.front k.works.first.second.back i))
+
+  in_log : (e : Entry) → IsIn e k.works.first.second.back → IsIn e (reverse (reverse behind))
+  in_log e i = in_beside e (subst (IsIn e) (sym k.works.first.second.joined) (in_back e k.works.first.second.front k.works.first.second.back i))
 
   in_reads : (e : Entry) → IsIn e k.works.back → IsIn e (reverse es)
   in_reads e i = subst (IsIn e) (sym k.is) (in_back e k.front (begin ∷ behind) (inr (in_front e k.between (Ends ∷ []) (subst (IsIn e) (sym k.works.joined) (in_back e k.works.front k.works.back i)))))
@@ -166,10 +178,13 @@ module _ (w : Wanted) (c : Came) (p q : Past) (es : List Entry) (journal : IsJou
     at = a.mid;
     since = made_prefix p a.mid (reverse k.front) a.first;
     begun = made_prefix (a.mid ▸ begin) q (reverse behind) a.second;
-    members = λ x member file. has_text (files_of w.log k.saw) c.texts x k.works.second.files_are (member_file w.log k.saw x
+    members = λ x member file. has_text (files_of k.saw) c.texts x k.works.second.files_are (member_file k.saw x
         (member_stood (a.mid ▸ begin) q (reverse behind) later a.second quiet w.log c.naming k.family k.saw.stand k.works.first.front k.works.first.first in_stand x member file));
-    log = λ file. has_text (files_of w.log k.saw) c.texts w.log k.works.second.files_are (log_file w.log k.saw
-        (log_stood (a.mid ▸ begin) q (reverse behind) later a.second quiet w.log k.saw.there k.works.first.back k.works.first.second in_log file));
+    aside = λ is file. has_text (files_of k.saw) c.texts (aside_path w.log) k.works.second.files_are (aside_file k.saw (aside_path w.log)
+        (file_stood (a.mid ▸ begin) q (reverse behind) later a.second quiet (aside_path w.log) k.saw.aside k.works.first.second.front
+        (subst (λ (b : Bool). Finds (aside_of b w.log) k.saw.aside k.works.first.second.front) is k.works.first.second.first) in_aside file));
+    log = λ file. has_text (files_of k.saw) c.texts w.log k.works.second.files_are (log_file k.saw w.log
+        (file_stood (a.mid ▸ begin) q (reverse behind) later a.second quiet w.log k.saw.log k.works.first.second.back k.works.first.second.second in_log file));
     texts = λ t i. let r = one_text c.texts k.works.back k.works.second.reads t i in
         text_of p q es journal m still t r.0 r.1 (λ e j. in_reads e (r.2 e j));
   }

@@ -1,6 +1,7 @@
 -- When a call prints all that stands.
-use Rattle.std.specs.Prelude.{◌≡◌, ◌≢◌, ◌≤◌, ℕ, length, Option, Some, None}
+use Rattle.std.specs.Prelude.{◌≡◌, ◌≢◌, ◌≤◌, ℕ, true, length, Option, Some, None}
 use Rattle.lr_rules.specs.declared.path.Path.{Path}
+use Rattle.lr_rules.specs.Names.{aside_path}
 use Rattle.lr_rules.specs.Path.{parent_of}
 use Rattle.lr_host.specs.declared.thing.Thing.{Thing}
 use Rattle.lr_host.specs.declared.thing.Thing.TheVariants as thing
@@ -40,8 +41,9 @@ pub record IsClear (w : Wanted) (c : Came) (before after : Past) : Type 0 where
   -- at the path of the members' directory one stood, or nothing, and no writer was attached to it, who would make a file there
   pub dir : IsDirOrNone (names (world before) c.naming.dir)
   pub spared : AttachedOnlySince (λ x. x ≢ c.naming.dir) before after
-  -- at the log's path and at that of each member a regular file stood, or nothing
+  -- at the log's path, where it waits while its way sets it aside, and at the path of each member a regular file stood, or nothing
   pub log : IsFileOrNone (names (world before) w.log)
+  pub aside : c.naming.aside ≡ true → IsFileOrNone (names (world before) (aside_path w.log))
   pub members : (x : Path) → IsMember c.naming x → IsFileOrNone (names (world before) x)
   -- at the end no file that was read has more than 2^40 bytes
   pub short : (t : FileText) (g : ℕ) → IsIn t c.texts → names (world after) t.path ≡ thing.File g

@@ -1,6 +1,7 @@
 -- The whole history of a log: which files it has, and what was read of them.
-use Rattle.std.specs.Prelude.{◌≡◌, List, ◌++◌, ℕ}
+use Rattle.std.specs.Prelude.{◌≡◌, List, ◌++◌, ℕ, true}
 use Rattle.lr_rules.specs.declared.path.Path.{Path}
+use Rattle.lr_rules.specs.Names.{aside_path}
 use Rattle.lr_host.specs.declared.entry.Entry.TheVariants.{Starts}
 use Rattle.lr_host.specs.Fits.{IsFileAt}
 use Rattle.lr_host.specs.Lists.{IsIn}
@@ -27,12 +28,13 @@ pub record IsTextOf (t : FileText) (before after : Past) : Type 0 where
   -- of a file to which nothing was added meanwhile these are its bytes
   pub same : (bytes : List ℕ) → Has t.path file bytes before → Has t.path file bytes after → t.bytes ≡ bytes
 
--- The run began at this moment; each member that stood then is among the files, and so is the log, if it stood; and each text is
--- its file's.
+-- The run began at this moment; each member that stood then is among the files; so is the file that a run which broke off had set
+-- aside, where the log's way does that; and so is the log, if it stood. Each text is its file's.
 pub record IsHistory (w : Wanted) (c : Came) (before after : Past) : Type 0 where
   pub at : Past
   pub since : IsPrefix before at
   pub begun : IsPrefix (at ▸ Starts w.state c.clock.now c.rules) after
   pub members : (x : Path) → IsMember c.naming x → IsFileAt (names (world at)) x → HasText c.texts x
+  pub aside : c.naming.aside ≡ true → IsFileAt (names (world at)) (aside_path w.log) → HasText c.texts (aside_path w.log)
   pub log : IsFileAt (names (world at)) w.log → HasText c.texts w.log
   pub texts : (t : FileText) → IsIn t c.texts → IsTextOf t before after

@@ -1,5 +1,5 @@
 -- For proofs: the looks, one by one.
-use Rattle.std.specs.Prelude.{◌≡◌, List, [], reverse, Option}
+use Rattle.std.specs.Prelude.{◌≡◌, Bool, true, false, List, [], reverse, Option, Some, None}
 use Rattle.lr_rules.specs.declared.path.Path.{Path}
 use Rattle.lr_rules.specs.declared.rule.Naming.{Naming}
 use Rattle.lr_rules.specs.declared.fault.CallKind.TheVariants as call
@@ -12,19 +12,24 @@ use Rattle.lr_glob.specs.Looking.{AreSights}
 use Rattle.lr_host.specs.Told.{Left}
 use Rattle.lr_family.specs.declared.stand.StandStop.{StandStop}
 use Rattle.lr_family.specs.declared.stand.StandStop.TheVariants as stands
-use Rattle.lr_cat.specs.declared.seeing.LogStop.{LogStop}
-use Rattle.lr_cat.specs.declared.seeing.LogStop.TheVariants as logs
+use Rattle.lr_cat.specs.declared.seeing.FileStop.{FileStop}
+use Rattle.lr_cat.specs.declared.seeing.FileStop.TheVariants as files
 use Rattle.lr_cat.specs.declared.stop.CatStop.{CatStop}
 use Rattle.lr_cat.specs.declared.stop.CatStop.TheVariants as stop
 use Rattle.lr_cat.specs.Saw.{Saw, ShowsSaw, SeesNone, files_of}
 
-abbrev pub FindsNone : Path → LogStop → List Entry → Type 0
-FindsNone log logs.Call ts = ts ≡ []
-FindsNone log logs.NotFile ts = Sees log IsNoFile ts
+-- the path, where a file was found there
+abbrev pub found_if : Path → Bool → Option Path
+found_if path true = Some path
+found_if path false = None
 
-abbrev pub log_fault : LogStop → Path → Fault
-log_fault logs.Call log = fault.Call call.Look log
-log_fault logs.NotFile log = fault.NotFile log
+abbrev pub FindsNoFile : Path → FileStop → List Entry → Type 0
+FindsNoFile path files.Call ts = ts ≡ []
+FindsNoFile path files.NotFile ts = Sees path IsNoFile ts
+
+abbrev pub file_fault : FileStop → Path → Fault
+file_fault files.Call path = fault.Call call.Look path
+file_fault files.NotFile path = fault.NotFile path
 
 abbrev pub stand_stop : StandStop → CatStop
 stand_stop (stands.Call kind path) = stop.Fault (fault.Call kind path)
@@ -35,7 +40,7 @@ stand_stop stands.Memory = stop.Memory
 pub record SeesAll (n : Naming) (log : Path) (files : List Path) (told later : Option Journal) : Type 0 where
   pub saw : Saw
   pub shows : Left (ShowsSaw n log saw) told later
-  pub files_are : reverse files ≡ files_of log saw
+  pub files_are : reverse files ≡ files_of saw
 
 -- it wasn't, for this cause
 abbrev pub SeesNot : Naming → Path → CatStop → Option Journal → Option Journal → Type 0

@@ -1,10 +1,11 @@
 -- What a call saw of a log's history, and the files that this has.
-use Rattle.std.specs.Prelude.{◌≡◌, Bool, true, false, List, [], ◌∷◌, ◌++◌, map, reverse, Option, Some, None, if◌then◌else◌}
+use Rattle.std.specs.Prelude.{◌≡◌, ◌⊎◌, Bool, true, false, List, [], ◌∷◌, ◌++◌, map, reverse, Option, Some, None}
 use Rattle.lr_rules.specs.declared.path.Path.{Path}
 use Rattle.lr_rules.specs.declared.rule.Naming.{Naming}
 use Rattle.lr_rules.specs.declared.fault.CallKind.TheVariants as call
 use Rattle.lr_rules.specs.declared.fault.Fault.{Fault}
 use Rattle.lr_rules.specs.declared.fault.Fault.TheVariants as fault
+use Rattle.lr_rules.specs.Names.{aside_path}
 use Rattle.lr_host.specs.declared.entry.Entry.{Entry}
 use Rattle.lr_host.specs.Looks.{Sees, IsFile, IsNoFile, IsNothing}
 use Rattle.lr_host.specs.Told.{Then}
@@ -15,38 +16,69 @@ use Rattle.lr_family.specs.Standing.{ShowsStand, ShowsStop}
 use Rattle.lr_looks.specs.Families.{stop_fault}
 use Rattle.lr_cat.specs.Texts.{FileText, BreaksOff, ReadsAllOf}
 
--- What stands of the family, and whether a file stands at the log's own path.
+-- ---- a file that may stand at a path
+
+-- A look at the path, where there is one, saw a regular file, and so found it; or it saw nothing. Else nothing is looked at.
+abbrev pub Finds : Option Path → Option Path → List Entry → Type 0
+Finds None found ts = (found ≡ None) × (ts ≡ [])
+Finds (Some path) None ts = Sees path IsNothing ts
+Finds (Some path) (Some found) ts = (found ≡ path) × Sees path IsFile ts
+
+-- It isn't known, as this fault tells: the look failed, or something else than a regular file stands there.
+pub data FindsNot (path : Option Path) (f : Fault) (ts : List Entry) : Type 0 where
+  not_looked : (x : Path) → path ≡ Some x → f ≡ fault.Call call.Look x → ts ≡ [] → FindsNot path f ts
+  no_file : (x : Path) → path ≡ Some x → f ≡ fault.NotFile x → Sees x IsNoFile ts → FindsNot path f ts
+
+-- the path, if there is one
+abbrev pub listed : Option Path → List Path
+listed None = []
+listed (Some path) = path ∷ []
+
+-- ---- beside the members
+
+-- where the log waits that is set aside, if its way does that
+abbrev pub aside_of : Bool → Path → Option Path
+aside_of true log = Some (aside_path log)
+aside_of false log = None
+
+-- a look there came first, and then one at the log
+abbrev pub FindsBoth : Option Path → Path → Option Path → Option Path → List Entry → Type 0
+FindsBoth aside log set own = Then (Finds aside set) (Finds (Some log) own)
+
+-- it isn't known of the one, or only of the other
+abbrev pub FindsNone : Option Path → Path → Fault → List Entry → Type 0
+FindsNone aside log f ts = FindsNot aside f ts ⊎ ((set : Option Path) × Then (Finds aside set) (FindsNot (Some log) f) ts)
+
+-- ---- all of it
+
+-- What stands of the family; the path where the log waits that is set aside, if a file stands there; and the log's own, if one does.
 pub record Saw : Type 0 where
   pub stand : Stand
-  pub there : Bool
-
--- a look at the log saw a regular file, or nothing
-abbrev pub FindsLog : Path → Bool → List Entry → Type 0
-FindsLog log true ts = Sees log IsFile ts
-FindsLog log false ts = Sees log IsNothing ts
+  pub aside : Option Path
+  pub log : Option Path
 
 abbrev pub ShowsSaw : Naming → Path → Saw → List Entry → Type 0
-ShowsSaw n log saw = Then (ShowsStand n saw.stand) (FindsLog log saw.there)
+ShowsSaw n log saw = Then (ShowsStand n saw.stand) (FindsBoth (aside_of n.aside log) log saw.aside saw.log)
 
--- the log, where it is there, and behind it these members
-abbrev pub files_behind : Path → Bool → List Member → List Path
-files_behind log there members = (if there then log ∷ [] else []) ++ map (λ m. m.path) members
+-- the log, where it is there, behind it what was set aside, and these members
+abbrev pub files_behind : Option Path → Option Path → List Member → List Path
+files_behind log aside members = listed log ++ (listed aside ++ map (λ m. m.path) members)
 
--- The files of the call: the members, the oldest first, and then the log, where it is there.
-abbrev pub files_of : Path → Saw → List Path
-files_of log saw = reverse (files_behind log saw.there saw.stand.members)
+-- The files of the call: the members, the oldest first, then what was set aside and not yet copied, which is newer than they are,
+-- and then the log, where it is there.
+abbrev pub files_of : Saw → List Path
+files_of saw = reverse (files_behind saw.log saw.aside saw.stand.members)
 
--- It isn't known what stands, as this fault tells: of the family, or of the log; or the log isn't a regular file.
+-- It isn't known what stands, as this fault tells: of the family, or beside its members.
 pub data SeesNone (n : Naming) (log : Path) (f : Fault) (ts : List Entry) : Type 0 where
   not_stood : (why : StandStop) → stop_fault why ≡ f ∷ [] → ShowsStop n why ts → SeesNone n log f ts
-  not_looked : (stand : Stand) → f ≡ fault.Call call.Look log → ShowsStand n stand ts → SeesNone n log f ts
-  no_file : (stand : Stand) → f ≡ fault.NotFile log → Then (ShowsStand n stand) (Sees log IsNoFile) ts → SeesNone n log f ts
+  not_found : (stand : Stand) → Then (ShowsStand n stand) (FindsNone (aside_of n.aside log) log f) ts → SeesNone n log f ts
 
 -- Under the lock a call has this fault of its own, or none, and read these texts: what stands wasn't seen; or it was, and the
 -- reading of its files broke off, or came to its end.
 pub data Works (n : Naming) (log : Path) (own : Option Fault) (texts : List FileText) (ts : List Entry) : Type 0 where
   not_seen : (f : Fault) → own ≡ Some f → texts ≡ [] → SeesNone n log f ts → Works n log own texts ts
-  broke_off : (saw : Saw) (f : Fault) → own ≡ Some f → Then (ShowsSaw n log saw) (BreaksOff (files_of log saw) f texts) ts
+  broke_off : (saw : Saw) (f : Fault) → own ≡ Some f → Then (ShowsSaw n log saw) (BreaksOff (files_of saw) f texts) ts
       → Works n log own texts ts
-  read_all : (saw : Saw) → own ≡ None → Then (ShowsSaw n log saw) (ReadsAllOf (files_of log saw) texts) ts
+  read_all : (saw : Saw) → own ≡ None → Then (ShowsSaw n log saw) (ReadsAllOf (files_of saw) texts) ts
       → Works n log own texts ts

@@ -1,8 +1,8 @@
 //! One log with all its history: its files, the oldest first, put out one behind another under the lock.
 //!
-//! The contract above it: the output takes the bytes of each member of the log that stood as the run began, and of the log, in
-//! the order in which they were written, or a first part of them, and then a fault says why; and nothing is changed. Begin with
-//! `lrcat`:
+//! The contract above it: the output takes the bytes of each member of the log that stood as the run began, of the file that
+//! waits where its way sets the log aside, and of the log, in the order in which they were written, or a first part of them, and
+//! then a fault says why; and nothing is changed. Begin with `lrcat`:
 //!
 //! ```text
 //! let outcome = lrcat(alloc, &words, &here, now, &mut host, &mut out, &mut notes);   // of `/etc/logrotate.conf /var/log/app.log`

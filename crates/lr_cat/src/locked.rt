@@ -10,7 +10,7 @@ ghost use Rattle.lr_host.specs.World.{world};
 ghost use Rattle.lr_cat.specs.Cats.{Cats, StopsSo};
 ghost use Rattle.lr_cat.specs.declared.stop.CatStop.TheVariants as stop;
 ghost use Rattle.lr_cat.specs.InternalCats.{EndsWork, Goes, GoesShort, dir_fault};
-ghost use Rattle.lr_cat.specs.Saw.{Works};
+ghost use Rattle.lr_cat.specs.Saw.{Works, aside_of};
 ghost use Rattle.lr_cat.specs.Stops.{CameTo, StopCause};
 
 use crate::seeing::see;
@@ -19,6 +19,7 @@ use crate::texts::put_texts;
 use crate::words::Wanted;
 use lr_family::{DirStop, Family, look_for_dir};
 use lr_host::{Host, Sink};
+use lr_naming::aside_path;
 use lr_rules::{CallKind, Clock, Fault, Memory, Path, Rules};
 use std::alloc::Global;
 
@@ -27,11 +28,13 @@ fn see_and_put<H: Host, K: Sink>(
     alloc: Global,
     host: &mut H,
     family: &Family,
+    aside: Option<Path>,
     log: Path,
     buffer: &mut [u8],
     out: &mut K,
 ) -> Result<(), CatStop>
     requires format { or_none is_format family.now.naming.dated ≡ true }
+    requires aside { aside ≡ aside_of family.now.naming.aside log }
     requires room { 0 < length buffer.old }
     requires short { length buffer.old ≤ 65536 }
     ensures came { CameTo (λ own texts ts. Works family.now.naming log own texts ts) result (H.told host.old) (H.told host.new)
@@ -43,7 +46,7 @@ fn see_and_put<H: Host, K: Sink>(
     ensures counts { Onward (H.counts host.old) (H.counts host.new) }
     ensures puts { K.faults out.old ≤ K.faults out.new }
 {
-    match see(alloc, host, family, log) {
+    match see(alloc, host, family, aside, log) {
         Ok(files) => match put_texts(host, files, buffer, out) {
             Ok(()) => Ok(()),
             Err(fault) => Err(CatStop::Fault(fault)),
@@ -57,11 +60,13 @@ fn put_to_end<H: Host, K: Sink>(
     alloc: Global,
     host: &mut H,
     family: &Family,
+    aside: Option<Path>,
     log: Path,
     buffer: &mut [u8],
     out: &mut K,
 ) -> Result<(), CatStop>
     requires format { or_none is_format family.now.naming.dated ≡ true }
+    requires aside { aside ≡ aside_of family.now.naming.aside log }
     requires room { 0 < length buffer.old }
     requires short { length buffer.old ≤ 65536 }
     requires on { WhereTold (H.told host.old) (λ p. (world p).running ≡ true) }
@@ -75,7 +80,7 @@ fn put_to_end<H: Host, K: Sink>(
     ensures counts { NoneFell (H.counts host.old) (H.counts host.new) }
     ensures puts { K.faults out.old ≤ K.faults out.new }
 {
-    let done = see_and_put(alloc, host, family, log, buffer, out);
+    let done = see_and_put(alloc, host, family, aside, log, buffer, out);
     host.end();
     done
 }
@@ -85,19 +90,42 @@ fn put_to_end<H: Host, K: Sink>(
 pub struct Names {
     pub dir: Path,
     pub state: Path,
+    /// Where the log waits that is set aside, if its way does that.
+    pub aside: Option<Path>,
     pub log: Path,
 }
 
+// Where the log waits that is set aside, if its way does that.
+fn aside_of(alloc: Global, is_aside: bool, log: &Path) -> Result<Option<Path>, Memory>
+    requires { length log.now ≤ 2048 }
+    ensures { IfOk result (λ aside. aside ≡ aside_of is_aside log.now) }
+{
+    if is_aside {
+        let path = aside_path(alloc, log)?;
+        Ok(Some(path))
+    } else {
+        Ok(None)
+    }
+}
+
 /// The paths that faults of a call may tell.
-pub fn names_of(alloc: Global, wanted: &Wanted) -> Result<Names, Memory>
+pub fn names_of(alloc: Global, wanted: &Wanted, is_aside: bool) -> Result<Names, Memory>
+    requires { length wanted.now.log ≤ 2048 }
     ensures dir { IfOk result (λ names. names.dir ≡ parent_of wanted.now.state) }
     ensures state { IfOk result (λ names. names.state ≡ wanted.now.state) }
+    ensures aside { IfOk result (λ names. names.aside ≡ aside_of is_aside wanted.now.log) }
     ensures log { IfOk result (λ names. names.log ≡ wanted.now.log) }
 {
     let dir = wanted.state.parent(alloc)?;
     let state = wanted.state.copy(alloc)?;
+    let aside = aside_of(alloc, is_aside, &wanted.log)?;
     let log = wanted.log.copy(alloc)?;
-    Ok(Names { dir, state, log })
+    Ok(Names {
+        dir,
+        state,
+        aside,
+        log,
+    })
 }
 
 // Begins the run, and where it began, puts out what stands and ends it.
@@ -115,6 +143,7 @@ fn begin_to_end<H: Host, K: Sink>(
     requires format { or_none is_format family.now.naming.dated ≡ true }
     requires there { Can (H.told host.old) (entry.Starts wanted.now.state clock.now.now rules.now) }
     requires state { names.state ≡ wanted.now.state }
+    requires aside { names.aside ≡ aside_of family.now.naming.aside wanted.now.log }
     requires log { names.log ≡ wanted.now.log }
     requires room { 0 < length buffer.old }
     requires short { length buffer.old ≤ 65536 }
@@ -127,9 +156,14 @@ fn begin_to_end<H: Host, K: Sink>(
     ensures counts { Onward (H.counts host.old) (H.counts host.new) }
     ensures puts { K.faults out.old ≤ K.faults out.new }
 {
-    let Names { state, log, .. } = names;
+    let Names {
+        state,
+        aside,
+        log,
+        ..
+    } = names;
     match host.begin(&wanted.state, &clock.now, rules) {
-        Ok(true) => put_to_end(alloc, host, family, log, buffer, out),
+        Ok(true) => put_to_end(alloc, host, family, aside, log, buffer, out),
         Ok(false) => Err(CatStop::Held),
         Err(_) => Err(CatStop::Fault(Fault::Call(CallKind::Begin, state))),
     }
@@ -169,6 +203,7 @@ pub fn put_locked<H: Host, K: Sink>(
     requires format { or_none is_format family.now.naming.dated ≡ true }
     requires dir { names.dir ≡ parent_of wanted.now.state }
     requires state { names.state ≡ wanted.now.state }
+    requires aside { names.aside ≡ aside_of family.now.naming.aside wanted.now.log }
     requires log { names.log ≡ wanted.now.log }
     requires room { 0 < length buffer.old }
     requires short { length buffer.old ≤ 65536 }

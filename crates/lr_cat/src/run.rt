@@ -39,6 +39,7 @@ fn put_log<H: Host, K: Sink>(
     out: &mut K,
 ) -> Result<(), CatStop>
     requires format { or_none is_format family.now.naming.dated ≡ true }
+    requires log { can_be_log wanted.now.log ≡ true }
     ensures came { CameTo (λ own texts ts. Cats wanted.now clock.entry.now rules.now family.now.naming own texts ts) result
         (H.told host.old) (H.told host.new) (K.taken out.old) (K.taken out.new) }
     ensures stopped { IfErr result (λ why. Left (StopsSo wanted.now clock.entry.now rules.now why) (H.told host.old)
@@ -48,7 +49,7 @@ fn put_log<H: Host, K: Sink>(
     ensures counts { Onward (H.counts host.old) (H.counts host.new) }
     ensures puts { K.faults out.old ≤ K.faults out.new }
 {
-    let Ok(names) = names_of(alloc, wanted) else {
+    let Ok(names) = names_of(alloc, wanted, family.naming().aside) else {
         return Err(CatStop::Memory);
     };
     let Ok(mut buffer) = vec![in alloc; 0u8; 65_536] else {
@@ -98,6 +99,7 @@ fn call_log<H: Host, K: Sink>(
     out: &mut K,
 ) -> CatOutcome
     requires format { or_none is_format family.now.naming.dated ≡ true }
+    requires log { can_be_log wanted.now.log ≡ true }
     requires whole { calls_in faults ≡ 0 }
     requires only { All IsConfOrCall faults }
     ensures told { CameSo (LogEnds wanted.now clock.entry.now
