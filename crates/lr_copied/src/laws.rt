@@ -1,5 +1,5 @@
 // The copy of a log over the entries of a call.
-ghost use Rattle.std.specs.Prelude.{◌≡◌, ℕ, List, reverse, true};
+ghost use Rattle.std.specs.Prelude.{ℕ, List, reverse};
 ghost use Rattle.lr_host.specs.declared.entry.Entry.{Entry};
 ghost use Rattle.lr_host.specs.declared.entry.Entry.TheVariants as entry;
 ghost use Rattle.lr_host.specs.Opening.{IsJournal};
@@ -9,14 +9,7 @@ ghost use Rattle.lr_host.specs.World.{Past, ◌▸◌};
 ghost use Rattle.lr_copy.specs.declared.job.Job.{Job};
 ghost use Rattle.lr_copy.specs.Copying.{Copied};
 ghost use Rattle.lr_copy.specs.Fits.{ArePaths};
-ghost use Rattle.lr_copied.specs.Whole.{Named, WritersSpare, IsWhole};
-
-/// From the sync of the directory on, while the tool does nothing more, the copy is whole: it has all bytes that the log had
-/// as it was last read, now and after each cut, whatever writers do that spare it.
-pub fn copy_is_whole()
-    ensures { (job : Job) (count : ℕ) (p q : Past) (es : List Entry) → Made p es q → IsJournal p → ArePaths job
-        → WritersSpare job p q → Named job count (reverse es) → IsWhole job.from job.to p q }
-{}
+ghost use Rattle.lr_copied.specs.Whole.{WritersSpare, IsWhole};
 
 /// So it is just before the log is emptied; what is lost then is what was fed to the log since that read, and no more.
 pub fn copy_is_whole_before_cut()

@@ -7,7 +7,7 @@
 mod laws;
 mod worked;
 
-pub use laws::{copy_is_whole, copy_is_whole_before_cut};
+pub use laws::copy_is_whole_before_cut;
 pub use worked::{
     in_order_is_whole, pending_bytes_are_not_whole, pending_name_is_not_whole, read_on_is_not_whole,
 };

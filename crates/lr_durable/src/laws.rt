@@ -1,16 +1,13 @@
 // The state over the entries of a call.
 ghost use Rattle.std.specs.Prelude.{◌≡◌, ◌≢◌, ℕ, List, reverse};
 ghost use Rattle.lr_rules.specs.declared.path.Path.{Path};
-ghost use Rattle.lr_rules.specs.Path.{parent_of};
 ghost use Rattle.lr_rules.specs.StatePath.{state_part};
 ghost use Rattle.lr_host.specs.declared.entry.Entry.{Entry};
-ghost use Rattle.lr_host.specs.declared.entry.Entry.TheVariants as entry;
-ghost use Rattle.lr_host.specs.Kept.{Leaves};
 ghost use Rattle.lr_host.specs.Opening.{IsJournal};
 ghost use Rattle.lr_host.specs.Quiet.{AttachedOnlySince};
 ghost use Rattle.lr_host.specs.Safe.{IsPrefix};
 ghost use Rattle.lr_host.specs.Told.{Made};
-ghost use Rattle.lr_host.specs.World.{Past, ◌▸◌, world, Names, names, Change};
+ghost use Rattle.lr_host.specs.World.{Past, names};
 ghost use Rattle.lr_durable.specs.Renewing.{MayRenew, Renews, IsWritten, HasText};
 ghost use Rattle.lr_durable.specs.StateWhole.{IsSettled, WritersSpare, IsWholeAt};
 
@@ -37,10 +34,4 @@ pub fn renewed_state_has_its_text()
     ensures { (state : Path) (dirs : List Path) (text : List ℕ) (p q : Past) (es : List Entry) → Made p es q → IsJournal p
         → Renews state dirs text (reverse es) → AttachedOnlySince (λ x. (x ≢ state) × (x ≢ state_part state)) p q
         → HasText state text q }
-{}
-
-/// Behind the sync of a directory each path right in it names, after each cut, what it names now.
-pub fn synced_names_are_durable()
-    ensures { (p : Past) (dir x : Path) → parent_of x ≡ dir → (n : Names) (undone : List Change)
-        → Leaves (p ▸ entry.SyncsDir dir) n undone → n x ≡ names (world p) x }
 {}

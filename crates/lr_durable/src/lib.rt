@@ -7,10 +7,7 @@
 mod laws;
 mod worked;
 
-pub use laws::{
-    renewed_state_has_its_text, state_stays_whole, synced_names_are_durable,
-    written_state_is_settled,
-};
+pub use laws::{renewed_state_has_its_text, state_stays_whole, written_state_is_settled};
 pub use worked::{
     file_made_since_is_not_whole, in_order_is_whole, in_place_is_not_whole,
     not_synced_is_not_whole, too_early_is_not_whole,

@@ -7,8 +7,5 @@
 mod laws;
 mod worked;
 
-pub use laws::{
-    acts_empty_copied, copies_are_whole, emptied_in_run, plan_copies_by_rules,
-    plan_steps_are_copies, waiting_log_is_copied,
-};
-pub use worked::{copied_first_is_whole, emptied_at_once_is_not_whole};
+pub use laws::{acts_empty_copied, copies_are_whole};
+pub use worked::emptied_at_once_is_not_whole;

@@ -1,16 +1,15 @@
 // That no later member comes.
 ghost use Rattle.std.specs.Prelude.{◌≡◌, ◌≤◌, ℕ, ℤ};
-ghost use Rattle.lr_rules.specs.declared.clock.Clock.{Clock};
 ghost use Rattle.lr_rules.specs.Dated.{stamp_key};
 ghost use Rattle.lr_host.specs.declared.entry.Entry.{Entry};
 ghost use Rattle.lr_host.specs.World.{Past, ◌▸◌, world, names};
 ghost use Rattle.lr_host.specs.Told.{IsWriters};
-ghost use Rattle.lr_host.specs.Sets.{LogSet, Numbered, Dated, order};
-ghost use Rattle.lr_host.specs.Steady.{AttachesNoMember, IsKeyless};
+ghost use Rattle.lr_host.specs.Sets.{LogSet, Dated, order};
+ghost use Rattle.lr_host.specs.Steady.{AttachesNoMember};
 ghost use Rattle.lr_host.specs.Forward.{IsForward};
-ghost use Rattle.lr_host.specs.Quiet.{ChangesNothing, Quiet};
+ghost use Rattle.lr_host.specs.Quiet.{ChangesNothing};
 ghost use Rattle.lr_laws.specs.Rotation.{IsAside};
-ghost use Rattle.lr_laws.specs.Forward.{IsForwardBy, IsForwardFor, IsNextSerial};
+ghost use Rattle.lr_laws.specs.Forward.{IsForwardBy, IsNextSerial};
 
 /// Where the moments of a dated set haven't gone ahead of this one, no member is later than that of this moment with the
 /// serial number that comes next.
@@ -28,14 +27,4 @@ pub fn forward_goes_on()
         → IsForward s (p ▸ e) newest }
     ensures aside { (s : LogSet) (p : Past) (e : Entry) (newest : ℤ) → IsAside s e → IsForward s p newest
         → IsForward s (p ▸ e) newest }
-{}
-
-/// The moments of a dated set still haven't gone ahead where the tool changed nothing of the disk and no writer was
-/// attached to a member: of this moment, or of the stamp that a call's clock gives. Of a numbered set a clock asks nothing.
-pub fn moments_stay_forward()
-    ensures moment { (s : LogSet) (p q : Past) (seconds : ℤ) → order s ≡ Dated → Quiet (IsKeyless s) p q
-        → IsForwardBy s p seconds → IsForwardBy s q seconds }
-    ensures clock { (clock : Clock) (s : LogSet) (p q : Past) → Quiet (IsKeyless s) p q → IsForwardFor clock s p
-        → IsForwardFor clock s q }
-    ensures numbered { (clock : Clock) (s : LogSet) (p : Past) → order s ≡ Numbered → IsForwardFor clock s p }
 {}

@@ -1,22 +1,20 @@
 // How the promise goes on.
 ghost use Rattle.std.specs.Prelude.{◌≡◌, ℕ, Bool, List, Option};
-ghost use Rattle.lr_rules.specs.declared.rule.Way.{Way};
 ghost use Rattle.lr_host.specs.declared.entry.Entry.{Entry};
 ghost use Rattle.lr_host.specs.declared.journal.Opening.{Opening};
 ghost use Rattle.lr_host.specs.World.{Past, Opens, ◌▸◌, world, names};
 ghost use Rattle.lr_host.specs.Fits.{Fits};
 ghost use Rattle.lr_host.specs.Opening.{IsJournal, IsValid};
-ghost use Rattle.lr_host.specs.Told.{IsWriters, Made, Each, Left};
+ghost use Rattle.lr_host.specs.Told.{Made, Left};
 ghost use Rattle.lr_host.specs.Sets.{LogSet, Numbered, order};
 ghost use Rattle.lr_host.specs.Safe.{IsSafe, IsMachines};
-ghost use Rattle.lr_host.specs.Steady.{IsSteadyBy, NoneAttached};
+ghost use Rattle.lr_host.specs.Steady.{NoneAttached};
 ghost use Rattle.lr_laws.specs.Follow.{MayFollow};
 ghost use Rattle.lr_host.specs.Steps.{CanAll, Took};
 ghost use Rattle.lr_laws.specs.Room.{IsReady};
-ghost use Rattle.lr_laws.specs.Rotation.{IsRotation, IsAside, LogFits};
+ghost use Rattle.lr_laws.specs.Rotation.{IsRotation, LogFits};
 ghost use Rattle.lr_laws.specs.Stays.{StaysSafe, Rotates};
 ghost use Rattle.lr_host.specs.declared.journal.Journal.{Journal};
-ghost use Rattle.lr_host.specs.Quiet.{ChangesNothing};
 
 /// A journal without entries is safe.
 pub fn opening_is_safe()
@@ -26,17 +24,6 @@ pub fn opening_is_safe()
 /// Where a journal is safe, it is safe behind an entry that meets its condition, and after each cut that is allowed there.
 pub fn safe_goes_on()
     ensures { (s : LogSet) (p : Past) (e : Entry) → IsJournal (p ▸ e) → IsSafe s p → MayFollow s p e → IsSafe s (p ▸ e) }
-{}
-
-/// So it is behind each entry of a writer in a steady journal, in whichever way logs are rotated.
-pub fn writers_stay_safe()
-    ensures { (way : Way) (s : LogSet) (p : Past) (e : Entry) → IsJournal (p ▸ e) → IsSafe s p → IsWriters e
-        → IsSteadyBy way s (p ▸ e) → IsSafe s (p ▸ e) }
-{}
-
-/// So it is behind each entry of the tool that changes no name and no byte.
-pub fn quiet_stays_safe()
-    ensures { (s : LogSet) (p : Past) (e : Entry) → IsJournal (p ▸ e) → IsSafe s p → ChangesNothing e → IsSafe s (p ▸ e) }
 {}
 
 /// So it is behind each cut that is allowed.
@@ -51,12 +38,6 @@ pub fn rotation_stays_safe()
     ensures { (s : LogSet) (p q : Past) (limit : ℕ) (es : List Entry) → order s ≡ Numbered → IsJournal p → IsSafe s p
         → IsReady s p limit → Made p es q → LogFits s (names (world p)) es → IsRotation s p limit es → NoneAttached s q
         → IsSafe s q }
-{}
-
-/// So it is behind entries of the tool on no path of the set, with writers' entries between them; of numbered and dated sets.
-pub fn aside_stays_safe()
-    ensures { (s : LogSet) (p q : Past) (es : List Entry) → IsJournal p → IsSafe s p → Made p es q → Each (IsAside s) es
-        → NoneAttached s q → IsSafe s q }
 {}
 
 /// Over calls that leave the change entries of a first part of these steps, each set is safe of which they are a rotation.

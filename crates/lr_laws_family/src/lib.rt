@@ -7,11 +7,5 @@
 #![tactic(auto)]
 
 mod family;
-mod rotation;
-mod showing;
-mod standing;
 
 pub use family::family_is_turned;
-pub use rotation::{dates_rotate, numbers_rotate, woven_steps_rotate};
-pub use showing::{looks_show_members, stand_shows_members};
-pub use standing::{log_is_no_member, shown_members_stand};

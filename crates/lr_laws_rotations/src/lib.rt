@@ -6,4 +6,4 @@
 
 mod rotation;
 
-pub use rotation::{rotation_fits, rotation_is_aside, rotation_is_one, seen_rotation_fits};
+pub use rotation::{rotation_is_aside, rotation_is_one};

@@ -7,16 +7,14 @@ ghost use Rattle.lr_rules.specs.declared.rule.Make.{Make};
 ghost use Rattle.lr_rules.specs.declared.rule.Naming.{Naming};
 ghost use Rattle.lr_rules.specs.Names.{Meet};
 ghost use Rattle.lr_host.specs.declared.entry.Entry.{Entry};
-ghost use Rattle.lr_host.specs.Fits.{IsFileAt, IsDirectoryAt};
 ghost use Rattle.lr_host.specs.Opening.{IsJournal};
-ghost use Rattle.lr_host.specs.Quiet.{AreQuiet, ChangeNothing};
+ghost use Rattle.lr_host.specs.Quiet.{AreQuiet};
 ghost use Rattle.lr_host.specs.Runs.{rules_of, SomeRule, has_begun};
 ghost use Rattle.lr_host.specs.Safe.{IsSafe};
 ghost use Rattle.lr_host.specs.Sets.{LogSet, IsUnplaced};
 ghost use Rattle.lr_host.specs.Steady.{NoneAttached};
-ghost use Rattle.lr_host.specs.Steps.{FitAll};
 ghost use Rattle.lr_host.specs.Told.{Each, Made};
-ghost use Rattle.lr_host.specs.World.{Names, Past, world, names};
+ghost use Rattle.lr_host.specs.World.{Past, world};
 ghost use Rattle.lr_laws.specs.Forward.{IsForwardFor};
 ghost use Rattle.lr_laws.specs.Rotation.{IsAside};
 ghost use Rattle.lr_laws.specs.Stays.{RotatesSet};
@@ -25,26 +23,9 @@ ghost use Rattle.lr_family.specs.Places.{AreNamed};
 ghost use Rattle.lr_chain.specs.Hindrances.{what_hinders};
 ghost use Rattle.lr_chain.specs.Prepared.{ready_of};
 ghost use Rattle.lr_chain.specs.Ready.{IsCount};
-ghost use Rattle.lr_laws_family.specs.Members.{IsFamily, AreThere};
-ghost use Rattle.lr_laws_family.specs.Shown.{SawFile, SawDir, Shown};
+ghost use Rattle.lr_laws_family.specs.Members.{IsFamily};
+ghost use Rattle.lr_laws_family.specs.Shown.{SawFile, Shown};
 ghost use Rattle.lr_laws_rotations.specs.Steps.{steps_of};
-
-/// Where just these members stand, in a directory that is there, the log is a file, and nothing hinders the rotation, the
-/// steps of the one that is ready fit one after another.
-pub fn rotation_fits()
-    ensures { (clock : Clock) (m : Names) (log : Path) (n : Naming) (c : Count) (maxage : Option ℕ) (anew : Make) (stand : Stand)
-        → IsFamily log n → n.start ≤ 999999 → IsCount c → IsFileAt m log → IsDirectoryAt m n.dir → AreThere n m stand.members
-        → what_hinders n c clock stand ≡ [] → FitAll m (reverse (steps_of (ready_of log n c maxage clock anew stand.members))) }
-{}
-
-/// So they do behind looks that saw the log, the directory and the members, whatever writers did meanwhile.
-pub fn seen_rotation_fits()
-    ensures { (clock : Clock) (log : Path) (n : Naming) (c : Count) (maxage : Option ℕ) (anew : Make) (stand : Stand) (p q : Past)
-        (es : List Entry) → IsFamily log n → n.start ≤ 999999 → IsCount c → Made p es q → ChangeNothing es
-        → SawFile log (reverse es) → SawDir n.dir (reverse es) → Shown n stand.members (reverse es)
-        → what_hinders n c clock stand ≡ []
-        → FitAll (names (world q)) (reverse (steps_of (ready_of log n c maxage clock anew stand.members))) }
-{}
 
 /// Behind looks of a run that saw the log and its members, where the run has begun no rotation of the set, nothing hinders
 /// one, and no writer was attached to a member, they are those of one rotation of the set; of dates where the set's moments

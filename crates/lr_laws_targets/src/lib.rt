@@ -10,11 +10,6 @@
 //! are in `specs/Runs.antt` and `specs/AllTurns.antt`.
 #![tactic(auto)]
 
-mod aside;
 mod laws;
 
-pub use aside::{changes_are_own, paths_are_outside, rotation_is_apart};
-pub use laws::{
-    all_logs_stay_safe, dated_log_turns, plan_is_one, quiet_runs_are_such, seen_log_can_be_rotated,
-    seen_names, sets_of_others_are_left, whole_run_rotates_all,
-};
+pub use laws::{all_logs_stay_safe, dated_log_turns};

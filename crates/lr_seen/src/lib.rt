@@ -5,7 +5,4 @@
 
 mod laws;
 
-pub use laws::{
-    kept_are_apart, looks_are_quiet, looks_see_targets, plan_has_targets, targets_are_apart,
-    targets_are_free,
-};
+pub use laws::{kept_are_apart, looks_see_targets, targets_are_free};

@@ -1,5 +1,5 @@
 // What the entries of a call show: what its word came to, and of the disk what it found.
-ghost use Rattle.std.specs.Prelude.{◌≡◌, ◌≢◌, ◌∷◌, ◌++◌, [], ℕ, false, List, None, Result, Ok, map, reverse, IsUtf8};
+ghost use Rattle.std.specs.Prelude.{◌≡◌, ◌≢◌, ◌∷◌, [], ℕ, false, List, None, Ok, map, reverse, IsUtf8};
 ghost use Rattle.std.specs.Ordering.{nat_cmp};
 ghost use Rattle.std.specs.Cmp.Lexicographic.{slice_cmp};
 ghost use Rattle.std.specs.List.Sorted.{IsStrictlySortedBy};
@@ -9,15 +9,13 @@ ghost use Rattle.lr_rules.specs.Path.{path_fault};
 ghost use Rattle.lr_host.specs.declared.entry.Entry.{Entry};
 ghost use Rattle.lr_host.specs.declared.thing.Kind.TheVariants as kind;
 ghost use Rattle.lr_host.specs.declared.thing.Thing.TheVariants as thing;
-ghost use Rattle.lr_host.specs.Fits.{IsFileAt, IsDirectoryAt};
-ghost use Rattle.lr_host.specs.Lists.{IsIn};
+ghost use Rattle.lr_host.specs.Fits.{IsFileAt};
 ghost use Rattle.lr_host.specs.Opening.{IsJournal};
 ghost use Rattle.lr_host.specs.Told.{Made};
 ghost use Rattle.lr_host.specs.World.{Past, world, names};
 ghost use Rattle.lr_glob.specs.declared.found.Found.{Found};
-ghost use Rattle.lr_glob.specs.declared.found.GlobStop.{GlobStop};
 ghost use Rattle.lr_glob.specs.Words.{Comes};
-ghost use Rattle.lr_sought.specs.Finds.{FindsFile, StoodOrCame};
+ghost use Rattle.lr_sought.specs.Finds.{FindsFile};
 
 /// A call of `expand` that gives paths finds each regular file that its word gives and that stood as it began, whatever
 /// writers do meanwhile; of a literal word what stood at its one path, of any kind. Where a call fails, where a match is too
@@ -32,33 +30,9 @@ pub fn all_that_stood_are_found()
         → (f : Found) × (found ≡ f ∷ []) × (f.path ≡ literal_path word) }
 {}
 
-/// It finds no path but what stood as it began, or what a writer attached meanwhile: what was seen as a regular file was one
-/// then, or was nothing and got a writer; what was seen as something else was that then.
-pub fn found_stood_or_came()
-    ensures file { (p q : Past) (es : List Entry) (word : List ℕ) (room : ℕ) (found : List Found) → Made p es q
-        → Comes word room (Ok found) (reverse es)
-        → (f : Found) → IsIn f found → f.seen.kind ≡ kind.File → StoodOrCame f.path p q }
-    ensures directory { (p q : Past) (es : List Entry) (word : List ℕ) (room : ℕ) (found : List Found) → Made p es q
-        → Comes word room (Ok found) (reverse es)
-        → (f : Found) → IsIn f found → f.seen.kind ≡ kind.Dir → IsDirectoryAt (names (world p)) f.path }
-    ensures other { (p q : Past) (es : List Entry) (word : List ℕ) (room : ℕ) (found : List Found) → Made p es q
-        → Comes word room (Ok found) (reverse es)
-        → (f : Found) → IsIn f found → f.seen.kind ≡ kind.Other → names (world p) f.path ≡ thing.Other }
-{}
-
 /// The paths that it finds are in order of bytes, and none of them stands twice.
 pub fn found_are_in_order()
     ensures { (p q : Past) (es : List Entry) (word : List ℕ) (room : ℕ) (found : List Found) → Made p es q
         → Comes word room (Ok found) (reverse es)
         → IsStrictlySortedBy (slice_cmp nat_cmp) (map (λ f. f.path) found) }
-{}
-
-/// Entries fix what a word came to: where the same entries begin with those of two calls for one word that were not broken
-/// off, by a call that failed or for want of memory, both came to one thing and left the same entries, in whatever order
-/// the listings told the names. The path of a literal word has to be one.
-pub fn words_are_fixed()
-    ensures { (word : List ℕ) (room : ℕ) (one other : Result (List Found) GlobStop) (ts us vs ws : List Entry)
-        → (is_wildcard word ≡ false → path_fault (literal_path word) ≡ None)
-        → Comes word room one ts → Comes word room other us → ts ++ vs ≡ us ++ ws
-        → (one ≡ other) × (ts ≡ us) × (vs ≡ ws) }
 {}

@@ -5,6 +5,4 @@
 
 mod laws;
 
-pub use laws::{
-    all_that_stood_are_found, found_are_in_order, found_stood_or_came, words_are_fixed,
-};
+pub use laws::{all_that_stood_are_found, found_are_in_order};

@@ -9,13 +9,12 @@ ghost use Rattle.lr_host.specs.Lists.{IsIn};
 ghost use Rattle.lr_host.specs.Quiet.{AreQuiet};
 ghost use Rattle.lr_copy.specs.declared.job.Job.{Job};
 ghost use Rattle.lr_emptied.specs.Emptied.{EmptiesCopied};
-ghost use Rattle.lr_laws_family.specs.Made.{HasJob, AreOutside, RotatesAmong};
+ghost use Rattle.lr_laws_family.specs.Made.{AreOutside, RotatesAmong};
 ghost use Rattle.lr_laws_family.specs.Rotation.{IsOfMembers};
 ghost use Rattle.lr_laws_targets.specs.AllTurns.{paths_beside};
-ghost use Rattle.lr_laws_targets.specs.Rotation.{by_of, rotation_by};
+ghost use Rattle.lr_laws_targets.specs.Rotation.{rotation_by};
 ghost use Rattle.lr_laws_targets.specs.Target.{Target};
 ghost use Rattle.lr_laws_targets.specs.Runs.{AllTurnedBy};
-ghost use Rattle.lr_laws_targets.specs.Seen.{IsLogSeen};
 ghost use Rattle.lr_turned.specs.Copied.{CopyStands, IsSameFor};
 
 /// Where each log was rotated whole, and one of them was copied, one entry behind another, from where it stands or from where
@@ -29,11 +28,4 @@ pub fn copied_log_rotates()
         → CopyStands job t.turns.acts → EmptiesCopied (IsSameFor x.log job) t.turns.acts
         → RotatesAmong (paths_beside state x t.turns.targets) x.naming (rotation_by x)
         (reads ++ Starts state clock.now rules ∷ tail) }
-{}
-
-/// Where a run saw a log, its copy, if any, is one of that rotation: from its source to its target, and of a log that is set
-/// aside from another path than the log's, and it empties nothing.
-pub fn seen_copy_is_of_rotation()
-    ensures { (rules : Rules) (clock : Clock) (looks : List Entry) (t : Target) → IsLogSeen rules clock looks t
-        → HasJob (by_of t.job t.aside) (rotation_by t) }
 {}

@@ -8,5 +8,5 @@
 mod laws;
 mod worked;
 
-pub use laws::{copied_log_rotates, seen_copy_is_of_rotation};
+pub use laws::copied_log_rotates;
 pub use worked::{left_aside_is_not_let_go, unlinked_log_is_not_kept};

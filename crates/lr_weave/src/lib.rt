@@ -5,7 +5,4 @@
 
 mod laws;
 
-pub use laws::{
-    acts_turn_all, cut_acts_turn_all, marked_directories_stand, ready_can_be_made,
-    ready_is_planned, seen_is_fit, whole_acts_turn_all,
-};
+pub use laws::acts_turn_all;
