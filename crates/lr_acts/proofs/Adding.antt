@@ -13,13 +13,13 @@ use Rattle.lr_host.specs.Counted.{AreCounted}
 use Rattle.lr_plan.specs.Course.{Part, Nothing, StepFails}
 use Rattle.lr_host.proofs.Counts.{free_none, counted_on, counted_none, counted_free, counted_call, counted_script, onward_same, onward_on}
 use Rattle.lr_acts.specs.declared.progress.Progress.{Progress}
-use Rattle.lr_acts.specs.Adding.{Adds, HasRoom, Fills}
+use Rattle.lr_acts.specs.Adding.{AddsSteps, HasRoom, FillsRoom}
 use Rattle.lr_acts.specs.Making.{FaultCause, StepNames, WasMade, list_of}
 use Rattle.lr_acts.specs.Named.{KeepsNames}
 use Rattle.lr_acts.proofs.Naming.{made_names, failed_names, nothing_names, same_names, names_of_more, names_on}
 use Rattle.lr_acts.proofs.Taking.{made_taken, failed_taken, nothing_taken, same_taken, taken_of_more, taken_on}
 
-pub adds_as : {P Q : Part} {ss : List Step} {a b : Progress} {o n : Option Journal} {c d : Counts} → Adds P ss a b o n c d → ((ms : List Mark) (f : List Fault) (ts : List Entry) → P ms f ts → Q ms f ts) → Adds Q ss a b o n c d
+pub adds_as : {P Q : Part} {ss : List Step} {a b : Progress} {o n : Option Journal} {c d : Counts} → AddsSteps P ss a b o n c d → ((ms : List Mark) (f : List Fault) (ts : List Entry) → P ms f ts → Q ms f ts) → AddsSteps Q ss a b o n c d
 adds_as h f = record {
   marks = h.marks;
   faults = h.faults;
@@ -33,7 +33,7 @@ adds_as h f = record {
 }
 
 -- these were the first of the steps
-pub adds_of_more : {P : Part} (xs rest all : List Step) {a b : Progress} {o n : Option Journal} {c d : Counts} → all ≡ xs ++ rest → Adds P xs a b o n c d → Adds P all a b o n c d
+pub adds_of_more : {P : Part} (xs rest all : List Step) {a b : Progress} {o n : Option Journal} {c d : Counts} → all ≡ xs ++ rest → AddsSteps P xs a b o n c d → AddsSteps P all a b o n c d
 adds_of_more xs rest all is h = record {
   marks = h.marks;
   faults = h.faults;
@@ -46,8 +46,8 @@ adds_of_more xs rest all is h = record {
   onward = h.onward;
 }
 
-pub adds_on : {P Q R : Part} (xs ys : List Step) {x y z : Progress} {o m n : Option Journal} {a b c : Counts} → Adds P xs x y o m a b → Adds Q ys y z m n b c
-    → ((ms ms' : List Mark) (f f' : List Fault) (ts ts' : List Entry) → P ms f ts → Q ms' f' ts' → R (ms ++ ms') (f ++ f') (ts ++ ts')) → Adds R (xs ++ ys) x z o n a c
+pub adds_on : {P Q R : Part} (xs ys : List Step) {x y z : Progress} {o m n : Option Journal} {a b c : Counts} → AddsSteps P xs x y o m a b → AddsSteps Q ys y z m n b c
+    → ((ms ms' : List Mark) (f f' : List Fault) (ts ts' : List Entry) → P ms f ts → Q ms' f' ts' → R (ms ++ ms') (f ++ f') (ts ++ ts')) → AddsSteps R (xs ++ ys) x z o n a c
 adds_on xs ys {x = x} {o = o} {n = n} {a = a} {b = b} {c = c} p q f = record {
   marks = p.marks ++ q.marks;
   faults = p.faults ++ q.faults;
@@ -61,7 +61,7 @@ adds_on xs ys {x = x} {o = o} {n = n} {a = a} {b = b} {c = c} p q f = record {
 }
 
 -- nothing was added
-pub adds_none : {P : Part} (x : Progress) (o : Option Journal) (a : Counts) → P [] [] [] → Adds P [] x x o o a a
+pub adds_none : {P : Part} (x : Progress) (o : Option Journal) (a : Counts) → P [] [] [] → AddsSteps P [] x x o o a a
 adds_none {P} x o a p = record {
   marks = [];
   faults = [];
@@ -74,7 +74,7 @@ adds_none {P} x o a p = record {
   onward = onward_same a;
 }
 
-pub adds_nothing : (steps : List Step) (x y : Progress) {o n : Option Journal} {a b : Counts} → y.marks.items ≡ x.marks.items ++ [] → y.faults.items ≡ x.faults.items ++ [] → Left (λ ts. ts ≡ []) o n → Onward a b → Adds Nothing steps x y o n a b
+pub adds_nothing : (steps : List Step) (x y : Progress) {o n : Option Journal} {a b : Counts} → y.marks.items ≡ x.marks.items ++ [] → y.faults.items ≡ x.faults.items ++ [] → Left (λ ts. ts ≡ []) o n → Onward a b → AddsSteps Nothing steps x y o n a b
 adds_nothing steps x y {a = a} {b = b} ms fs l onward = record {
   marks = [];
   faults = [];
@@ -104,7 +104,7 @@ counted_one f a b o n h le = counted_free (f ∷ []) a b (record { calls = refl;
 
 -- one step was made
 pub step_made : (step : Step) (told : Option Mark) (x y : Progress) {o n : Option Journal} {a b : Counts} → list_of told ≡ marks_of step → y.marks.items ≡ x.marks.items ++ list_of told → y.faults.items ≡ x.faults.items ++ []
-    → Left (Succeeds step) o n → StepNames step (Ok told) n → Onward a b → Adds (WasMade step) (step ∷ []) x y o n a b
+    → Left (Succeeds step) o n → StepNames step (Ok told) n → Onward a b → AddsSteps (WasMade step) (step ∷ []) x y o n a b
 step_made step told x y {o = o} {n = n} {a = a} {b = b} e ms fs l named onward = record {
   marks = list_of told;
   faults = [];
@@ -118,7 +118,7 @@ step_made step told x y {o = o} {n = n} {a = a} {b = b} e ms fs l named onward =
 }
 
 pub step_failed : (step : Step) (f : Fault) (x y : Progress) {o n : Option Journal} {a b : Counts} → y.marks.items ≡ x.marks.items ++ [] → y.faults.items ≡ x.faults.items ++ f ∷ []
-    → Left (Fails step f) o n → FaultCause f a b o n → Onward a b → Adds (StepFails step) (step ∷ []) x y o n a b
+    → Left (Fails step f) o n → FaultCause f a b o n → Onward a b → AddsSteps (StepFails step) (step ∷ []) x y o n a b
 step_failed step f x y {o = o} {n = n} {a = a} {b = b} ms fs l cause onward = record {
   marks = [];
   faults = f ∷ [];
@@ -136,7 +136,7 @@ step_failed step f x y {o = o} {n = n} {a = a} {b = b} ms fs l cause onward = re
 pub room_part : (m n k : ℕ) (x : Progress) → m + n ≤ k → HasRoom k x → HasRoom m x
 room_part m n k x e r = record { marks = omega (arith, e, r.marks); faults = omega (arith, e, r.faults); buffer = r.buffer; short = r.short }
 
-pub room_rest : (m n k : ℕ) (x y : Progress) → m + n ≤ k → HasRoom k x → Fills m x y → HasRoom n y
+pub room_rest : (m n k : ℕ) (x y : Progress) → m + n ≤ k → HasRoom k x → FillsRoom m x y → HasRoom n y
 room_rest m n k x y e r f = record {
   marks = omega (arith, e, r.marks, f.marks, f.marks_room);
   faults = omega (arith, e, r.faults, f.faults, f.faults_room);
@@ -144,10 +144,10 @@ room_rest m n k x y e r f = record {
   short = omega (arith, r.short, f.buffer);
 }
 
-pub fills_none : (x : Progress) → Fills 0 x x
+pub fills_none : (x : Progress) → FillsRoom 0 x x
 fills_none x = record { marks = omega arith; faults = omega arith; marks_room = omega arith; faults_room = omega arith; buffer = refl }
 
-pub fills_on : (m n k : ℕ) (x y z : Progress) → m + n ≤ k → Fills m x y → Fills n y z → Fills k x z
+pub fills_on : (m n k : ℕ) (x y z : Progress) → m + n ≤ k → FillsRoom m x y → FillsRoom n y z → FillsRoom k x z
 fills_on m n k x y z e f g = record {
   marks = omega (arith, e, f.marks, g.marks);
   faults = omega (arith, e, f.faults, g.faults);
@@ -156,5 +156,5 @@ fills_on m n k x y z e f g = record {
   buffer = g.buffer ∙ f.buffer;
 }
 
-pub fills_more : (m k : ℕ) (x y : Progress) → m ≤ k → Fills m x y → Fills k x y
+pub fills_more : (m k : ℕ) (x y : Progress) → m ≤ k → FillsRoom m x y → FillsRoom k x y
 fills_more m k x y e f = record { marks = omega (arith, e, f.marks); faults = omega (arith, e, f.faults); marks_room = f.marks_room; faults_room = f.faults_room; buffer = f.buffer }

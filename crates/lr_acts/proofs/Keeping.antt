@@ -16,7 +16,7 @@ use Rattle.lr_host.proofs.Left.{still_step}
 use Rattle.lr_host.proofs.Looked.{nothing_no_file}
 use Rattle.lr_host.proofs.More.{not_more, wrote_names}
 use Rattle.lr_host.proofs.Names.{put_cases}
-use Rattle.lr_acts.specs.Named.{IsNamed}
+use Rattle.lr_acts.specs.Named.{PathIsNamed}
 
 -- it doesn't take the name of this path away
 abbrev pub KeepsName : Path → Entry → Type 0
@@ -55,6 +55,6 @@ made_keeps x p _ _ at_first k ne = ne
 made_keeps x p _ es (by_writer {q = q} {e = e} m i f) k ne = writer_keeps q x e i (made_keeps x p q es m k ne)
 made_keeps x p _ _ (by_tool {es = es} {q = q} {e = e} m i f) k ne = tool_keeps q x e i f k.0 (made_keeps x p q es m k.1 ne)
 
-pub left_keeps : {P : List Entry → Type 0} {o n : Option Journal} (x : Path) → Left P o n → ((ts : List Entry) → P ts → Each (KeepsName x) ts) → IsNamed x o → IsNamed x n
+pub left_keeps : {P : List Entry → Type 0} {o n : Option Journal} (x : Path) → Left P o n → ((ts : List Entry) → P ts → Each (KeepsName x) ts) → PathIsNamed x o → PathIsNamed x n
 left_keeps x not_told f named = tt
 left_keeps x (is_told {j = j} {k = k} {es = es} m h) f named = made_keeps x (past j) (past k) es m (each_in_order (KeepsName x) es (f (reverse es) h)) named

@@ -17,7 +17,7 @@ use Rattle.lr_plan.specs.declared.step.Step.{Step}
 use Rattle.lr_plan.specs.declared.step.Step.TheVariants as step
 use Rattle.lr_plan.specs.Outcomes.{Succeeds, Fails, marks_of}
 use Rattle.lr_acts.specs.Making.{StepNames}
-use Rattle.lr_acts.specs.Named.{IsNamed, WasNamed, untold, at_moment, TakesName, KeepName, CreatesAt, OneCreates, LastsBehind, TellCreated, KeepsNames}
+use Rattle.lr_acts.specs.Named.{PathIsNamed, WasNamed, untold, at_moment, TakesName, KeepName, CreatesAt, OneCreates, LastsBehind, TellCreated, KeepsNames}
 use Rattle.lr_acts.proofs.Keeping.{KeepsName, writer_keeps, left_keeps}
 use Rattle.lr_acts.proofs.Unnaming.{unnames, OfUnnaming, each_none, each_made, each_failed}
 
@@ -32,7 +32,7 @@ made_there x mode p _ _ (by_tool {es = es} {q = q} {e = t} m i f) e = subst (λ 
     there gone = let is : put (names (world q)) x (thing.File (world q).drawn) x ≡ thing.File (world q).drawn = put_here (names (world q)) x x (thing.File (world q).drawn) refl in
         nothing_no_file (names (world (q ▸ Makes x mode)) x) (world q).drawn gone is
 
-pub file_made : {o n : Option Journal} (x : Path) (mode : Option ℕ) → Left (λ ts. ts ≡ Makes x mode ∷ []) o n → IsNamed x n
+pub file_made : {o n : Option Journal} (x : Path) (mode : Option ℕ) → Left (λ ts. ts ≡ Makes x mode ∷ []) o n → PathIsNamed x n
 file_made x mode not_told = tt
 file_made x mode (is_told {j = j} {k = k} {es = es} m h) = made_there x mode (past j) (past k) es m (sym (reverse-reverse es) ∙ ap reverse h)
 
@@ -77,8 +77,8 @@ made_names s told {o} {n} left named = record {
   planned = λ x t. inl (told_is_created x s t);
 }
   where
-    there : (x : Path) (s : Step) → CreatesAt x s → StepNames s (Ok told) n → IsNamed x n
-    there x (step.Creates path mode) same named = subst (λ (y : Path). IsNamed y n) same named
+    there : (x : Path) (s : Step) → CreatesAt x s → StepNames s (Ok told) n → PathIsNamed x n
+    there x (step.Creates path mode) same named = subst (λ (y : Path). PathIsNamed y n) same named
     there x _ gone named = absurd gone
 
 -- the step failed, or nothing was done

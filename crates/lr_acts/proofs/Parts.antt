@@ -18,8 +18,8 @@ use Rattle.lr_plan.specs.Cut.{LogsCut, SetCut, in_logs}
 use Rattle.lr_plan.specs.Done.{is_rotated, EachDone, LogsThen, LogsDone, if_rotated, SetDone, went_on}
 use Rattle.lr_plan.proofs.Courses.{both_of}
 use Rattle.lr_acts.specs.declared.progress.Progress.{Progress}
-use Rattle.lr_acts.specs.Adding.{Adds}
-use Rattle.lr_acts.specs.Making.{StepsEnd, Ends, all_of_each, all_of_set, all_of_sets}
+use Rattle.lr_acts.specs.Adding.{AddsSteps}
+use Rattle.lr_acts.specs.Making.{StepsEnd, EndsSo, all_of_each, all_of_set, all_of_sets}
 use Rattle.lr_acts.proofs.Adding.{adds_as, adds_of_more, adds_on}
 
 -- steps that were made or not are a course of them
@@ -27,14 +27,14 @@ pub course_of : (steps : List Step) (went : Bool) (ms : List Mark) (f : List Fau
 course_of steps true ms f ts h = h.1
 course_of steps false ms f ts h = h.part
 
-pub leads : {P Q : Part} {ss : List Step} {x y : Progress} {o n : Option Journal} {a b : Counts} → Adds P ss x y o n a b → ((ms : List Mark) (f : List Fault) (ts : List Entry) → P ms f ts → Q ms f ts) → LeadsTo Q o n
+pub leads : {P Q : Part} {ss : List Step} {x y : Progress} {o n : Option Journal} {a b : Counts} → AddsSteps P ss x y o n a b → ((ms : List Mark) (f : List Fault) (ts : List Entry) → P ms f ts → Q ms f ts) → LeadsTo Q o n
 leads h f = (h.marks, h.faults, left_as h.entries (λ ts p. f h.marks h.faults ts p))
 
 -- with these marks
 abbrev By : List Mark → Part → Part
 By those P marks faults ts = (marks ≡ those) × P marks faults ts
 
-adds_by : {P : Part} {ss : List Step} {x y : Progress} {o n : Option Journal} {a b : Counts} (h : Adds P ss x y o n a b) → Adds (By h.marks P) ss x y o n a b
+adds_by : {P : Part} {ss : List Step} {x y : Progress} {o n : Option Journal} {a b : Counts} (h : AddsSteps P ss x y o n a b) → AddsSteps (By h.marks P) ss x y o n a b
 adds_by h = record {
   marks = h.marks;
   faults = h.faults;
@@ -48,7 +48,7 @@ adds_by h = record {
 }
 
 -- whether one of the marks that were added tells of a rotation
-pub any_added : {P : Part} {ss : List Step} {x y : Progress} {o n : Option Journal} {a b : Counts} (h : Adds P ss x y o n a b) (any : Bool) (marks : List Mark) (before : ℕ) → marks ≡ y.marks.items → before ≡ length x.marks.items
+pub any_added : {P : Part} {ss : List Step} {x y : Progress} {o n : Option Journal} {a b : Counts} (h : AddsSteps P ss x y o n a b) (any : Bool) (marks : List Mark) (before : ℕ) → marks ≡ y.marks.items → before ≡ length x.marks.items
     → any ≡ list_any is_rotated (take (length marks - before) (drop before marks)) → list_any is_rotated h.marks ≡ any
 any_added {x = x} h any marks before all was is = sym (is ∙ ap (list_any is_rotated) (ap (take (length marks - before)) same ∙ take_all (length marks - before) h.marks bound))
   where
@@ -59,8 +59,8 @@ any_added {x = x} h any marks before all was is = sym (is ∙ ap (list_any is_ro
     bound = let long : length marks ≡ length x.marks.items + length h.marks = ap length (all ∙ h.marks_are) ∙ length-append x.marks.items h.marks in omega (arith, long, was)
 
 -- a log was rotated, and the last steps came to this
-pub logs_last : (Q R : List Step → Part) (each : List (List Step)) (last : List Step) {x y z : Progress} {o m n : Option Journal} {a b c : Counts} (h : Adds (EachDone each) (all_of_each each) x y o m a b) → list_any is_rotated h.marks ≡ true
-    → ((ms : List Mark) (f : List Fault) (ts : List Entry) → R last ms f ts → Q last ms f ts) → Adds (R last) last y z m n b c → Adds (LogsThen Q each last) (all_of_each each ++ last) x z o n a c
+pub logs_last : (Q R : List Step → Part) (each : List (List Step)) (last : List Step) {x y z : Progress} {o m n : Option Journal} {a b c : Counts} (h : AddsSteps (EachDone each) (all_of_each each) x y o m a b) → list_any is_rotated h.marks ≡ true
+    → ((ms : List Mark) (f : List Fault) (ts : List Entry) → R last ms f ts → Q last ms f ts) → AddsSteps (R last) last y z m n b c → AddsSteps (LogsThen Q each last) (all_of_each each ++ last) x z o n a c
 logs_last Q R each last h some same k = adds_on (all_of_each each) last (adds_by h) k (λ ms ms' f f' ts ts' p q. record {
   by_each = ms;
   by_last = ms';
@@ -78,7 +78,7 @@ logs_last Q R each last h some same k = adds_on (all_of_each each) last (adds_by
 })
 
 -- none was
-pub logs_alone : (each : List (List Step)) (last : List Step) {x y : Progress} {o n : Option Journal} {a b : Counts} (h : Adds (EachDone each) (all_of_each each) x y o n a b) → list_any is_rotated h.marks ≡ false → Adds (LogsDone each last) (all_of_each each ++ last) x y o n a b
+pub logs_alone : (each : List (List Step)) (last : List Step) {x y : Progress} {o n : Option Journal} {a b : Counts} (h : AddsSteps (EachDone each) (all_of_each each) x y o n a b) → list_any is_rotated h.marks ≡ false → AddsSteps (LogsDone each last) (all_of_each each ++ last) x y o n a b
 logs_alone each last h none = adds_of_more (all_of_each each) last (all_of_each each ++ last) refl (adds_as (adds_by h) (λ ms f ts p. record {
   by_each = ms;
   by_last = [];
@@ -96,8 +96,8 @@ logs_alone each last h none = adds_of_more (all_of_each each) last (all_of_each 
 }))
 
 -- the first steps of a definition were made, and its logs' ended so
-pub set_ends : (set : SetSteps) (r : Result Unit Memory) {x y z : Progress} {o m n : Option Journal} {a b c : Counts} → Adds (Unbroken (Course set.first)) set.first x y o m a b
-    → Adds (Ends (LogsDone set.each set.last) (LogsCut set.each set.last) r) (all_of_each set.each ++ set.last) y z m n b c → Adds (Ends (SetDone set) (SetCut set) r) (all_of_set set) x z o n a c
+pub set_ends : (set : SetSteps) (r : Result Unit Memory) {x y z : Progress} {o m n : Option Journal} {a b c : Counts} → AddsSteps (Unbroken (Course set.first)) set.first x y o m a b
+    → AddsSteps (EndsSo (LogsDone set.each set.last) (LogsCut set.each set.last) r) (all_of_each set.each ++ set.last) y z m n b c → AddsSteps (EndsSo (SetDone set) (SetCut set) r) (all_of_set set) x z o n a c
 set_ends set (Ok u) h k = adds_on set.first (all_of_each set.each ++ set.last) h k (λ ms ms' f f' ts ts' p q. went_on (both_of (Unbroken (Course set.first)) (LogsDone set.each set.last) ms ms' f f' ts ts' p q))
 set_ends set (Err e) h k = adds_on set.first (all_of_each set.each ++ set.last) h k (λ ms ms' f f' ts ts' p q. in_logs (both_of (Unbroken (Course set.first)) (LogsCut set.each set.last) ms ms' f f' ts ts' p q))
 

@@ -19,14 +19,14 @@ use Rattle.lr_plan.specs.declared.step.Step.TheVariants as step
 use Rattle.lr_chain.specs.declared.directory.DirStop.TheVariants as unmade
 use Rattle.lr_plan.specs.Outcomes.{Succeeds, Fails, badly, not_run, maybe_run, bytes_fault}
 use Rattle.lr_acts.specs.Making.{FaultCause}
-use Rattle.lr_acts.specs.Named.{IsNamed, WasNamed, untold, at_moment}
-use Rattle.lr_acts.specs.Taken.{Spares, WasTaken, no_journal, at_last, TakesAt, OneTakes, RemovesAt, NoneRemoves, LastTaken, TakenOnly}
+use Rattle.lr_acts.specs.Named.{PathIsNamed, WasNamed, untold, at_moment}
+use Rattle.lr_acts.specs.Taken.{SparesPath, WasTaken, no_journal, at_last, TakesAt, OneTakes, RemovesAt, NoneRemoves, LastTaken, TakenOnly}
 use Rattle.lr_acts.proofs.Naming.{was_wider}
 use Rattle.lr_acts.proofs.Unnaming.{unnames, OfUnnaming, each_none, each_made, each_failed}
 
 -- ---- at a moment
 
-pub taken_now : {P : List Entry → Type 0} {o n : Option Journal} (x : Path) → Left P o n → IsNamed x n → WasTaken x o n
+pub taken_now : {P : List Entry → Type 0} {o n : Option Journal} (x : Path) → Left P o n → PathIsNamed x n → WasTaken x o n
 taken_now x not_told named = no_journal
 taken_now x (is_told {k = k} m h) named = at_last (past k) m named at_first tt
 
@@ -36,10 +36,10 @@ taken_later x not_told no_journal = no_journal
 taken_later x (is_told {j = j} {k = k} {es = es} m h) (at_last {k = l} {es = fs} {fs = gs} p made named rest none) = at_last p (made_on (past j) (past k) p es fs m made) named rest none
 
 -- other calls came behind it
-pub taken_before : {a b c : Option Journal} (x : Path) → WasTaken x a b → Left (Each (Spares x)) b c → WasTaken x a c
+pub taken_before : {a b c : Option Journal} (x : Path) → WasTaken x a b → Left (Each (SparesPath x)) b c → WasTaken x a c
 taken_before x no_journal not_told = no_journal
 taken_before x (at_last {k = l} {fs = gs} p made named rest none) (is_told {k = z} {es = hs} m h) =
-    at_last p made named (made_on p (past l) (past z) gs hs rest m) (each_append (Spares x) hs gs (each_in_order (Spares x) hs h) none)
+    at_last p made named (made_on p (past l) (past z) gs hs rest m) (each_append (SparesPath x) hs gs (each_in_order (SparesPath x) hs h) none)
 
 was_of : {a b : Option Journal} (x : Path) → WasTaken x a b → WasNamed x a b
 was_of x no_journal = untold
@@ -47,11 +47,11 @@ was_of x (at_last p made named rest none) = at_moment p made named rest
 
 -- ---- one step
 
-spares_other : (x : Path) (e : Entry) → unnames e ≡ false → Spares x e
+spares_other : (x : Path) (e : Entry) → unnames e ≡ false → SparesPath x e
 spares_other x (Unlinks y) h = absurd (cc)
 spares_other x _ h = tt
 
-spares_own : (x : Path) (s : Step) → (RemovesAt x s → ⊥) → OfUnnaming (Spares x) s
+spares_own : (x : Path) (s : Step) → (RemovesAt x s → ⊥) → OfUnnaming (SparesPath x) s
 spares_own x (step.Removes path) k = k
 spares_own x _ k = tt
 
@@ -84,7 +84,7 @@ made_taken s left = record {
   taken = λ x l i. absurd i;
   named = λ x i. absurd i;
   planned = λ x i. absurd i;
-  spared = λ x k. left_as left (λ ts w. each_made (Spares x) (spares_other x) s ts (spares_own x s k.0) w);
+  spared = λ x k. left_as left (λ ts w. each_made (SparesPath x) (spares_other x) s ts (spares_own x s k.0) w);
 }
 
 pub failed_taken : (s : Step) (f : Fault) {o n : Option Journal} (a b : Counts) → Left (Fails s f) o n → FaultCause f a b o n → TakenOnly (s ∷ []) (f ∷ []) o n
@@ -92,7 +92,7 @@ failed_taken s f {o} {n} a b left cause = record {
   taken = λ x l i. was x i;
   named = λ x i. was_of x (was x i);
   planned = λ x i. left_as left (λ ts h. inl (taker x s f ts (same x i) h));
-  spared = λ x k. left_as left (λ ts h. each_failed (Spares x) (spares_other x) s f ts (spares_own x s k.0) h);
+  spared = λ x k. left_as left (λ ts h. each_failed (SparesPath x) (spares_other x) s f ts (spares_own x s k.0) h);
 }
   where
     same : (x : Path) → IsIn (fault.Taken x) (f ∷ []) → f ≡ fault.Taken x
@@ -106,7 +106,7 @@ nothing_taken steps left = record {
   taken = λ x l i. absurd i;
   named = λ x i. absurd i;
   planned = λ x i. absurd i;
-  spared = λ x k. left_as left (λ ts is. each_none (Spares x) is);
+  spared = λ x k. left_as left (λ ts is. each_none (SparesPath x) is);
 }
 
 here : (o : Option Journal) → Left (λ ts. ts ≡ []) o o
@@ -155,7 +155,7 @@ taken_of_more xs rest all {fs} {o} {n} is h = subst (λ (steps : List Step). Tak
   spared = λ x k. h.spared x (none_first x xs rest k);
 })
 
-kept_taken : (x : Path) (xs ys : List Step) {P : List Entry → Type 0} {o m n : Option Journal} → LastTaken x (xs ++ ys) → Left (λ ts. OneTakes x xs) o m → WasTaken x o m → (NoneRemoves x ys → Left (Each (Spares x)) m n) → Left P m n → WasTaken x o n
+kept_taken : (x : Path) (xs ys : List Step) {P : List Entry → Type 0} {o m n : Option Journal} → LastTaken x (xs ++ ys) → Left (λ ts. OneTakes x xs) o m → WasTaken x o m → (NoneRemoves x ys → Left (Each (SparesPath x)) m n) → Left P m n → WasTaken x o n
 kept_taken x xs ys l not_told no_journal f not_told = no_journal
 kept_taken x xs ys l (is_told made one) was f left = taken_before x was (f (last_spares x xs ys l one))
 
@@ -165,5 +165,5 @@ taken_on xs ys fs gs {o = o} {n = n} left left' h k = record {
   taken = λ x l i. ⊎_elim (λ a. kept_taken x xs ys l (h.planned x a) (h.taken x (last_first x xs ys l) a) (k.spared x) left') (λ b. taken_later x left (k.taken x (last_later x xs ys l) b)) (in_append (fault.Taken x) fs gs i);
   named = λ x i. ⊎_elim (λ a. was_wider x (here o) (h.named x a) left') (λ b. was_wider x left (k.named x b) (here n)) (in_append (fault.Taken x) fs gs i);
   planned = λ x i. ⊎_elim (λ a. left_then (h.planned x a) left' (λ ts us c w. one_first x xs ys c)) (λ b. left_then left (k.planned x b) (λ ts us w c. one_later x xs ys c)) (in_append (fault.Taken x) fs gs i);
-  spared = λ x none. left_then (h.spared x (none_first x xs ys none)) (k.spared x (none_later x xs ys none)) (λ ts us a b. each_append (Spares x) ts us a b);
+  spared = λ x none. left_then (h.spared x (none_first x xs ys none)) (k.spared x (none_later x xs ys none)) (λ ts us a b. each_append (SparesPath x) ts us a b);
 }

@@ -14,7 +14,7 @@ use Rattle.lr_acts.specs.Taken.{TakenOnly}
 
 -- The marks and faults of this part of the acts, which has these steps, were added, each fault with its cause: the counts tell of
 -- failed calls and of bad ends, and a path that is told as taken was named. The part left its entries.
-pub record Adds (P : Part) (steps : List Step) (before now : Progress) (told later : Option Journal)
+pub record AddsSteps (P : Part) (steps : List Step) (before now : Progress) (told later : Option Journal)
     (counted counts : Counts) : Type 0 where
   pub marks : List Mark
   pub faults : List Fault
@@ -34,7 +34,7 @@ pub record HasRoom (n : ℕ) (progress : Progress) : Type 0 where
   pub short : vec_len progress.buffer ≤ 65536
 
 -- at most so many of each were added, and the buffer has its length still
-pub record Fills (n : ℕ) (before now : Progress) : Type 0 where
+pub record FillsRoom (n : ℕ) (before now : Progress) : Type 0 where
   pub marks : vec_len now.marks ≤ vec_len before.marks + n
   pub faults : vec_len now.faults ≤ vec_len before.faults + n
   pub marks_room : vec_capacity before.marks ≤ vec_capacity now.marks

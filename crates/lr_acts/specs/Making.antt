@@ -18,7 +18,7 @@ use Rattle.lr_plan.specs.Course.{Part, Nothing, Course, StepFails, Unbroken, Bro
 use Rattle.lr_plan.specs.Cut.{IsProgram, CourseCut}
 use Rattle.lr_acts.specs.declared.stop.Stop.{Stop}
 use Rattle.lr_acts.specs.declared.stop.Stop.TheVariants as stop
-use Rattle.lr_acts.specs.Named.{IsNamed}
+use Rattle.lr_acts.specs.Named.{PathIsNamed}
 use Rattle.lr_acts.specs.Taken.{WasTaken}
 
 -- ---- one step
@@ -31,7 +31,7 @@ StepLeft step (Err stop.Memory) ts = ts ≡ []
 
 -- a log that is made anew is named behind its step, whoever made it
 abbrev pub StepNames : Step → Result (Option Mark) Stop → Option Journal → Type 0
-StepNames (Creates path mode) answer told = IfOk answer (λ m. IsNamed path told)
+StepNames (Creates path mode) answer told = IfOk answer (λ m. PathIsNamed path told)
 StepNames _ answer told = Unit {0}
 
 -- what is told of a program that was refused
@@ -74,9 +74,9 @@ StepsEnd steps (Ok true) = Unbroken (Course steps)
 StepsEnd steps (Ok false) = BrokenOff (Course steps)
 StepsEnd steps (Err m) = CourseCut steps
 
-abbrev pub Ends : {T : Type 0} → Part → Part → Result T Memory → Part
-Ends P Q (Ok x) = P
-Ends P Q (Err m) = Q
+abbrev pub EndsSo : {T : Type 0} → Part → Part → Result T Memory → Part
+EndsSo P Q (Ok x) = P
+EndsSo P Q (Err m) = Q
 
 -- ---- all steps of lists and of definitions, in order
 

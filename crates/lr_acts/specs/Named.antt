@@ -12,8 +12,8 @@ use Rattle.lr_plan.specs.declared.step.Step.{Step}
 use Rattle.lr_plan.specs.declared.step.Step.TheVariants.{Removes, Renames, Creates}
 
 -- where the journal is told, something has the path
-abbrev pub IsNamed : Path → Option Journal → Type 0
-IsNamed path told = WhereTold told (λ p. names (world p) path ≢ thing.Nothing)
+abbrev pub PathIsNamed : Path → Option Journal → Type 0
+PathIsNamed path told = WhereTold told (λ p. names (world p) path ≢ thing.Nothing)
 
 -- something had the path at a moment between
 pub data WasNamed (path : Path) : Option Journal → Option Journal → Type 0 where
@@ -57,6 +57,6 @@ TellCreated path (m ∷ marks) = IsCreated path m ⊎ TellCreated path marks
 -- Of acts by these steps, which left these marks: a path that is named stays so, where none of the steps takes its name; a log that
 -- was made anew is named at the end, where no step behind took its name.
 pub record KeepsNames (steps : List Step) (marks : List Mark) (told later : Option Journal) : Type 0 where
-  pub kept : (path : Path) → KeepName path steps → IsNamed path told → IsNamed path later
-  pub created : (path : Path) → LastsBehind path steps → TellCreated path marks → IsNamed path later
+  pub kept : (path : Path) → KeepName path steps → PathIsNamed path told → PathIsNamed path later
+  pub created : (path : Path) → LastsBehind path steps → TellCreated path marks → PathIsNamed path later
   pub planned : (path : Path) → TellCreated path marks → OneCreates path steps

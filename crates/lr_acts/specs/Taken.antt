@@ -16,15 +16,15 @@ use Rattle.lr_plan.specs.declared.step.Step.TheVariants.{Removes, Takes}
 use Rattle.lr_acts.specs.Named.{WasNamed}
 
 -- the entry doesn't unlink this path
-abbrev pub Spares : Path → Entry → Type 0
-Spares path (Unlinks gone) = gone ≡ path → ⊥
-Spares path _ = Unit {0}
+abbrev pub SparesPath : Path → Entry → Type 0
+SparesPath path (Unlinks gone) = gone ≡ path → ⊥
+SparesPath path _ = Unit {0}
 
 -- something had the path at a moment between, from which on the tool unlinked it no more
 pub data WasTaken (path : Path) : Option Journal → Option Journal → Type 0 where
   no_journal : WasTaken path None None
   at_last : {j k : Journal} {es fs : List Entry} (p : Past) → Made (past j) es p → names (world p) path ≢ thing.Nothing
-      → Made p fs (past k) → Each (Spares path) fs → WasTaken path (Some j) (Some k)
+      → Made p fs (past k) → Each (SparesPath path) fs → WasTaken path (Some j) (Some k)
 
 -- the step makes a new file at this path; one of the steps does
 abbrev pub TakesAt : Path → Step → Type 0
@@ -57,4 +57,4 @@ pub record TakenOnly (steps : List Step) (faults : List Fault) (told later : Opt
   -- one of the steps needs it
   pub planned : (path : Path) → IsIn (fault.Taken path) faults → Left (λ ts. OneTakes path steps) told later
   -- what none of the steps unlinks, the tool doesn't
-  pub spared : (path : Path) → NoneRemoves path steps → Left (Each (Spares path)) told later
+  pub spared : (path : Path) → NoneRemoves path steps → Left (Each (SparesPath path)) told later

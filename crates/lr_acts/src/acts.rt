@@ -6,8 +6,8 @@ ghost use Rattle.lr_plan.specs.Course.{Course};
 ghost use Rattle.lr_host.specs.declared.journal.Journal.{Journal};
 ghost use Rattle.lr_plan.specs.Cut.{IsProgram, CourseCut, ListCut, LogsCut, SetCut, SetsCut};
 ghost use Rattle.lr_plan.specs.Done.{EachDone, LogsDone, SetDone, SetsDone};
-ghost use Rattle.lr_acts.specs.Adding.{Adds, HasRoom, Fills};
-ghost use Rattle.lr_acts.specs.Making.{HasProgram, StepEnds, StepsEnd, Ends, all_of_each, all_of_set, all_of_sets};
+ghost use Rattle.lr_acts.specs.Adding.{AddsSteps, HasRoom, FillsRoom};
+ghost use Rattle.lr_acts.specs.Making.{HasProgram, StepEnds, StepsEnd, EndsSo, all_of_each, all_of_set, all_of_sets};
 
 use crate::marks::any_rotated;
 use crate::progress::{Progress, add_fault, add_mark};
@@ -27,9 +27,9 @@ fn take_step<H: Host>(
 ) -> Result<bool, Memory>
     requires fits { CanAll (H.told host.old) (asks step) }
     requires room { HasRoom 1 progress.old }
-    ensures told { Adds (StepEnds step result) (step ∷ []) progress.old progress.new (H.told host.old) (H.told host.new)
+    ensures told { AddsSteps (StepEnds step result) (step ∷ []) progress.old progress.new (H.told host.old) (H.told host.new)
         (H.counts host.old) (H.counts host.new) }
-    ensures fills { Fills 1 progress.old progress.new }
+    ensures fills { FillsRoom 1 progress.old progress.new }
     ensures memory { OnErr result (IsProgram step) }
 {
     match make(alloc, host, step, progress.buffer.as_mut_slice()) {
@@ -55,9 +55,9 @@ fn make_all<H: Host>(
 ) -> Result<bool, Memory>
     requires fits { CanMake (H.told host.old) steps }
     requires room { HasRoom (length steps) progress.old }
-    ensures told { Adds (StepsEnd steps result) steps progress.old progress.new (H.told host.old) (H.told host.new)
+    ensures told { AddsSteps (StepsEnd steps result) steps progress.old progress.new (H.told host.old) (H.told host.new)
         (H.counts host.old) (H.counts host.new) }
-    ensures fills { Fills (length steps) progress.old progress.new }
+    ensures fills { FillsRoom (length steps) progress.old progress.new }
     ensures memory { OnErr result (HasProgram steps) }
 {
     for step in steps.into_vec() {
@@ -78,9 +78,9 @@ fn make_each<H: Host>(
 ) -> Result<(), Memory>
     requires fits { CanEach (H.told host.old) each }
     requires room { HasRoom (length (all_of_each each)) progress.old }
-    ensures told { Adds (Ends (EachDone each) (ListCut Course CourseCut each) result) (all_of_each each) progress.old progress.new
-        (H.told host.old) (H.told host.new) (H.counts host.old) (H.counts host.new) }
-    ensures fills { Fills (length (all_of_each each)) progress.old progress.new }
+    ensures told { AddsSteps (EndsSo (EachDone each) (ListCut Course CourseCut each) result) (all_of_each each) progress.old
+        progress.new (H.told host.old) (H.told host.new) (H.counts host.old) (H.counts host.new) }
+    ensures fills { FillsRoom (length (all_of_each each)) progress.old progress.new }
     ensures memory { OnErr result (HasProgram (all_of_each each)) }
 {
     for steps in each.into_vec() {
@@ -100,9 +100,9 @@ fn make_logs<H: Host>(
     requires fits { CanEach (H.told host.old) each }
     requires fits_last { (later : Option Journal) → LeadsTo (EachDone each) (H.told host.old) later → CanMake later last }
     requires room { HasRoom (length (all_of_each each ++ last)) progress.old }
-    ensures told { Adds (Ends (LogsDone each last) (LogsCut each last) result) (all_of_each each ++ last) progress.old progress.new
-        (H.told host.old) (H.told host.new) (H.counts host.old) (H.counts host.new) }
-    ensures fills { Fills (length (all_of_each each ++ last)) progress.old progress.new }
+    ensures told { AddsSteps (EndsSo (LogsDone each last) (LogsCut each last) result) (all_of_each each ++ last) progress.old
+        progress.new (H.told host.old) (H.told host.new) (H.counts host.old) (H.counts host.new) }
+    ensures fills { FillsRoom (length (all_of_each each ++ last)) progress.old progress.new }
     ensures memory { OnErr result (HasProgram (all_of_each each ++ last)) }
 {
     let before = progress.marks.as_slice().len();
@@ -122,9 +122,9 @@ fn make_set<H: Host>(
 ) -> Result<(), Memory>
     requires fits { CanSet (H.told host.old) set }
     requires room { HasRoom (length (all_of_set set)) progress.old }
-    ensures told { Adds (Ends (SetDone set) (SetCut set) result) (all_of_set set) progress.old progress.new (H.told host.old)
+    ensures told { AddsSteps (EndsSo (SetDone set) (SetCut set) result) (all_of_set set) progress.old progress.new (H.told host.old)
         (H.told host.new) (H.counts host.old) (H.counts host.new) }
-    ensures fills { Fills (length (all_of_set set)) progress.old progress.new }
+    ensures fills { FillsRoom (length (all_of_set set)) progress.old progress.new }
     ensures memory { OnErr result (HasProgram (all_of_set set)) }
 {
     let SetSteps { first, each, last } = set;
@@ -147,9 +147,9 @@ pub fn act<H: Host>(
 ) -> Result<(), Memory>
     requires fits { CanSets (H.told host.old) sets }
     requires room { HasRoom (length (all_of_sets sets)) progress.old }
-    ensures told { Adds (Ends (SetsDone sets) (SetsCut sets) result) (all_of_sets sets) progress.old progress.new (H.told host.old)
-        (H.told host.new) (H.counts host.old) (H.counts host.new) }
-    ensures fills { Fills (length (all_of_sets sets)) progress.old progress.new }
+    ensures told { AddsSteps (EndsSo (SetsDone sets) (SetsCut sets) result) (all_of_sets sets) progress.old progress.new
+        (H.told host.old) (H.told host.new) (H.counts host.old) (H.counts host.new) }
+    ensures fills { FillsRoom (length (all_of_sets sets)) progress.old progress.new }
     ensures memory { OnErr result (HasProgram (all_of_sets sets)) }
 {
     for set in sets.into_vec() {

@@ -9,7 +9,7 @@ ghost use Rattle.lr_plan.specs.declared.mark.Mark.TheVariants as mark;
 ghost use Rattle.lr_plan.specs.declared.step.Step.TheVariants as step;
 ghost use Rattle.lr_acts.specs.declared.stop.Stop.TheVariants as stop;
 ghost use Rattle.lr_acts.specs.Making.{StepLeft, StopCause, list_of, program_stop};
-ghost use Rattle.lr_acts.specs.Named.{IsNamed};
+ghost use Rattle.lr_acts.specs.Named.{PathIsNamed};
 
 use crate::stop::Stop;
 use lr_chain::DirStop;
@@ -126,7 +126,7 @@ pub fn create_file<H: Host>(
     requires { Can (H.told host.old) (entry.Makes path mode) }
     ensures told { Left (StepLeft (step.Creates path mode) result) (H.told host.old) (H.told host.new) }
     ensures marks { IfOk result (λ told. list_of told ≡ mark.Created path ∷ []) }
-    ensures named { IfOk result (λ told. IsNamed path (H.told host.new)) }
+    ensures named { IfOk result (λ told. PathIsNamed path (H.told host.new)) }
     ensures cause { IfErr result (λ why. StopCause why (H.counts host.old) (H.counts host.new) (H.told host.old)
         (H.told host.new)) }
     ensures memory { result ≢ Err stop.Memory }

@@ -1,6 +1,6 @@
 // What the acts came to so far.
 ghost use Rattle.std.specs.Prelude.{◌≡◌, ◌+◌, ◌++◌, ◌∷◌, []};
-ghost use Rattle.lr_acts.specs.Adding.{HasRoom, Fills};
+ghost use Rattle.lr_acts.specs.Adding.{HasRoom, FillsRoom};
 
 use lr_plan::Mark;
 use lr_rules::Fault;
@@ -19,7 +19,7 @@ pub fn add_fault(progress: &mut Progress, fault: Fault)
     requires { HasRoom 1 progress.old }
     ensures faults { progress.new.faults.items ≡ progress.old.faults.items ++ fault ∷ [] }
     ensures marks { progress.new.marks.items ≡ progress.old.marks.items ++ [] }
-    ensures fills { Fills 1 progress.old progress.new }
+    ensures fills { FillsRoom 1 progress.old progress.new }
 {
     let _ = progress.faults.push(fault);
 }
@@ -29,7 +29,7 @@ pub fn add_mark(progress: &mut Progress, mark: Mark)
     requires { HasRoom 1 progress.old }
     ensures marks { progress.new.marks.items ≡ progress.old.marks.items ++ mark ∷ [] }
     ensures faults { progress.new.faults.items ≡ progress.old.faults.items ++ [] }
-    ensures fills { Fills 1 progress.old progress.new }
+    ensures fills { FillsRoom 1 progress.old progress.new }
 {
     let _ = progress.marks.push(mark);
 }

@@ -11,26 +11,26 @@ use Rattle.lr_host.specs.Told.{Counts, Rose}
 use Rattle.lr_report.specs.declared.outcome.Outcome.{Outcome}
 use Rattle.lr_report.specs.declared.outcome.Outcome.TheVariants.{Done, BadWords, Held, OutOfMemory}
 use Rattle.lr_report.specs.declared.outcome.Report.{Report}
-use Rattle.lr_report.specs.Outcome.{text_of}
+use Rattle.lr_report.specs.Outcome.{outcome_text}
 use Rattle.lr_report.specs.Puts.{Took, TookPart}
 use Rattle.lr_report.specs.Reported.{IsOut, HasNoOut}
 use Rattle.lr_shown.specs.Puts.{Puts}
 use Rattle.lr_audited.specs.declared.line.Audit.{Audit}
 use Rattle.lr_audit.specs.declared.told.Told.{Told}
 use Rattle.lr_audit.specs.Came.{answer_of, audit_told}
-use Rattle.lr_audit.specs.Says.{said_text, with_out, Answers, whole, broken_off, WhereDone}
+use Rattle.lr_audit.specs.Says.{said_text, with_out, PrintsAnswer, whole, broken_off, WhereDone}
 
-pub report_answers : (put : Result (Unit {0}) SinkFault) (text : List ℕ) (said outcome : Outcome) (x y : Option (List ℕ)) (low high : ℕ) → Puts text put x y low high → OnOk put (outcome ≡ said) → OnErr put (outcome ≡ with_out said) → Answers text said outcome x y low high
+pub report_answers : (put : Result (Unit {0}) SinkFault) (text : List ℕ) (said outcome : Outcome) (x y : Option (List ℕ)) (low high : ℕ) → Puts text put x y low high → OnOk put (outcome ≡ said) → OnErr put (outcome ≡ with_out said) → PrintsAnswer text said outcome x y low high
 report_answers (Ok u) text said outcome x y low high p same out = whole same p.whole
 report_answers (Err e) text said outcome x y low high p same out = broken_off out p.part p.cause
 
 -- an outcome of one line
-pub line_answers : (said outcome : Outcome) (x y : Option (List ℕ)) (low high : ℕ) → with_out said ≡ said → outcome ≡ said → TookPart (text_of said) x y → Took (text_of said) x y ⊎ Rose low high → Answers (said_text None said) said outcome x y low high
+pub line_answers : (said outcome : Outcome) (x y : Option (List ℕ)) (low high : ℕ) → with_out said ≡ said → outcome ≡ said → TookPart (outcome_text said) x y → Took (outcome_text said) x y ⊎ Rose low high → PrintsAnswer (said_text None said) said outcome x y low high
 line_answers said outcome x y low high line same part (inl took) = whole same took
 line_answers said outcome x y low high line same part (inr rose) = broken_off (same ∙ sym line) part rose
 
-pub memory_answers : (run : Result Told Memory) (e : Memory) (outcome : Outcome) (x y : Option (List ℕ)) (low high : ℕ) → run ≡ Err e → outcome ≡ OutOfMemory → TookPart (text_of OutOfMemory) x y → Took (text_of OutOfMemory) x y ⊎ Rose low high → Answers (said_text (audit_told run) (answer_of run)) (answer_of run) outcome x y low high
-memory_answers run e outcome x y low high is same part whole_ = subst (λ (r : Result Told Memory). Answers (said_text (audit_told r) (answer_of r)) (answer_of r) outcome x y low high) (sym is) (line_answers OutOfMemory outcome x y low high refl same part whole_)
+pub memory_answers : (run : Result Told Memory) (e : Memory) (outcome : Outcome) (x y : Option (List ℕ)) (low high : ℕ) → run ≡ Err e → outcome ≡ OutOfMemory → TookPart (outcome_text OutOfMemory) x y → Took (outcome_text OutOfMemory) x y ⊎ Rose low high → PrintsAnswer (said_text (audit_told run) (answer_of run)) (answer_of run) outcome x y low high
+memory_answers run e outcome x y low high is same part whole_ = subst (λ (r : Result Told Memory). PrintsAnswer (said_text (audit_told r) (answer_of r)) (answer_of r) outcome x y low high) (sym is) (line_answers OutOfMemory outcome x y low high refl same part whole_)
 
 -- ---- what the answer tells
 
@@ -47,7 +47,7 @@ where_done (Err e) P h = λ report e. absurd (cc)
 where_done (Ok told) P h = λ report e. subst (λ (ns : List Notice). P ns report.faults) (ap notices_in e) (subst (λ (fs : List Fault). P told.notices fs) (ap faults_in e) h)
 
 -- it is neither of the outcomes that aren't answered
-pub not_bad : (r : Result Told Memory) (text : List ℕ) (outcome : Outcome) (x y : Option (List ℕ)) (low high : ℕ) → Answers text (answer_of r) outcome x y low high → (outcome ≡ BadWords → ⊥) × (outcome ≡ Held → ⊥)
+pub not_bad : (r : Result Told Memory) (text : List ℕ) (outcome : Outcome) (x y : Option (List ℕ)) (low high : ℕ) → PrintsAnswer text (answer_of r) outcome x y low high → (outcome ≡ BadWords → ⊥) × (outcome ≡ Held → ⊥)
 not_bad (Ok told) text outcome x y low high (whole same took) = ((λ e. absurd (cc)), (λ e. absurd (cc)))
 not_bad (Ok told) text outcome x y low high (broken_off same part rose) = ((λ e. absurd (cc)), (λ e. absurd (cc)))
 not_bad (Err w) text outcome x y low high (whole same took) = ((λ e. absurd (cc)), (λ e. absurd (cc)))
@@ -60,6 +60,6 @@ no_out_among : (fs : List Fault) → HasNoOut fs → Contains fs fault.Out → �
 no_out_among [] h c = omega (arith, c.1)
 no_out_among (f ∷ fs) h c = ⊎_elim (λ (a : Contains (f ∷ []) fault.Out). h.0 (is_out f (⊎_elim (λ (b : Contains [] fault.Out). absurd (omega (arith, b.1))) (λ e. e) (Contains-push_cases [] f fault.Out a)))) (λ b. no_out_among fs h.1 b) (Contains-append_cases (f ∷ []) fs fault.Out c)
 
-pub out_rose : (text : List ℕ) (said outcome : Outcome) (x y : Option (List ℕ)) (low high : ℕ) → Answers text said outcome x y low high → WhereDone said (λ report. HasNoOut report.faults) → WhereDone outcome (λ report. Contains report.faults fault.Out → Rose low high)
+pub out_rose : (text : List ℕ) (said outcome : Outcome) (x y : Option (List ℕ)) (low high : ℕ) → PrintsAnswer text said outcome x y low high → WhereDone said (λ report. HasNoOut report.faults) → WhereDone outcome (λ report. Contains report.faults fault.Out → Rose low high)
 out_rose text said outcome x y low high (broken_off same part rose) none = λ report e c. rose
 out_rose text said outcome x y low high (whole same took) none = λ report e c. absurd (no_out_among report.faults (none report (sym same ∙ e)) c)

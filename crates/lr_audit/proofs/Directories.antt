@@ -21,7 +21,7 @@ use Rattle.lr_seen.proofs.Coming.{was_looked, in_looked, in_files, in_kept}
 use Rattle.lr_seen.proofs.Elements.{in_flat}
 use Rattle.lr_seen.proofs.Free.{place_in}
 use Rattle.lr_seen.proofs.Seen.{log_path}
-use Rattle.lr_audit.specs.Dirs.{family_dir, set_dirs, asked_dirs, AreDirs}
+use Rattle.lr_audit.specs.Dirs.{look_dir, set_dirs, asked_dirs, AreDirs}
 
 module _ {reserved : List Path} (rules : List Rule) (sets : List SetLooks) (faults : List Fault) (ts : List Entry) (s : ShowsLooks reserved rules sets faults ts) where
   -- a log that is kept, and the directory of its members
@@ -50,7 +50,7 @@ module _ {reserved : List Path} (rules : List Rule) (sets : List SetLooks) (faul
   sets_so : (dir : Path) → IsIn dir (flat_map set_dirs sets) → path_fault dir ≡ None
   sets_so dir i =
       let set = in_flat set_dirs sets dir i in
-      let look = in_flat family_dir set.0.logs dir set.2 in
+      let look = in_flat look_dir set.0.logs dir set.2 in
       subst (λ (x : Path). path_fault x ≡ None) (of_look look.0 dir look.0.stand.there look.2) (family_so set.0 look.0 set.1 look.1)
 
 -- So each directory has one.

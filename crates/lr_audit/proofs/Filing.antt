@@ -27,13 +27,13 @@ use Rattle.lr_host.proofs.Quiet.{quiet_both, sees_quiet, then_quiet}
 use Rattle.lr_family.specs.declared.stand.StandStop.{StandStop}
 use Rattle.lr_family.specs.declared.stand.StandStop.TheVariants as stop
 use Rattle.lr_family.specs.Listed.{ShowsListing, NotListed, NotListedAt, ShowsNoDir, HasListed}
-use Rattle.lr_family.specs.Stands.{IsFailedCall}
-use Rattle.lr_audit.specs.Files.{is_path, paths_in, FileSight, file_path, file_by, fault_by, look_by, file_of, fault_of, look_of, LookedAtEach, ShowsDir, listed, not_listed, no_directory, list_fault, DirSight, IsShown, ShowsDirs, Adds}
+use Rattle.lr_family.specs.Stands.{IsFailedStand}
+use Rattle.lr_audit.specs.Files.{are_path_bytes, paths_in, FileSight, file_path, file_by, fault_by, look_by, sight_file, sight_fault, file_looks, LookedAtEach, ShowsDir, listed, not_listed, no_directory, list_fault, DirSight, IsShown, ShowsDirs, AddsFiles}
 
 -- ---- paths
 
 pub paths_on : (dir : Path) (xs ys : List (List ℕ)) → paths_in dir (xs ++ ys) ≡ paths_in dir xs ++ paths_in dir ys
-paths_on dir xs ys = ap (filter is_path) (map-append (joined dir) xs ys) ∙ filter-append is_path (map (joined dir) xs) (map (joined dir) ys)
+paths_on dir xs ys = ap (filter are_path_bytes) (map-append (joined dir) xs ys) ∙ filter-append are_path_bytes (map (joined dir) xs) (map (joined dir) ys)
 
 pub paths_more : (dir : Path) (names : List (List ℕ)) (i : ℕ) (name : List ℕ) (old new : List Path) → name ≡ get_or names i name → i < length names → old ≡ paths_in dir (take i names) → new ≡ old ++ paths_in dir (name ∷ []) → new ≡ paths_in dir (take (i + 1) names)
 paths_more dir names i name old new is lt so more =
@@ -63,7 +63,7 @@ path_refused (Ok x) dir name why old ne is = sym (append-nil old) ∙ ap (λ (ps
 
 -- ---- what is added
 
-pub adds_on : {P Q R : List Path → List Fault → List Entry → Type 0} (a b c : List Path) (f g h : List Fault) (ts us : List Entry) → ((x y : List Path) (u v : List Fault) → P x u ts → Q y v us → R (x ++ y) (u ++ v) (ts ++ us)) → Adds P a b f g ts → Adds Q b c g h us → Adds R a c f h (ts ++ us)
+pub adds_on : {P Q R : List Path → List Fault → List Entry → Type 0} (a b c : List Path) (f g h : List Fault) (ts us : List Entry) → ((x y : List Path) (u v : List Fault) → P x u ts → Q y v us → R (x ++ y) (u ++ v) (ts ++ us)) → AddsFiles P a b f g ts → AddsFiles Q b c g h us → AddsFiles R a c f h (ts ++ us)
 adds_on a b c f g h ts us both p q = record {
   own = p.own ++ q.own;
   said = p.said ++ q.said;
@@ -78,26 +78,26 @@ sight_quiet : (path : Path) (seen : Option (Option Seen)) → AreQuiet (look_by 
 sight_quiet path None = tt
 sight_quiet path (Some look) = ((tt, refl), tt)
 
-looks_quiet : (sights : List FileSight) → AreQuiet (flat_map look_of sights)
+looks_quiet : (sights : List FileSight) → AreQuiet (flat_map file_looks sights)
 looks_quiet [] = tt
-looks_quiet (s ∷ ss) = quiet_both (look_of s) (flat_map look_of ss) (sight_quiet s.path s.seen) (looks_quiet ss)
+looks_quiet (s ∷ ss) = quiet_both (file_looks s) (flat_map file_looks ss) (sight_quiet s.path s.seen) (looks_quiet ss)
 
 pub looked_quiet : (paths files : List Path) (faults : List Fault) (ts : List Entry) → LookedAtEach paths files faults ts → AreQuiet ts
 looked_quiet paths files faults ts l = subst AreQuiet (sym l.looks) (looks_quiet l.sights)
 
-pub looked_none : (a : List Path) (f : List Fault) {o : Option Journal} → Left (Adds (LookedAtEach []) a a f f) o o
-looked_none a f {o} = left_first (Adds (LookedAtEach []) a a f f) o (record { own = []; said = []; files_are = sym (append-nil a); faults_are = sym (append-nil f); shown = record { sights = []; each = refl; files_are = refl; faults_are = refl; looks = refl } })
+pub looked_none : (a : List Path) (f : List Fault) {o : Option Journal} → Left (AddsFiles (LookedAtEach []) a a f f) o o
+looked_none a f {o} = left_first (AddsFiles (LookedAtEach []) a a f f) o (record { own = []; said = []; files_are = sym (append-nil a); faults_are = sym (append-nil f); shown = record { sights = []; each = refl; files_are = refl; faults_are = refl; looks = refl } })
 
 looked_on : (xs ys a b : List Path) (f g : List Fault) (ts us : List Entry) → LookedAtEach xs a f ts → LookedAtEach ys b g us → LookedAtEach (xs ++ ys) (a ++ b) (f ++ g) (ts ++ us)
 looked_on xs ys a b f g ts us l k = record {
   sights = l.sights ++ k.sights;
   each = map-append (λ (s : FileSight). s.path) l.sights k.sights ∙ (ap (λ (ps : List Path). ps ++ map (λ (s : FileSight). s.path) k.sights) l.each ∙ ap (λ (ps : List Path). xs ++ ps) k.each);
-  files_are = ap (λ (ps : List Path). ps ++ b) l.files_are ∙ (ap (λ (ps : List Path). flat_map file_of l.sights ++ ps) k.files_are ∙ sym (flat_map-append file_of l.sights k.sights));
-  faults_are = ap (λ (fs : List Fault). fs ++ g) l.faults_are ∙ (ap (λ (fs : List Fault). flat_map fault_of l.sights ++ fs) k.faults_are ∙ sym (flat_map-append fault_of l.sights k.sights));
-  looks = ap (λ (es : List Entry). es ++ us) l.looks ∙ (ap (λ (es : List Entry). flat_map look_of l.sights ++ es) k.looks ∙ sym (flat_map-append look_of l.sights k.sights));
+  files_are = ap (λ (ps : List Path). ps ++ b) l.files_are ∙ (ap (λ (ps : List Path). flat_map sight_file l.sights ++ ps) k.files_are ∙ sym (flat_map-append sight_file l.sights k.sights));
+  faults_are = ap (λ (fs : List Fault). fs ++ g) l.faults_are ∙ (ap (λ (fs : List Fault). flat_map sight_fault l.sights ++ fs) k.faults_are ∙ sym (flat_map-append sight_fault l.sights k.sights));
+  looks = ap (λ (es : List Entry). es ++ us) l.looks ∙ (ap (λ (es : List Entry). flat_map file_looks l.sights ++ es) k.looks ∙ sym (flat_map-append file_looks l.sights k.sights));
 }
 
-pub looked_more : (xs ys a b c : List Path) (f g h : List Fault) {o m n : Option Journal} → Left (Adds (LookedAtEach xs) a b f g) o m → Left (Adds (LookedAtEach ys) b c g h) m n → Left (Adds (LookedAtEach (xs ++ ys)) a c f h) o n
+pub looked_more : (xs ys a b c : List Path) (f g h : List Fault) {o m n : Option Journal} → Left (AddsFiles (LookedAtEach xs) a b f g) o m → Left (AddsFiles (LookedAtEach ys) b c g h) m n → Left (AddsFiles (LookedAtEach (xs ++ ys)) a c f h) o n
 looked_more xs ys a b c f g h l k = left_then l k (λ ts us p q. adds_on a b c f g h ts us (λ x y u v r s. looked_on xs ys x y u v ts us r s) p q)
 
 one_look : (path : Path) (seen : Option (Option Seen)) (ts : List Entry) → ts ≡ look_by path seen → LookedAtEach (path ∷ []) (file_by path seen) (fault_by path seen) ts
@@ -109,7 +109,7 @@ one_look path seen ts e = record {
   looks = e ∙ sym (append-nil (look_by path seen));
 }
 
-pub look_told : {T E : Type 0} (r : Result T E) (path : Path) (look : Option Seen) (a b : List Path) (f : List Fault) {o n : Option Journal} → Left (λ ts. ts ≡ entry.Look path look ∷ []) o n → OnOk r (b ≡ a ++ file_path path look) → OnOk r (Left (Adds (LookedAtEach (path ∷ [])) a b f f) o n)
+pub look_told : {T E : Type 0} (r : Result T E) (path : Path) (look : Option Seen) (a b : List Path) (f : List Fault) {o n : Option Journal} → Left (λ ts. ts ≡ entry.Look path look ∷ []) o n → OnOk r (b ≡ a ++ file_path path look) → OnOk r (Left (AddsFiles (LookedAtEach (path ∷ [])) a b f f) o n)
 look_told (Err e) path look a b f l more = tt
 look_told (Ok x) path look a b f l more = left_as l (λ ts h. record { own = file_path path look; said = []; files_are = more; faults_are = sym (append-nil f); shown = one_look path (Some look) ts h })
 
@@ -117,7 +117,7 @@ pub look_lost : {T E : Type 0} (r : Result T E) (path : Path) (look : Option See
 look_lost (Ok x) path look l = tt
 look_lost (Err e) path look l = left_as l (λ ts h. subst AreQuiet (sym h) (sight_quiet path (Some look)))
 
-pub failed_told : (path : Path) (a : List Path) (f g : List Fault) {o n : Option Journal} → Left (λ ts. ts ≡ []) o n → g ≡ f ++ fault.Call call.Look path ∷ [] → Left (Adds (LookedAtEach (path ∷ [])) a a f g) o n
+pub failed_told : (path : Path) (a : List Path) (f g : List Fault) {o n : Option Journal} → Left (λ ts. ts ≡ []) o n → g ≡ f ++ fault.Call call.Look path ∷ [] → Left (AddsFiles (LookedAtEach (path ∷ [])) a a f g) o n
 failed_told path a f g l more = left_as l (λ ts h. record { own = []; said = fault.Call call.Look path ∷ []; files_are = sym (append-nil a); faults_are = more; shown = one_look path None ts h })
 
 pub none_quiet : {o n : Option Journal} → Left (λ ts. ts ≡ []) o n → Left AreQuiet o n
@@ -127,7 +127,7 @@ pub none_left : {o : Option Journal} → Left AreQuiet o o
 none_left {o} = left_first AreQuiet o tt
 
 -- what was looked at is quiet, and then more
-pub behind_looked : (xs a b : List Path) (f g : List Fault) {o m n : Option Journal} → Left (Adds (LookedAtEach xs) a b f g) o m → Left AreQuiet m n → Left AreQuiet o n
+pub behind_looked : (xs a b : List Path) (f g : List Fault) {o m n : Option Journal} → Left (AddsFiles (LookedAtEach xs) a b f g) o m → Left AreQuiet m n → Left AreQuiet o n
 behind_looked xs a b f g l k = left_then l k (λ ts us p q. quiet_both ts us (looked_quiet xs p.own p.said ts p.shown) q)
 
 -- ---- how calls went
@@ -141,12 +141,12 @@ lost (Ok x) l = tt
 lost (Err e) l = l
 
 -- the names are these
-pub names_told : {T E : Type 0} (r : Result T E) (xs ys a b : List Path) (f g : List Fault) (o n : Option Journal) → xs ≡ ys → OnOk r (Left (Adds (LookedAtEach xs) a b f g) o n) → OnOk r (Left (Adds (LookedAtEach ys) a b f g) o n)
-names_told r xs ys a b f g o n e l = subst (λ (ps : List Path). OnOk r (Left (Adds (LookedAtEach ps) a b f g) o n)) e l
+pub names_told : {T E : Type 0} (r : Result T E) (xs ys a b : List Path) (f g : List Fault) (o n : Option Journal) → xs ≡ ys → OnOk r (Left (AddsFiles (LookedAtEach xs) a b f g) o n) → OnOk r (Left (AddsFiles (LookedAtEach ys) a b f g) o n)
+names_told r xs ys a b f g o n e l = subst (λ (ps : List Path). OnOk r (Left (AddsFiles (LookedAtEach ps) a b f g) o n)) e l
 
 -- all paths were looked at
-pub looked_all : (xs ys a b : List Path) (f g : List Fault) {o n : Option Journal} → xs ≡ ys → Left (Adds (LookedAtEach ys) a b f g) o n → Left (Adds (LookedAtEach xs) a b f g) o n
-looked_all xs ys a b f g {o} {n} e l = subst (λ (ps : List Path). Left (Adds (LookedAtEach ps) a b f g) o n) (sym e) l
+pub looked_all : (xs ys a b : List Path) (f g : List Fault) {o n : Option Journal} → xs ≡ ys → Left (AddsFiles (LookedAtEach ys) a b f g) o n → Left (AddsFiles (LookedAtEach xs) a b f g) o n
+looked_all xs ys a b f g {o} {n} e l = subst (λ (ps : List Path). Left (AddsFiles (LookedAtEach ps) a b f g) o n) (sym e) l
 
 -- ---- a directory
 
@@ -174,7 +174,7 @@ stop_quiet dir (stop.NotFile path) ts h = sees_quiet dir ts h.1
 stop_quiet dir stop.Memory ts h = ⊎_elim (λ n. subst AreQuiet (sym n) tt) (λ s. ⊎_elim (λ n. sees_quiet dir ts n) (λ d. sees_quiet dir ts d) s) h
 
 pub listed_told : {T E : Type 0} (r : Result T E) (dir : Path) (there parent : Bool) (names given : List (List ℕ)) (a b : List Path) (f g : List Fault) (o m n : Option Journal) → given ≡ names → Left (ShowsListing dir there parent names) o m
-    → OnOk r (Left (Adds (LookedAtEach (paths_in dir given)) a b f g) m n) → OnOk r (Left (Adds (ShowsDir dir) a b f g) o n)
+    → OnOk r (Left (AddsFiles (LookedAtEach (paths_in dir given)) a b f g) m n) → OnOk r (Left (AddsFiles (ShowsDir dir) a b f g) o n)
 listed_told (Err e) dir there parent names given a b f g o m n same l k = tt
 listed_told (Ok x) dir there parent names given a b f g o m n same l k = left_then l k (λ ts us p q. record {
   own = q.own;
@@ -188,7 +188,7 @@ pub listed_lost : {T E : Type 0} (r : Result T E) (dir : Path) (there parent : B
 listed_lost (Ok x) dir there parent names o m n l k = tt
 listed_lost (Err e) dir there parent names o m n l k = left_then l k (λ ts us p q. quiet_both ts us (listing_quiet dir there parent names ts p) q)
 
-pub stopped_told : {T E : Type 0} (r : Result T E) (dir : Path) (why : StandStop) (a : List Path) (f g : List Fault) {o n : Option Journal} → Left (NotListed dir why) o n → OnOk r (why ≢ stop.Memory) → OnOk r (g ≡ f ++ list_fault why) → OnOk r (Left (Adds (ShowsDir dir) a a f g) o n)
+pub stopped_told : {T E : Type 0} (r : Result T E) (dir : Path) (why : StandStop) (a : List Path) (f g : List Fault) {o n : Option Journal} → Left (NotListed dir why) o n → OnOk r (why ≢ stop.Memory) → OnOk r (g ≡ f ++ list_fault why) → OnOk r (Left (AddsFiles (ShowsDir dir) a a f g) o n)
 stopped_told (Err e) dir why a f g l ne more = tt
 stopped_told (Ok x) dir why a f g l ne more = left_as l (λ ts h. record { own = []; said = list_fault why; files_are = sym (append-nil a); faults_are = more; shown = so why ne ts h })
   where
@@ -201,7 +201,7 @@ pub stopped_lost : {T E : Type 0} (r : Result T E) (dir : Path) (why : StandStop
 stopped_lost (Ok x) dir why l = tt
 stopped_lost (Err e) dir why l = left_as l (λ ts h. stop_quiet dir why ts h)
 
-pub stopped_went : {T E : Type 0} (r : Result T E) (why : StandStop) (f g : List Fault) (k l : Counts) → (IsFailedCall why → Rose k.faults l.faults) → Onward k l → OnOk r (g ≡ f ++ list_fault why) → WentBy r f g k l
+pub stopped_went : {T E : Type 0} (r : Result T E) (why : StandStop) (f g : List Fault) (k l : Counts) → (IsFailedStand why → Rose k.faults l.faults) → Onward k l → OnOk r (g ≡ f ++ list_fault why) → WentBy r f g k l
 stopped_went (Err e) why f g k l rose h more = h
 stopped_went (Ok x) (stop.Call kind path) f g k l rose h more = went_call f g kind path k l more (rose (record {})) h
 stopped_went (Ok x) (stop.NotFile path) f g k l rose h more = subst (λ (fs : List Fault). Went f fs k l) (sym (more ∙ append-nil f)) (went_same f k l h)
@@ -214,8 +214,8 @@ dir_quiet dir files faults ts (listed there parent names t) = then_quiet ts (λ 
 dir_quiet dir files faults ts (not_listed kind path e f h) = not_listed_at dir kind path ts h
 dir_quiet dir files faults ts (no_directory path e f h) = sees_quiet dir ts h.1
 
-pub dirs_none : (a : List Path) (f : List Fault) {o : Option Journal} → Left (Adds (ShowsDirs []) a a f f) o o
-dirs_none a f {o} = left_first (Adds (ShowsDirs []) a a f f) o (record {
+pub dirs_none : (a : List Path) (f : List Fault) {o : Option Journal} → Left (AddsFiles (ShowsDirs []) a a f f) o o
+dirs_none a f {o} = left_first (AddsFiles (ShowsDirs []) a a f f) o (record {
   own = [];
   said = [];
   files_are = sym (append-nil a);
@@ -236,14 +236,14 @@ dirs_on dirs dir a b f g ts us s h = record {
     one : DirSight
     one = record { dir = dir; files = b; faults = g; entries = us }
 
-pub dirs_more : (dirs : List Path) (i : ℕ) (dir : Path) (a b c : List Path) (f g h : List Fault) {o m n : Option Journal} → dir ≡ get_or dirs i dir → i < length dirs → Left (Adds (ShowsDirs (take i dirs)) a b f g) o m → Left (Adds (ShowsDir dir) b c g h) m n
-    → Left (Adds (ShowsDirs (take (i + 1) dirs)) a c f h) o n
+pub dirs_more : (dirs : List Path) (i : ℕ) (dir : Path) (a b c : List Path) (f g h : List Fault) {o m n : Option Journal} → dir ≡ get_or dirs i dir → i < length dirs → Left (AddsFiles (ShowsDirs (take i dirs)) a b f g) o m → Left (AddsFiles (ShowsDir dir) b c g h) m n
+    → Left (AddsFiles (ShowsDirs (take (i + 1) dirs)) a c f h) o n
 dirs_more dirs i dir a b c f g h {o} {n = n} is lt l k =
-    subst (λ (ds : List Path). Left (Adds (ShowsDirs ds) a c f h) o n) (ap (λ y. take i dirs ++ y ∷ []) is ∙ sym (take_more dirs i dir lt))
+    subst (λ (ds : List Path). Left (AddsFiles (ShowsDirs ds) a c f h) o n) (ap (λ y. take i dirs ++ y ∷ []) is ∙ sym (take_more dirs i dir lt))
     (left_then l k (λ ts us p q. adds_on a b c f g h ts us (λ x y u v r s. dirs_on (take i dirs) dir x y u v ts us r s) p q))
 
-pub dirs_all : (dirs : List Path) (i : ℕ) (a b : List Path) (f g : List Fault) {o n : Option Journal} → length dirs ≤ i → Left (Adds (ShowsDirs (take i dirs)) a b f g) o n → Left (Adds (ShowsDirs dirs) a b f g) o n
-dirs_all dirs i a b f g {o} {n} le l = subst (λ (ds : List Path). Left (Adds (ShowsDirs ds) a b f g) o n) (take_all i dirs le) l
+pub dirs_all : (dirs : List Path) (i : ℕ) (a b : List Path) (f g : List Fault) {o n : Option Journal} → length dirs ≤ i → Left (AddsFiles (ShowsDirs (take i dirs)) a b f g) o n → Left (AddsFiles (ShowsDirs dirs) a b f g) o n
+dirs_all dirs i a b f g {o} {n} le l = subst (λ (ds : List Path). Left (AddsFiles (ShowsDirs ds) a b f g) o n) (take_all i dirs le) l
 
 pub dirs_quiet : (dirs files : List Path) (faults : List Fault) (ts : List Entry) → ShowsDirs dirs files faults ts → AreQuiet ts
 dirs_quiet dirs files faults ts s = subst AreQuiet (sym s.entries_are) (all s.sights s.shown)
@@ -252,7 +252,7 @@ dirs_quiet dirs files faults ts s = subst AreQuiet (sym s.entries_are) (all s.si
     all [] h = tt
     all (d ∷ ds) h = quiet_both d.entries (flat_map (λ (d : DirSight). d.entries) ds) (dir_quiet d.dir d.files d.faults d.entries (All-head IsShown d ds h)) (all ds (All-tail IsShown d ds h))
 
-pub behind_dirs : (dirs a b : List Path) (f g : List Fault) {o m n : Option Journal} → Left (Adds (ShowsDirs dirs) a b f g) o m → Left AreQuiet m n → Left AreQuiet o n
+pub behind_dirs : (dirs a b : List Path) (f g : List Fault) {o m n : Option Journal} → Left (AddsFiles (ShowsDirs dirs) a b f g) o m → Left AreQuiet m n → Left AreQuiet o n
 behind_dirs dirs a b f g l k = left_then l k (λ ts us p q. quiet_both ts us (dirs_quiet dirs p.own p.said ts p.shown) q)
 
 -- how a call went, whatever comes behind it that calls nothing

@@ -20,7 +20,7 @@ use Rattle.lr_clock.specs.Clock.{IsClocked}
 use Rattle.lr_report.specs.declared.outcome.Outcome.{Outcome}
 use Rattle.lr_report.specs.declared.outcome.Outcome.TheVariants.{Done, BadWords, Held, OutOfMemory}
 use Rattle.lr_report.specs.declared.outcome.Report.{Report}
-use Rattle.lr_report.specs.Outcome.{text_of}
+use Rattle.lr_report.specs.Outcome.{outcome_text}
 use Rattle.lr_report.specs.Puts.{Took, TookPart}
 use Rattle.lr_report.specs.Reported.{AreReported}
 use Rattle.lr_audited.specs.declared.line.Audit.{Audit}
@@ -28,7 +28,7 @@ use Rattle.lr_audit.specs.declared.told.Told.{Told}
 use Rattle.lr_audit.specs.declared.words.Wanted.{Wanted}
 use Rattle.lr_audit.specs.Came.{Came, answer_of, audit_told, CallEnds, CallShows, not_read, read}
 use Rattle.lr_audit.specs.Internal.{CameTo}
-use Rattle.lr_audit.specs.Says.{said_text, with_out, Answers, WhereDone, Says}
+use Rattle.lr_audit.specs.Says.{said_text, with_out, PrintsAnswer, WhereDone, AuditSays}
 use Rattle.lr_audit.specs.Words.{are_names, wanted, wanted_behind, wanted_by}
 use Rattle.lr_audit.proofs.Answering.{line_answers, where_done, not_bad, out_rose}
 use Rattle.lr_audit.proofs.Seeing.{ends_truly}
@@ -67,7 +67,7 @@ pub none_done : (outcome said : Outcome) (P : Report → Type 0) → outcome ≡
 none_done outcome said P same none = λ report e. absurd (none report (sym same ∙ e))
 
 pub says_nothing : (here : Path) (words : List (List ℕ)) (zone : Zone) (seconds : ℤ) (outcome said : Outcome) (j : Option Journal) (counted counts : Counts) (x y : Option (List ℕ)) (low high : ℕ) → (said ≡ BadWords) ⊎ (said ≡ OutOfMemory) → with_out said ≡ said → ((report : Report) → said ≡ Done report → ⊥) → outcome ≡ said
-    → TookPart (text_of said) x y → Took (text_of said) x y ⊎ Rose low high → Says here words zone seconds outcome j j counted counts x y low high
+    → TookPart (outcome_text said) x y → Took (outcome_text said) x y ⊎ Rose low high → AuditSays here words zone seconds outcome j j counted counts x y low high
 says_nothing here words zone seconds outcome said j counted counts x y low high which line none same part whole = record {
   came = None;
   audit = None;
@@ -80,8 +80,8 @@ says_nothing here words zone seconds outcome said j counted counts x y low high 
 }
 
 pub says_so : (here : Path) (words : List (List ℕ)) (zone : Zone) (s seconds : ℤ) → s ≡ seconds → (w : Wanted) (r : Result Told Memory) (outcome : Outcome) (o n : Option Journal) (counted counts : Counts) (x y : Option (List ℕ)) (low high : ℕ) → WhereTold o IsJournal → wanted here words ≡ Some w → CameTo (CallEnds w zone s (audit_told r) (answer_of r)) o n
-    → IfOk r (λ told. IsClocked zone s told.notices told.faults.items) → IfOk r (λ told. AreReported told.faults.items counted counts) → Answers (said_text (audit_told r) (answer_of r)) (answer_of r) outcome x y low high → Says here words zone seconds outcome o n counted counts x y low high
-says_so here words zone s seconds same w r outcome o n counted counts x y low high disk is t clocked reported answers = subst (λ (z : ℤ). Says here words zone z outcome o n counted counts x y low high) same (record {
+    → IfOk r (λ told. IsClocked zone s told.notices told.faults.items) → IfOk r (λ told. AreReported told.faults.items counted counts) → PrintsAnswer (said_text (audit_told r) (answer_of r)) (answer_of r) outcome x y low high → AuditSays here words zone seconds outcome o n counted counts x y low high
+says_so here words zone s seconds same w r outcome o n counted counts x y low high disk is t clocked reported answers = subst (λ (z : ℤ). AuditSays here words zone z outcome o n counted counts x y low high) same (record {
   came = t.came;
   audit = audit_told r;
   said = answer_of r;
@@ -95,8 +95,8 @@ says_so here words zone s seconds same w r outcome o n counted counts x y low hi
 pub left_quiet : (w : Wanted) (zone : Zone) (seconds : ℤ) (audit : Option Audit) (said : Outcome) (o n : Option Journal) → CameTo (CallEnds w zone seconds audit said) o n → Left AreQuiet o n
 left_quiet w zone seconds audit said o n t = left_as t.left (λ ts h. ends_quiet w zone seconds audit said t.came ts h)
 
-pub ends_out : (r : Result Told Memory) (text : List ℕ) (outcome : Outcome) (k l : Counts) (x y : Option (List ℕ)) (low high : ℕ) → IfOk r (λ told. AreReported told.faults.items k l) → Answers text (answer_of r) outcome x y low high → WhereDone outcome (λ report. Contains report.faults fault.Out → Rose low high)
+pub ends_out : (r : Result Told Memory) (text : List ℕ) (outcome : Outcome) (k l : Counts) (x y : Option (List ℕ)) (low high : ℕ) → IfOk r (λ told. AreReported told.faults.items k l) → PrintsAnswer text (answer_of r) outcome x y low high → WhereDone outcome (λ report. Contains report.faults fault.Out → Rose low high)
 ends_out r text outcome k l x y low high reported answers = out_rose text (answer_of r) outcome x y low high answers (λ report e. (where_done r (λ ns fs. AreReported fs k l) reported report e).no_out)
 
-pub ends_not : (r : Result Told Memory) (text : List ℕ) (outcome : Outcome) (x y : Option (List ℕ)) (low high : ℕ) → Answers text (answer_of r) outcome x y low high → (outcome ≡ BadWords → ⊥) × (outcome ≡ Held → ⊥)
+pub ends_not : (r : Result Told Memory) (text : List ℕ) (outcome : Outcome) (x y : Option (List ℕ)) (low high : ℕ) → PrintsAnswer text (answer_of r) outcome x y low high → (outcome ≡ BadWords → ⊥) × (outcome ≡ Held → ⊥)
 ends_not r text outcome x y low high answers = not_bad r text outcome x y low high answers

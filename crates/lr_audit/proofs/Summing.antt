@@ -18,11 +18,11 @@ use Rattle.lr_audited.specs.declared.line.Audit.{Audit}
 use Rattle.lr_audited.specs.Audits.{IsAudit}
 use Rattle.lr_audit.specs.Audits.{SawFiles, AddsSaw, Audits}
 use Rattle.lr_audit.specs.Dirs.{asked_dirs, AreDirs}
-use Rattle.lr_audit.specs.Files.{ShowsDirs, Adds}
+use Rattle.lr_audit.specs.Files.{ShowsDirs, AddsFiles}
 use Rattle.lr_audit.proofs.Filing.{dirs_quiet}
 
 -- the files, put in order
-pub saw_told : (looks : Looks) (dirs given none found files : List Path) (f g : List Fault) (o n : Option Journal) → AreDirs (asked_dirs looks) dirs → given ≡ dirs → none ≡ [] → Left (Adds (ShowsDirs given) none found f g) o n
+pub saw_told : (looks : Looks) (dirs given none found files : List Path) (f g : List Fault) (o n : Option Journal) → AreDirs (asked_dirs looks) dirs → given ≡ dirs → none ≡ [] → Left (AddsFiles (ShowsDirs given) none found f g) o n
     → IsPermutation found files → IsSortedByKey (λ path. path) (slice_cmp nat_cmp) files → Left (AddsSaw looks files f g) o n
 saw_told looks dirs given none found files f g o n are same_dirs empty l same up = left_as l (λ ts h. record {
   dirs = dirs;

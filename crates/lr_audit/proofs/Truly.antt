@@ -37,7 +37,7 @@ use Rattle.lr_family.specs.Listed.{ShowsListing, HasListed, NotListedAt, ShowsNo
 use Rattle.lr_sought.specs.Finds.{StoodOrCame}
 use Rattle.lr_sought.proofs.Came.{quiet_prefix, stood_or_came}
 use Rattle.lr_glob.specs.Sights.{is_file_kind}
-use Rattle.lr_audit.specs.Files.{is_path, paths_in, FileSight, file_path, file_by, fault_by, look_by, file_of, fault_of, look_of, LookedAtEach, ShowsDir, listed, not_listed, no_directory, DirSight, IsShown, ShowsDirs}
+use Rattle.lr_audit.specs.Files.{are_path_bytes, paths_in, FileSight, file_path, file_by, fault_by, look_by, sight_file, sight_fault, file_looks, LookedAtEach, ShowsDir, listed, not_listed, no_directory, DirSight, IsShown, ShowsDirs}
 use Rattle.lr_audit.specs.Truth.{IsNameIn, IsTakenAway, AreTrueFiles}
 
 -- ---- lists
@@ -51,25 +51,25 @@ of_flat : {A B : Type 0} (f : A → List B) (xs : List A) (y : B) → IsIn y (fl
 of_flat f [] y i = absurd i
 of_flat {A} f (z ∷ zs) y i = ⊎_elim (λ j. (z, inl refl, j)) (λ j. let r : (x : A) × IsIn x zs × IsIn y (f x) = of_flat f zs y j in (r.0, inr r.1, r.2)) (in_append y (f z) (flat_map f zs) i)
 
-to_filter : (xs : List Path) (x : Path) → IsIn x xs → is_path x ≡ true → IsIn x (filter is_path xs)
+to_filter : (xs : List Path) (x : Path) → IsIn x xs → are_path_bytes x ≡ true → IsIn x (filter are_path_bytes xs)
 to_filter [] x i h = absurd i
-to_filter (y ∷ ys) x (inl e) h = subst (λ b. IsIn x (cond b (y ∷ filter is_path ys) (filter is_path ys))) (sym (ap is_path e ∙ h)) (inl e)
-to_filter (y ∷ ys) x (inr i) h = by (is_path y) (to_filter ys x i h)
+to_filter (y ∷ ys) x (inl e) h = subst (λ b. IsIn x (cond b (y ∷ filter are_path_bytes ys) (filter are_path_bytes ys))) (sym (ap are_path_bytes e ∙ h)) (inl e)
+to_filter (y ∷ ys) x (inr i) h = by (are_path_bytes y) (to_filter ys x i h)
   where
-    by : (b : Bool) → IsIn x (filter is_path ys) → IsIn x (cond b (y ∷ filter is_path ys) (filter is_path ys))
+    by : (b : Bool) → IsIn x (filter are_path_bytes ys) → IsIn x (cond b (y ∷ filter are_path_bytes ys) (filter are_path_bytes ys))
     by true j = inr j
     by false j = j
 
-of_filter : (xs : List Path) (x : Path) → IsIn x (filter is_path xs) → IsIn x xs
+of_filter : (xs : List Path) (x : Path) → IsIn x (filter are_path_bytes xs) → IsIn x xs
 of_filter [] x i = i
-of_filter (y ∷ ys) x i = by (λ j. of_filter ys x j) (is_path y) i
+of_filter (y ∷ ys) x i = by (λ j. of_filter ys x j) (are_path_bytes y) i
   where
-    by : (IsIn x (filter is_path ys) → IsIn x ys) → (b : Bool) → IsIn x (cond b (y ∷ filter is_path ys) (filter is_path ys)) → IsIn x (y ∷ ys)
+    by : (IsIn x (filter are_path_bytes ys) → IsIn x ys) → (b : Bool) → IsIn x (cond b (y ∷ filter are_path_bytes ys) (filter are_path_bytes ys)) → IsIn x (y ∷ ys)
     by f true (inl e) = inl e
     by f true (inr j) = inr (f j)
     by f false j = inr (f j)
 
-valid_path : (x : Path) → path_fault x ≡ None → is_path x ≡ true
+valid_path : (x : Path) → path_fault x ≡ None → are_path_bytes x ≡ true
 valid_path x e = ap (λ (o : Option PathFault). is_none o) e
 
 -- the path of a listed name
@@ -180,11 +180,11 @@ module _ (p q : Past) (es : List Entry) (m : Made p es q) (journal : IsJournal p
       same = s.2 ∙ sym h.named
 
       by : (o : Option (Option Seen)) → s.0.seen ≡ o → IsIn x files ⊎ IsTakenAway faults dir x
-      by None e = inr (inl (subst (IsIn (fault.Call call.Look x)) (sym l.faults_are) (to_flat fault_of l.sights s.0 (fault.Call call.Look x) s.1 (subst (λ (y : Path). IsIn (fault.Call call.Look y) (fault_of s.0)) same (subst (λ (z : Option (Option Seen)). IsIn (fault.Call call.Look s.0.path) (fault_by s.0.path z)) (sym e) (inl refl))))))
-      by (Some look) e = inl (subst (IsIn x) (sym l.files_are) (to_flat file_of l.sights s.0 x s.1 (subst (λ (y : Path). IsIn y (file_of s.0)) same (subst (λ (z : Option (Option Seen)). IsIn s.0.path (file_by s.0.path z)) (sym e) (is_file_path s.0.path look saw)))))
+      by None e = inr (inl (subst (IsIn (fault.Call call.Look x)) (sym l.faults_are) (to_flat sight_fault l.sights s.0 (fault.Call call.Look x) s.1 (subst (λ (y : Path). IsIn (fault.Call call.Look y) (sight_fault s.0)) same (subst (λ (z : Option (Option Seen)). IsIn (fault.Call call.Look s.0.path) (fault_by s.0.path z)) (sym e) (inl refl))))))
+      by (Some look) e = inl (subst (IsIn x) (sym l.files_are) (to_flat sight_file l.sights s.0 x s.1 (subst (λ (y : Path). IsIn y (sight_file s.0)) same (subst (λ (z : Option (Option Seen)). IsIn s.0.path (file_by s.0.path z)) (sym e) (is_file_path s.0.path look saw)))))
         where
           one : IsOne (entry.Look s.0.path look)
-          one = within (entry.Look s.0.path look) (subst (IsIn (entry.Look s.0.path look)) (sym l.looks) (to_flat look_of l.sights s.0 (entry.Look s.0.path look) s.1 (subst (λ (z : Option (Option Seen)). IsIn (entry.Look s.0.path look) (look_by s.0.path z)) (sym e) (inl refl))))
+          one = within (entry.Look s.0.path look) (subst (IsIn (entry.Look s.0.path look)) (sym l.looks) (to_flat file_looks l.sights s.0 (entry.Look s.0.path look) s.1 (subst (λ (z : Option (Option Seen)). IsIn (entry.Look s.0.path look) (look_by s.0.path z)) (sym e) (inl refl))))
 
           saw : IsFile look
           saw = saw_it s.0.path look one (subst (IsFileAt (names (world p))) (sym same) file)
@@ -231,21 +231,21 @@ module _ (p q : Past) (es : List Entry) (m : Made p es q) (journal : IsJournal p
       list : IsOne (entry.List dir l.listed)
       list = within (entry.List dir l.listed) (subst (IsIn (entry.List dir l.listed)) (sym t.joined) (in_front (entry.List dir l.listed) t.front t.back (subst (IsIn (entry.List dir l.listed)) (sym t.first.1.joined) (in_back (entry.List dir l.listed) t.first.1.front t.first.1.back (subst (IsIn (entry.List dir l.listed)) (sym l.list) (inl refl))))))
 
-      f : (s : FileSight) × IsIn s t.second.sights × IsIn x (file_of s)
-      f = of_flat file_of t.second.sights x (subst (IsIn x) t.second.files_are i)
+      f : (s : FileSight) × IsIn s t.second.sights × IsIn x (sight_file s)
+      f = of_flat sight_file t.second.sights x (subst (IsIn x) t.second.files_are i)
 
       saw : SawFileBy f.0.path x f.0.seen
       saw = file_by_look f.0.path x f.0.seen f.2
 
       look : IsOne (entry.Look x (Some saw.look))
       look = within (entry.Look x (Some saw.look)) (subst (IsIn (entry.Look x (Some saw.look))) (sym t.joined) (in_back (entry.Look x (Some saw.look)) t.front t.back
-          (subst (IsIn (entry.Look x (Some saw.look))) (sym t.second.looks) (to_flat look_of t.second.sights f.0 (entry.Look x (Some saw.look)) f.1
-          (subst (λ (y : Path). IsIn (entry.Look y (Some saw.look)) (look_of f.0)) saw.same (subst (λ (z : Option (Option Seen)). IsIn (entry.Look f.0.path (Some saw.look)) (look_by f.0.path z)) (sym saw.saw) (inl refl)))))))
+          (subst (IsIn (entry.Look x (Some saw.look))) (sym t.second.looks) (to_flat file_looks t.second.sights f.0 (entry.Look x (Some saw.look)) f.1
+          (subst (λ (y : Path). IsIn (entry.Look y (Some saw.look)) (file_looks f.0)) saw.same (subst (λ (z : Option (Option Seen)). IsIn (entry.Look f.0.path (Some saw.look)) (look_by f.0.path z)) (sym saw.saw) (inl refl)))))))
 
       n : (name : List ℕ) × IsIn name ns × (joined dir name ≡ f.0.path)
       n = of_path dir ns f.0.path (subst (IsIn f.0.path) t.second.each (in_map (λ (s : FileSight). s.path) f.0 t.second.sights f.1))
   dir_came dir x files faults us within (listed false parent ns t) i = absurd (
-      let f : (s : FileSight) × IsIn s t.second.sights × IsIn x (file_of s) = of_flat file_of t.second.sights x (subst (IsIn x) t.second.files_are i) in
+      let f : (s : FileSight) × IsIn s t.second.sights × IsIn x (sight_file s) = of_flat sight_file t.second.sights x (subst (IsIn x) t.second.files_are i) in
       let n = of_path dir ns f.0.path (subst (IsIn f.0.path) t.second.each (in_map (λ (s : FileSight). s.path) f.0 t.second.sights f.1)) in
       subst (IsIn n.0) t.first.0 n.1)
   dir_came dir x files faults us within (not_listed knd at e f h) i = absurd (subst (IsIn x) e i)

@@ -10,11 +10,11 @@ use Rattle.lr_plan.specs.declared.looks.Looks.{Looks}
 use Rattle.lr_plan.specs.declared.looks.SetLooks.{SetLooks}
 
 -- that of a log's family, where it is there
-abbrev pub family_dir : LogLook → List Path
-family_dir look = if look.stand.there then look.family.naming.dir ∷ [] else []
+abbrev pub look_dir : LogLook → List Path
+look_dir look = if look.stand.there then look.family.naming.dir ∷ [] else []
 
 abbrev pub set_dirs : SetLooks → List Path
-set_dirs set = flat_map family_dir set.logs
+set_dirs set = flat_map look_dir set.logs
 
 -- those of the logs that are kept, and of their families that were seen
 abbrev pub asked_dirs : Looks → List Path

@@ -17,12 +17,12 @@ use Rattle.lr_family.specs.Listed.{ShowsListing, NotListed, ShowsNoDir}
 use Rattle.lr_glob.specs.Sights.{is_file_kind}
 
 -- the bytes are a path
-abbrev pub is_path : List ℕ → Bool
-is_path bytes = is_none (path_fault bytes)
+abbrev pub are_path_bytes : List ℕ → Bool
+are_path_bytes bytes = is_none (path_fault bytes)
 
 -- the paths of these names in the directory; what would be none is left out, since nothing has it on a disk
 abbrev pub paths_in : Path → List (List ℕ) → List Path
-paths_in dir names = filter is_path (map (joined dir) names)
+paths_in dir names = filter are_path_bytes (map (joined dir) names)
 
 -- ---- the looks at paths
 
@@ -48,22 +48,22 @@ abbrev pub look_by : Path → Option (Option Seen) → List Entry
 look_by path None = []
 look_by path (Some look) = entry.Look path look ∷ []
 
-abbrev pub file_of : FileSight → List Path
-file_of s = file_by s.path s.seen
+abbrev pub sight_file : FileSight → List Path
+sight_file s = file_by s.path s.seen
 
-abbrev pub fault_of : FileSight → List Fault
-fault_of s = fault_by s.path s.seen
+abbrev pub sight_fault : FileSight → List Fault
+sight_fault s = fault_by s.path s.seen
 
-abbrev pub look_of : FileSight → List Entry
-look_of s = look_by s.path s.seen
+abbrev pub file_looks : FileSight → List Entry
+file_looks s = look_by s.path s.seen
 
 -- One look at each of these paths, in order: the regular files that were seen, and a fault for each look that failed.
 pub record LookedAtEach (paths files : List Path) (faults : List Fault) (ts : List Entry) : Type 0 where
   pub sights : List FileSight
   pub each : map (λ s. s.path) sights ≡ paths
-  pub files_are : files ≡ flat_map file_of sights
-  pub faults_are : faults ≡ flat_map fault_of sights
-  pub looks : ts ≡ flat_map look_of sights
+  pub files_are : files ≡ flat_map sight_file sights
+  pub faults_are : faults ≡ flat_map sight_fault sights
+  pub looks : ts ≡ flat_map file_looks sights
 
 -- ---- a directory
 
@@ -106,7 +106,7 @@ pub record ShowsDirs (dirs files : List Path) (faults : List Fault) (ts : List E
 -- ---- for calls
 
 -- Such files and faults were added.
-pub record Adds (P : List Path → List Fault → List Entry
+pub record AddsFiles (P : List Path → List Fault → List Entry
     → Type 0) (files all_files : List Path) (faults all_faults : List Fault) (ts : List Entry) : Type 0 where
   pub own : List Path
   pub said : List Fault

@@ -11,7 +11,7 @@ use Rattle.lr_clock.specs.Clock.{IsClocked}
 use Rattle.lr_report.specs.declared.outcome.Outcome.{Outcome}
 use Rattle.lr_report.specs.declared.outcome.Outcome.TheVariants.{Done, BadWords, Held, OutOfMemory}
 use Rattle.lr_report.specs.declared.outcome.Report.{Report}
-use Rattle.lr_report.specs.Outcome.{text_of}
+use Rattle.lr_report.specs.Outcome.{outcome_text}
 use Rattle.lr_report.specs.Puts.{Took, TookPart}
 use Rattle.lr_report.specs.Reported.{AreReported}
 use Rattle.lr_audited.specs.declared.line.Audit.{Audit}
@@ -28,7 +28,7 @@ text_told (Some a) = audit_text a
 
 -- all that is printed: that, and then what there is to say of the answer
 abbrev pub said_text : Option Audit → Outcome → List ℕ
-said_text audit outcome = text_told audit ++ text_of outcome
+said_text audit outcome = text_told audit ++ outcome_text outcome
 
 -- the answer with `Out` behind its other faults
 abbrev pub with_out : Outcome → Outcome
@@ -39,10 +39,10 @@ with_out OutOfMemory = OutOfMemory
 
 -- The text of what was to be answered came whole, and it is the answer; or a first part of it, where a put failed, and a report
 -- tells that.
-pub data Answers (text : List ℕ) (said outcome : Outcome) (before after : Option (List ℕ)) (low high : ℕ) : Type 0 where
-  whole : outcome ≡ said → Took text before after → Answers text said outcome before after low high
+pub data PrintsAnswer (text : List ℕ) (said outcome : Outcome) (before after : Option (List ℕ)) (low high : ℕ) : Type 0 where
+  whole : outcome ≡ said → Took text before after → PrintsAnswer text said outcome before after low high
   broken_off : outcome ≡ with_out said → TookPart text before after → Rose low high
-      → Answers text said outcome before after low high
+      → PrintsAnswer text said outcome before after low high
 
 -- ---- all of it
 
@@ -51,7 +51,7 @@ abbrev pub WhereDone : Outcome → (Report → Type 0) → Type 0
 WhereDone outcome P = (report : Report) → outcome ≡ Done report → P report
 
 -- All that is told of a call with these words, in this zone and at these seconds.
-pub record Says (here : Path) (words : List (List ℕ)) (zone : Zone) (seconds : ℤ) (outcome : Outcome)
+pub record AuditSays (here : Path) (words : List (List ℕ)) (zone : Zone) (seconds : ℤ) (outcome : Outcome)
     (told later : Option Journal) (counted counts : Counts) (before after : Option (List ℕ)) (low high : ℕ) : Type 0 where
   -- what it came to; and its audit and its answer but for `Out`, which are known too where the host tells nothing
   pub came : Option Came
@@ -65,4 +65,4 @@ pub record Says (here : Path) (words : List (List ℕ)) (zone : Zone) (seconds :
   pub clock : WhereDone said (λ report. IsClocked zone seconds report.notices report.faults)
   pub counted_are : WhereDone said (λ report. AreReported report.faults counted counts)
   -- what was printed, and so what was answered
-  pub answers : Answers (said_text audit said) said outcome before after low high
+  pub answers : PrintsAnswer (said_text audit said) said outcome before after low high

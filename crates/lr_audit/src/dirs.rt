@@ -5,7 +5,7 @@ ghost use Rattle.std.specs.Cmp.Lexicographic.{slice_cmp};
 ghost use Rattle.std.specs.List.{flat_map};
 ghost use Rattle.std.specs.List.Sorted.{IsPermutation, IsSortedByKey};
 ghost use Rattle.lr_rules.specs.Path.{parent_of};
-ghost use Rattle.lr_audit.specs.Dirs.{family_dir, set_dirs, asked_dirs, AreDirs};
+ghost use Rattle.lr_audit.specs.Dirs.{look_dir, set_dirs, asked_dirs, AreDirs};
 
 use lr_plan::{LogLook, Looks, SetLooks};
 use lr_rules::{Memory, Path};
@@ -38,7 +38,7 @@ fn add_parents(alloc: Global, dirs: &mut Vec<Path>, logs: &[Path]) -> Result<(),
 
 // Adds the directory of a log's family, where that is there.
 fn add_family_dir(alloc: Global, dirs: &mut Vec<Path>, look: &LogLook) -> Result<(), Memory>
-    ensures { OnOk result (dirs.new.items ≡ dirs.old.items ++ family_dir look.now) }
+    ensures { OnOk result (dirs.new.items ≡ dirs.old.items ++ look_dir look.now) }
 {
     if look.stand.there {
         dirs.push(look.family.naming().dir.copy(alloc)?)?;
@@ -47,7 +47,7 @@ fn add_family_dir(alloc: Global, dirs: &mut Vec<Path>, look: &LogLook) -> Result
 }
 
 fn add_set_dirs(alloc: Global, dirs: &mut Vec<Path>, looks: &[LogLook]) -> Result<(), Memory>
-    ensures { OnOk result (dirs.new.items ≡ dirs.old.items ++ flat_map family_dir looks.now) }
+    ensures { OnOk result (dirs.new.items ≡ dirs.old.items ++ flat_map look_dir looks.now) }
 {
     for look in looks {
         add_family_dir(alloc, dirs, look)?;

@@ -4,7 +4,7 @@ ghost use Rattle.lr_host.specs.Counted.{WentBy};
 ghost use Rattle.lr_host.specs.Quiet.{AreQuiet};
 ghost use Rattle.lr_host.specs.Told.{Left};
 ghost use Rattle.lr_family.specs.declared.stand.StandStop.TheVariants as stop;
-ghost use Rattle.lr_audit.specs.Files.{paths_in, file_path, list_fault, Adds, LookedAtEach, ShowsDir, ShowsDirs};
+ghost use Rattle.lr_audit.specs.Files.{paths_in, file_path, list_fault, AddsFiles, LookedAtEach, ShowsDir, ShowsDirs};
 
 use lr_family::{Listing, StandStop};
 use lr_host::{Host, Kind, Seen};
@@ -68,7 +68,7 @@ fn look_at<H: Host>(
     files: &mut Vec<Path>,
     faults: &mut Vec<Fault>,
 ) -> Result<(), Memory>
-    ensures told { OnOk result (Left (Adds (LookedAtEach
+    ensures told { OnOk result (Left (AddsFiles (LookedAtEach
         (path ∷ [])) files.old.items files.new.items faults.old.items faults.new.items) (H.told host.old) (H.told host.new)) }
     ensures some { OnErr result (Left AreQuiet (H.told host.old) (H.told host.new)) }
     ensures went { WentBy result faults.old.items faults.new.items (H.counts host.old) (H.counts host.new) }
@@ -86,7 +86,7 @@ fn look_at_each<H: Host>(
     files: &mut Vec<Path>,
     faults: &mut Vec<Fault>,
 ) -> Result<(), Memory>
-    ensures told { OnOk result (Left (Adds (LookedAtEach paths.items) files.old.items files.new.items faults.old.items
+    ensures told { OnOk result (Left (AddsFiles (LookedAtEach paths.items) files.old.items files.new.items faults.old.items
         faults.new.items) (H.told host.old) (H.told host.new)) }
     ensures some { OnErr result (Left AreQuiet (H.told host.old) (H.told host.new)) }
     ensures went { WentBy result faults.old.items faults.new.items (H.counts host.old) (H.counts host.new) }
@@ -106,7 +106,7 @@ fn look_at_names<H: Host>(
     files: &mut Vec<Path>,
     faults: &mut Vec<Fault>,
 ) -> Result<(), Memory>
-    ensures told { OnOk result (Left (Adds (LookedAtEach
+    ensures told { OnOk result (Left (AddsFiles (LookedAtEach
         (paths_in dir.now names.now)) files.old.items files.new.items faults.old.items faults.new.items) (H.told host.old)
         (H.told host.new)) }
     ensures some { OnErr result (Left AreQuiet (H.told host.old) (H.told host.new)) }
@@ -136,8 +136,8 @@ fn add_dir<H: Host>(
     files: &mut Vec<Path>,
     faults: &mut Vec<Fault>,
 ) -> Result<(), Memory>
-    ensures told { OnOk result (Left (Adds (ShowsDir dir.now) files.old.items files.new.items faults.old.items faults.new.items)
-        (H.told host.old) (H.told host.new)) }
+    ensures told { OnOk result (Left (AddsFiles (ShowsDir dir.now) files.old.items files.new.items faults.old.items
+        faults.new.items) (H.told host.old) (H.told host.new)) }
     ensures some { OnErr result (Left AreQuiet (H.told host.old) (H.told host.new)) }
     ensures went { WentBy result faults.old.items faults.new.items (H.counts host.old) (H.counts host.new) }
 {
@@ -156,8 +156,8 @@ pub fn add_files<H: Host>(
     files: &mut Vec<Path>,
     faults: &mut Vec<Fault>,
 ) -> Result<(), Memory>
-    ensures told { OnOk result (Left (Adds (ShowsDirs dirs.now) files.old.items files.new.items faults.old.items faults.new.items)
-        (H.told host.old) (H.told host.new)) }
+    ensures told { OnOk result (Left (AddsFiles (ShowsDirs dirs.now) files.old.items files.new.items faults.old.items
+        faults.new.items) (H.told host.old) (H.told host.new)) }
     ensures some { OnErr result (Left AreQuiet (H.told host.old) (H.told host.new)) }
     ensures went { WentBy result faults.old.items faults.new.items (H.counts host.old) (H.counts host.new) }
 {

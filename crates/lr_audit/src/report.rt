@@ -4,7 +4,7 @@ ghost use Rattle.lr_rules.specs.declared.fault.Fault.TheVariants as fault;
 ghost use Rattle.lr_report.specs.Lines.{lines};
 ghost use Rattle.lr_shown.specs.Puts.{Puts};
 ghost use Rattle.lr_audit.specs.Came.{answer_of, audit_told};
-ghost use Rattle.lr_audit.specs.Says.{with_out, text_told, said_text, Answers};
+ghost use Rattle.lr_audit.specs.Says.{with_out, text_told, said_text, PrintsAnswer};
 
 use crate::text::put_audit;
 use crate::told::Told;
@@ -79,7 +79,7 @@ fn report_after(put: Result<(), SinkFault>, told: Told) -> Outcome
 // The report of what was told, all of which is put.
 fn report<K: Sink>(told: Told, out: &mut K) -> Outcome
     requires { vec_len told.faults < vec_capacity told.faults }
-    ensures answers { Answers (said_text told.audit (answer_of (Ok told))) (answer_of (Ok told)) result (K.taken out.old)
+    ensures answers { PrintsAnswer (said_text told.audit (answer_of (Ok told))) (answer_of (Ok told)) result (K.taken out.old)
         (K.taken out.new) (K.faults out.old) (K.faults out.new) }
     ensures counts { K.faults out.old ≤ K.faults out.new }
 {
@@ -91,7 +91,7 @@ fn report<K: Sink>(told: Told, out: &mut K) -> Outcome
 /// no memory is taken here.
 pub fn finish<K: Sink>(run: Result<Told, Memory>, out: &mut K) -> Outcome
     requires { IfOk run (λ told. vec_len told.faults + 1 ≤ vec_capacity told.faults) }
-    ensures answers { Answers (said_text (audit_told run) (answer_of run)) (answer_of run) result (K.taken out.old)
+    ensures answers { PrintsAnswer (said_text (audit_told run) (answer_of run)) (answer_of run) result (K.taken out.old)
         (K.taken out.new) (K.faults out.old) (K.faults out.new) }
     ensures counts { K.faults out.old ≤ K.faults out.new }
 {

@@ -4,7 +4,7 @@ ghost use Rattle.lr_rules.specs.declared.fault.Fault.TheVariants as fault;
 ghost use Rattle.lr_host.specs.Opening.{IsJournal};
 ghost use Rattle.lr_host.specs.Quiet.{AreQuiet};
 ghost use Rattle.lr_host.specs.Told.{Left, Onward, Rose, WhereTold};
-ghost use Rattle.lr_audit.specs.Says.{Says, WhereDone};
+ghost use Rattle.lr_audit.specs.Says.{AuditSays, WhereDone};
 ghost use Rattle.lr_audit.specs.Words.{wanted};
 
 use crate::report::finish;
@@ -40,7 +40,7 @@ pub fn lraudit<H: Host, K: Sink>(
 
     // What the call came to, as a value: its clock, what it read, what it saw of the logs and of the files beside them, and the
     // audit that follows. Its entries and its answer show it, and what is printed; what it saw is true of the disk.
-    ensures told { Says here.now words.now zone.now now result (H.told host.old) (H.told host.new) (H.counts host.old)
+    ensures told { AuditSays here.now words.now zone.now now result (H.told host.old) (H.told host.new) (H.counts host.old)
         (H.counts host.new) (K.taken out.old) (K.taken out.new) (K.faults out.old) (K.faults out.new) }
 
     // `Out` comes only where a put failed.

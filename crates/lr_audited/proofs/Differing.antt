@@ -61,7 +61,7 @@ use Rattle.lr_seen.proofs.Listed.{WasShown, WasTold, all_shown, all_told}
 use Rattle.lr_seen.proofs.Gives.{all_in}
 use Rattle.lr_seen.proofs.Seen.{log_path, looked_family}
 use Rattle.lr_audited.specs.declared.line.Line.{Line}
-use Rattle.lr_audited.specs.Lines.{log_line, part_line, member_lines, waiting_lines, part_lines, family_lines, set_lines, sets_lines, known_paths}
+use Rattle.lr_audited.specs.Lines.{log_line, part_line, member_lines, waiting_lines, part_lines, family_lines, rule_lines, sets_lines, known_paths}
 use Rattle.lr_audited.proofs.Tracing.{not_in_from, apart_in}
 
 -- ---- lists
@@ -370,10 +370,10 @@ module _ {reserved : List Path} (rules : Rules) (sets : List SetLooks) (faults :
       ∙ (ap (λ (xs : List Path). xs ++ paths_in_lines (part_lines look)) (members_are look.family.naming.dated rule.count look.path 0 look.stand.members)
       ∙ ap (λ (xs : List Path). member_paths look.stand.members ++ xs) (left_are look))
 
-  set_are : (k : ℕ) (rule : Rule) (looks : List LogLook) → paths_in_lines (set_lines rule looks) ≡ flat_map files_in (map (looked_in k) looks)
+  set_are : (k : ℕ) (rule : Rule) (looks : List LogLook) → paths_in_lines (rule_lines rule looks) ≡ flat_map files_in (map (looked_in k) looks)
   set_are k rule [] = refl
-  set_are k rule (look ∷ looks) = map-append (λ (line : Line). line.path) (family_lines rule look) (set_lines rule looks)
-      ∙ (ap (λ (xs : List Path). xs ++ paths_in_lines (set_lines rule looks)) (family_is rule look) ∙ ap (λ (xs : List Path). files_of look.path look.stand look.tmp ++ xs) (set_are k rule looks))
+  set_are k rule (look ∷ looks) = map-append (λ (line : Line). line.path) (family_lines rule look) (rule_lines rule looks)
+      ∙ (ap (λ (xs : List Path). xs ++ paths_in_lines (rule_lines rule looks)) (family_is rule look) ∙ ap (λ (xs : List Path). files_of look.path look.stand look.tmp ++ xs) (set_are k rule looks))
 
   of_sets : (k : ℕ) (rs : List Rule) (ss : List SetLooks) → HaveLooksFrom k s.looked ss → (x : Path) → IsIn x (paths_in_lines (sets_lines rs ss)) → IsFileFrom k x
   of_sets k [] [] h x i = absurd i
@@ -381,9 +381,9 @@ module _ {reserved : List Path} (rules : Rules) (sets : List SetLooks) (faults :
   of_sets k (r ∷ rs) [] h x i = absurd i
   of_sets k (r ∷ rs) (set ∷ ss) h x i = ⊎_elim here
       (λ j. let f = of_sets (k + 1) rs ss h.1 x j in let le = f.late in record { log = f.log; looked = f.looked; late = omega (arith, le); has = f.has })
-      (in_append x (paths_in_lines (set_lines r set.logs)) (paths_in_lines (sets_lines rs ss)) (subst (IsIn x) (map-append (λ (line : Line). line.path) (set_lines r set.logs) (sets_lines rs ss)) i))
+      (in_append x (paths_in_lines (rule_lines r set.logs)) (paths_in_lines (sets_lines rs ss)) (subst (IsIn x) (map-append (λ (line : Line). line.path) (rule_lines r set.logs) (sets_lines rs ss)) i))
     where
-      here : IsIn x (paths_in_lines (set_lines r set.logs)) → IsFileFrom k x
+      here : IsIn x (paths_in_lines (rule_lines r set.logs)) → IsFileFrom k x
       here j =
           let l = in_flat files_in (of_set k s.looked) x (subst (λ (ls : List LookedLog). IsIn x (flat_map files_in ls)) h.0 (subst (IsIn x) (set_are k r set.logs) j)) in
           let e = set_is k l.0 l.1 in
@@ -393,14 +393,14 @@ module _ {reserved : List Path} (rules : Rules) (sets : List SetLooks) (faults :
   sets_differ k [] [] h = tt
   sets_differ k [] (set ∷ ss) h = tt
   sets_differ k (r ∷ rs) [] h = tt
-  sets_differ k (r ∷ rs) (set ∷ ss) h = subst AreDistinct (sym (map-append (λ (line : Line). line.path) (set_lines r set.logs) (sets_lines rs ss)))
-      (distinct_both (paths_in_lines (set_lines r set.logs)) (paths_in_lines (sets_lines rs ss))
+  sets_differ k (r ∷ rs) (set ∷ ss) h = subst AreDistinct (sym (map-append (λ (line : Line). line.path) (rule_lines r set.logs) (sets_lines rs ss)))
+      (distinct_both (paths_in_lines (rule_lines r set.logs)) (paths_in_lines (sets_lines rs ss))
       (subst AreDistinct (sym own_is) (all_files (of_set k s.looked) (set_off k) (λ l i. in_set k s.looked l i))) (sets_differ (k + 1) rs ss h.1) cross)
     where
-      own_is : paths_in_lines (set_lines r set.logs) ≡ flat_map files_in (of_set k s.looked)
+      own_is : paths_in_lines (rule_lines r set.logs) ≡ flat_map files_in (of_set k s.looked)
       own_is = set_are k r set.logs ∙ ap (flat_map files_in) h.0
 
-      cross : (x y : Path) → IsIn x (paths_in_lines (set_lines r set.logs)) → IsIn y (paths_in_lines (sets_lines rs ss)) → x ≢ y
+      cross : (x y : Path) → IsIn x (paths_in_lines (rule_lines r set.logs)) → IsIn y (paths_in_lines (sets_lines rs ss)) → x ≢ y
       cross x y i j = ⊎_elim
           (λ same. absurd (let e = set_is k l.0 l.1 in let le = f.late in let g = ap (λ (z : LookedLog). z.set) same in omega (arith, e, le, g)))
           (λ off. ⊎_elim (λ (a : OffLooked l.0 f.log). off_files l.0 f.log x y (in_set k s.looked l.0 l.1) f.looked a l.2 f.has)

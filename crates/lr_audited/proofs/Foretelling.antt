@@ -52,9 +52,9 @@ use Rattle.lr_plan.specs.Steps.{program, rotation_of, retirement_of, steps_of_lo
 use Rattle.lr_looks.specs.Shown.{ShowsLooks}
 use Rattle.lr_laws_family.proofs.Numbers.{rising}
 use Rattle.lr_laws_rotations.proofs.Ready.{have_next}
-use Rattle.lr_laws_targets.specs.AllTurns.{part_paths}
-use Rattle.lr_laws_targets.specs.Apart.{HasNames, HaveNames}
-use Rattle.lr_laws_targets.specs.Rotation.{paths_in}
+use Rattle.lr_laws_targets.specs.AllTurns.{job_part_paths}
+use Rattle.lr_laws_targets.specs.Apart.{HasNames, TargetsHaveNames}
+use Rattle.lr_laws_targets.specs.Rotation.{removal_paths}
 use Rattle.lr_laws_targets.specs.Target.{Target, HasWay}
 use Rattle.lr_laws_targets.proofs.Own.{member_own, named_own, target_member, part_file_own}
 use Rattle.lr_laws_targets.proofs.PartFile.{job_part, job_no_member}
@@ -113,38 +113,38 @@ module _ (clock : Clock) (mailer : Path) (rule : Rule) (look : LogLook) (h : Has
   alone = free_of_members clock rule look free
 
   -- what is told of it is what goes behind its way
-  retires_by : (d : Option Format) → look.family.naming.dated ≡ d → Retires its_naming (log_from its_job its_ready.log) (paths_in its_ready.leftovers) its_ready.moves its_ready.target (paths_in its_ready.retire) (going_paths (reverse (newest_going look.family.naming.dated clock its_plan)))
+  retires_by : (d : Option Format) → look.family.naming.dated ≡ d → Retires its_naming (log_from its_job its_ready.log) (removal_paths its_ready.leftovers) its_ready.moves its_ready.target (removal_paths its_ready.retire) (going_paths (reverse (newest_going look.family.naming.dated clock its_plan)))
   retires_by None e =
       let rises = rising its_naming e its_members h.named h.newest_first in
-      subst (λ (d : Option Format). Retires its_naming (log_from its_job its_ready.log) (paths_in its_ready.leftovers) its_ready.moves its_ready.target (paths_in its_ready.retire) (going_paths (reverse (newest_going d clock its_plan)))) (sym e)
-      (subst (λ (r : Ready). Retires its_naming (log_from its_job its_ready.log) (paths_in r.leftovers) r.moves r.target (paths_in r.retire) (going_paths (reverse (newest_going None clock its_plan)))) (sym (ready_numbers its_first its_naming rule.count rule.maxage clock its_make its_members e))
+      subst (λ (d : Option Format). Retires its_naming (log_from its_job its_ready.log) (removal_paths its_ready.leftovers) its_ready.moves its_ready.target (removal_paths its_ready.retire) (going_paths (reverse (newest_going d clock its_plan)))) (sym e)
+      (subst (λ (r : Ready). Retires its_naming (log_from its_job its_ready.log) (removal_paths r.leftovers) r.moves r.target (removal_paths r.retire) (going_paths (reverse (newest_going None clock its_plan)))) (sym (ready_numbers its_first its_naming rule.count rule.maxage clock its_make its_members e))
       (numbered_retires its_ready.log its_first its_job its_naming rule.count rule.maxage clock.now.seconds its_make its_members e h.named
       (have_next its_naming rule.count its_members e h.start h.count h.named (sym (hinders_numbers its_naming rule.count clock its_stand e (free_there its_naming rule.count clock its_stand alone)) ∙ alone))
       (going_are rule.count rule.maxage clock.now.seconds its_members rises) (falls_all (places_of its_members) rises)))
   retires_by (Some f) e =
-      subst (λ (d : Option Format). Retires its_naming (log_from its_job its_ready.log) (paths_in its_ready.leftovers) its_ready.moves its_ready.target (paths_in its_ready.retire) (going_paths (reverse (newest_going d clock its_plan)))) (sym e)
-      (subst (λ (r : Ready). Retires its_naming (log_from its_job its_ready.log) (paths_in r.leftovers) r.moves r.target (paths_in r.retire) (going_paths (reverse (newest_going (Some f) clock its_plan)))) (sym (ready_dates its_first its_naming rule.count rule.maxage clock its_make its_members f e))
+      subst (λ (d : Option Format). Retires its_naming (log_from its_job its_ready.log) (removal_paths its_ready.leftovers) its_ready.moves its_ready.target (removal_paths its_ready.retire) (going_paths (reverse (newest_going d clock its_plan)))) (sym e)
+      (subst (λ (r : Ready). Retires its_naming (log_from its_job its_ready.log) (removal_paths r.leftovers) r.moves r.target (removal_paths r.retire) (going_paths (reverse (newest_going (Some f) clock its_plan)))) (sym (ready_dates its_first its_naming rule.count rule.maxage clock its_make its_members f e))
       (dated_retires its_ready.log (dated_target its_naming clock its_members) its_job rule.count rule.maxage clock.now.seconds its_moment its_serial its_naming its_members h.family.format h.named h.newest_first (is_next its_members its_moment)
       (target_at its_naming rule.count clock its_stand alone f e h.family.format h.named)))
 
   -- what is left over has paths of its own
-  left_by : (d : Option Format) → look.family.naming.dated ≡ d → AreDistinct (paths_in (ready_for clock rule look).leftovers)
+  left_by : (d : Option Format) → look.family.naming.dated ≡ d → AreDistinct (removal_paths (ready_for clock rule look).leftovers)
   left_by None e =
       let rises = rising its_naming e its_members h.named h.newest_first in
-      subst (λ (r : Ready). AreDistinct (paths_in r.leftovers)) (sym (ready_numbers its_first its_naming rule.count rule.maxage clock its_make its_members e))
+      subst (λ (r : Ready). AreDistinct (removal_paths r.leftovers)) (sym (ready_numbers its_first its_naming rule.count rule.maxage clock its_make its_members e))
       (numbered_left its_ready.log its_first its_job its_naming rule.count rule.maxage clock.now.seconds its_make its_members e h.named
       (have_next its_naming rule.count its_members e h.start h.count h.named (sym (hinders_numbers its_naming rule.count clock its_stand e (free_there its_naming rule.count clock its_stand alone)) ∙ alone))
       (going_are rule.count rule.maxage clock.now.seconds its_members rises) (falls_all (places_of its_members) rises))
-  left_by (Some f) e = subst (λ (r : Ready). AreDistinct (paths_in r.leftovers)) (sym (ready_dates its_first its_naming rule.count rule.maxage clock its_make its_members f e)) tt
+  left_by (Some f) e = subst (λ (r : Ready). AreDistinct (removal_paths r.leftovers)) (sym (ready_dates its_first its_naming rule.count rule.maxage clock its_make its_members f e)) tt
 
-  pub log_retires : Retires look.family.naming (log_from (target_of clock rule look).job (ready_for clock rule look).log) (paths_in (ready_for clock rule look).leftovers) (ready_for clock rule look).moves (ready_for clock rule look).target (paths_in (ready_for clock rule look).retire)
+  pub log_retires : Retires look.family.naming (log_from (target_of clock rule look).job (ready_for clock rule look).log) (removal_paths (ready_for clock rule look).leftovers) (ready_for clock rule look).moves (ready_for clock rule look).target (removal_paths (ready_for clock rule look).retire)
       (going_paths (reverse (newest_going look.family.naming.dated clock (log_plan clock mailer rule look))))
   log_retires = retires_by look.family.naming.dated refl
 
-  pub log_left : AreDistinct (paths_in (ready_for clock rule look).leftovers)
+  pub log_left : AreDistinct (removal_paths (ready_for clock rule look).leftovers)
   log_left = left_by look.family.naming.dated refl
 
-leftover_paths : (xs : List Removal) → paths_in xs ≡ going_paths (map left_over xs)
+leftover_paths : (xs : List Removal) → removal_paths xs ≡ going_paths (map left_over xs)
 leftover_paths [] = refl
 leftover_paths (x ∷ xs) = ap (λ (ps : List Path). x.path ∷ ps) (leftover_paths xs)
 
@@ -458,7 +458,7 @@ module _ (p : Path → Bool) (clock : Clock) where
 -- ---- part files
 
 abbrev target_parts : Target → List Path
-target_parts t = part_paths t.job
+target_parts t = job_part_paths t.job
 
 flat_of_map : {A B C : Type 0} (f : B → List C) (g : A → B) (xs : List A) → flat_map f (map g xs) ≡ flat_map (λ x. f (g x)) xs
 flat_of_map f g [] = refl
@@ -493,7 +493,7 @@ not_listed (y ∷ ys) x h = by (bytes_eq y x) refl (not_listed ys x (λ z i. h z
     by true e f = absurd (h y (inl refl) ((bytes_eq-Decides y x).0 e))
     by false e f = f
 
-in_names : (ts : List Target) (t : Target) → HaveNames ts → IsIn t ts → HasNames t
+in_names : (ts : List Target) (t : Target) → TargetsHaveNames ts → IsIn t ts → HasNames t
 in_names [] t h i = absurd i
 in_names (y ∷ ys) t h (inl e) = subst HasNames e h.0
 in_names (y ∷ ys) t h (inr i) = in_names ys t h.1 i
@@ -510,7 +510,7 @@ part_no_first t job h is same = go h.way
     go (inr (asked, inl aside)) = at_log aside.first_is
     go (inr (asked, inr taken)) = let none : Some job ≡ None = sym is ∙ taken.no_job in cc
 
-module _ (ts : List Target) (names : HaveNames ts) (d : DontMeet ts) where
+module _ (ts : List Target) (names : TargetsHaveNames ts) (d : DontMeet ts) where
   part_apart : (t : Target) (job : Job) → IsIn t ts → t.job ≡ Some job → (x : Path) → (x ≡ t.ready.log) ⊎ IsMember t.naming x → job.part ≢ x
   part_apart t job i is x (inl first) same = part_no_first t job (in_names ts t names i) is (same ∙ first)
   part_apart t job i is x (inr member) same =
@@ -521,7 +521,7 @@ module _ (ts : List Target) (names : HaveNames ts) (d : DontMeet ts) where
   own_of t i x (inl first) = subst (Own t) (sym first) (named_own t.log t.naming t.ready.log (first_own t (in_names ts t names i)))
   own_of t i x (inr member) = member_own t.log t.naming x member
 
-  of_job : (t : Target) (y : Path) (j : Option Job) → t.job ≡ j → IsIn y (part_paths j) → (job : Job) × (t.job ≡ Some job) × (job.part ≡ y)
+  of_job : (t : Target) (y : Path) (j : Option Job) → t.job ≡ j → IsIn y (job_part_paths j) → (job : Job) × (t.job ≡ Some job) × (job.part ≡ y)
   of_job t y None e i = absurd i
   of_job t y (Some job) e (inl same) = (job, e, same)
   of_job t y (Some job) e (inr none) = absurd none
@@ -541,7 +541,7 @@ module _ (ts : List Target) (names : HaveNames ts) (d : DontMeet ts) where
       keeps x h = ap not (not_listed (flat_map target_parts ts) x (λ y j. other x y h j))
 
       drops : (job : Job) → t.job ≡ Some job → not (in_list (flat_map target_parts ts) job.part) ≡ false
-      drops job is = ap not (is_listed (flat_map target_parts ts) job.part (to_flat target_parts ts t job.part i (subst (λ (j : Option Job). IsIn job.part (part_paths j)) (sym is) (inl refl))))
+      drops job is = ap not (is_listed (flat_map target_parts ts) job.part (to_flat target_parts ts t job.part i (subst (λ (j : Option Job). IsIn job.part (job_part_paths j)) (sym is) (inl refl))))
 
 -- ---- the state and the mailer make no difference to what goes
 
@@ -643,7 +643,7 @@ all_foretold reserved rules sets faults looks table clock mailer other shown =
     decide : Rule → LogLook → Due
     decide = decision table clock.now true
 
-    names : HaveNames (all_targets clock decide rules.sets sets)
+    names : TargetsHaveNames (all_targets clock decide rules.sets sets)
     names = targets_have_names rules sets faults looks clock decide shown
 
     apart : DontMeet (all_targets clock decide rules.sets sets)

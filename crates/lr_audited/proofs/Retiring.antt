@@ -37,12 +37,12 @@ use Rattle.lr_chain.proofs.Falling.{falls_all}
 use Rattle.lr_chain.proofs.Removed.{rank_key}
 use Rattle.lr_chain.proofs.Retired.{retired_falls}
 use Rattle.lr_plan.specs.Steps.{move}
-use Rattle.lr_laws_family.specs.Members.{HasNone}
-use Rattle.lr_laws_family.specs.Numbered.{HasName, HaveNext}
+use Rattle.lr_laws_family.specs.Members.{NoMemberHas}
+use Rattle.lr_laws_family.specs.Numbered.{HasName, HaveNextNames}
 use Rattle.lr_laws_family.proofs.Numbers.{first_named, kept_next, retire_named, at_number, own_at, names_of}
 use Rattle.lr_laws_family.proofs.Picking.{named_all}
 use Rattle.lr_laws_rotations.proofs.Stamped.{next_free}
-use Rattle.lr_laws_targets.specs.Rotation.{paths_in}
+use Rattle.lr_laws_targets.specs.Rotation.{removal_paths}
 use Rattle.lr_audited.specs.declared.line.Why.{Why}
 use Rattle.lr_audited.specs.declared.line.Why.TheVariants as why
 use Rattle.lr_audited.specs.Removed.{member_going, log_going, moved_going, dated_going, going_with}
@@ -188,7 +188,7 @@ module _ (n : Naming) where
       (λ e. let same = places_apart n k p named a.0 e in omega (arith, same, lt))
       (λ e. let same = places_apart n k (p + 1) named b.0 e in omega (arith, same, lt))
 
-  pub removed_paths : (ks : List ℕ) → paths_in (map (removal_at n) ks) ≡ map (path_at n) ks
+  pub removed_paths : (ks : List ℕ) → removal_paths (map (removal_at n) ks) ≡ map (path_at n) ks
   removed_paths [] = refl
   removed_paths (k ∷ ks) = ap (λ (xs : List Path). path_at n k ∷ xs) (removed_paths ks)
 
@@ -283,9 +283,9 @@ module _ (log begin : Path) (job : Option Job) (n : Naming) (c : Count) (maxage 
       by true h f = absurd (cc)
 
   abbrev IsOne : Option Path × Path → Type 0
-  IsOne p = ComesBy n (log_from job log) (paths_in (numbered_ready begin n c maxage now anew members).leftovers) (numbered_ready begin n c maxage now anew members).moves (path_at n 0) p
+  IsOne p = ComesBy n (log_from job log) (removal_paths (numbered_ready begin n c maxage now anew members).leftovers) (numbered_ready begin n c maxage now anew members).moves (path_at n 0) p
 
-  module _ (none : n.dated ≡ None) (named : AreNamed n members) (next : HaveNext n c (places_of members)) (going : AreGoing c (places_of members) (going_from c maxage now members)) (falls : Falls (places_of members)) where
+  module _ (none : n.dated ≡ None) (named : AreNamed n members) (next : HaveNextNames n c (places_of members)) (going : AreGoing c (places_of members) (going_from c maxage now members)) (falls : Falls (places_of members)) where
     places_named : Every (HasName n) (places_of members)
     places_named = names_of n none members named
 
@@ -314,7 +314,7 @@ module _ (log begin : Path) (job : Option Job) (n : Naming) (c : Count) (maxage 
         apart : path_at n (suc (number_in m.place)) ≢ path_at n 0
         apart same = let zero_is = places_apart n (suc (number_in m.place)) 0 after (first_named n c (places_of members) next) same in omega (arith, zero_is)
 
-        out : IsNotIn (path_at n (number_in m.place)) (paths_in (map (removal_at n) (leftovers c (places_of members))))
+        out : IsNotIn (path_at n (number_in m.place)) (removal_paths (map (removal_at n) (leftovers c (places_of members))))
         out = subst (IsNotIn (path_at n (number_in m.place))) (sym (removed_paths n (leftovers c (places_of members))))
             (not_at n (number_in m.place) (leftovers c (places_of members)) at.0 (every_filter (HasName n) (is_left c) (places_of members) places_named)
             (left_apart n c (number_in m.place) (leftovers c (places_of members)) stays (every_passes (is_left c) (places_of members))))
@@ -322,15 +322,15 @@ module _ (log begin : Path) (job : Option Job) (n : Naming) (c : Count) (maxage 
         one_on : number_in m.place + 1 ≡ suc (number_in m.place)
         one_on = omega arith
 
-        brings : (came : Origins) → run (dropped came (paths_in (map (removal_at n) (leftovers c (places_of members))))) (map move (map (move_from n) (kept c (places_of members)))) (path_at n (suc (number_in m.place))) ≡ came m.path
+        brings : (came : Origins) → run (dropped came (removal_paths (map (removal_at n) (leftovers c (places_of members))))) (map move (map (move_from n) (kept c (places_of members)))) (path_at n (suc (number_in m.place))) ≡ came m.path
         brings came =
-            ap (λ (j : ℕ). run (dropped came (paths_in (map (removal_at n) (leftovers c (places_of members))))) (map move (map (move_from n) (kept c (places_of members)))) (path_at n j)) (sym one_on)
-            ∙ (moves_bring n (kept c (places_of members)) (dropped came (paths_in (map (removal_at n) (leftovers c (places_of members))))) (number_in m.place)
+            ap (λ (j : ℕ). run (dropped came (removal_paths (map (removal_at n) (leftovers c (places_of members))))) (map move (map (move_from n) (kept c (places_of members)))) (path_at n j)) (sym one_on)
+            ∙ (moves_bring n (kept c (places_of members)) (dropped came (removal_paths (map (removal_at n) (leftovers c (places_of members))))) (number_in m.place)
             (falls_filter (λ (j : ℕ). not (is_left c j)) (places_of members) falls) (every_filter (HasName n) (λ (j : ℕ). not (is_left c j)) (places_of members) places_named) kept_names in_kept
-            ∙ (dropped_other came (paths_in (map (removal_at n) (leftovers c (places_of members)))) (path_at n (number_in m.place)) out ∙ ap came (sym at.1)))
+            ∙ (dropped_other came (removal_paths (map (removal_at n) (leftovers c (places_of members)))) (path_at n (number_in m.place)) out ∙ ap came (sym at.1)))
 
-    pub numbered_retires : Retires n (log_from job log) (paths_in (numbered_ready begin n c maxage now anew members).leftovers) (numbered_ready begin n c maxage now anew members).moves (numbered_ready begin n c maxage now anew members).target
-        (paths_in (numbered_ready begin n c maxage now anew members).retire) (going_paths (reverse (log_going c job log 0 ++ flat_map (moved_going c maxage now) members)))
+    pub numbered_retires : Retires n (log_from job log) (removal_paths (numbered_ready begin n c maxage now anew members).leftovers) (numbered_ready begin n c maxage now anew members).moves (numbered_ready begin n c maxage now anew members).target
+        (removal_paths (numbered_ready begin n c maxage now anew members).retire) (going_paths (reverse (log_going c job log 0 ++ flat_map (moved_going c maxage now) members)))
     numbered_retires = record {
       pairs = moved_pairs ++ log_pairs;
       told_are = told_so;
@@ -354,7 +354,7 @@ module _ (log begin : Path) (job : Option Job) (n : Naming) (c : Count) (maxage 
         each p i = ⊎_elim (λ j. of_moved p (from_reverse p (map pair_of those) j)) (λ j. of_log (is_left c 0) p j) (in_append p moved_pairs log_pairs i)
 
     -- and what is left over has paths of its own
-    pub numbered_left : AreDistinct (paths_in (numbered_ready begin n c maxage now anew members).leftovers)
+    pub numbered_left : AreDistinct (removal_paths (numbered_ready begin n c maxage now anew members).leftovers)
     numbered_left = subst AreDistinct (sym (removed_paths n (leftovers c (places_of members))))
         (places_distinct n (leftovers c (places_of members)) (falls_filter (is_left c) (places_of members) falls) (every_filter (HasName n) (is_left c) (places_of members) places_named))
 
@@ -363,7 +363,7 @@ module _ (log begin : Path) (job : Option Job) (n : Naming) (c : Count) (maxage 
 abbrev rank_paths : List Ranked → List Path
 rank_paths rs = map (λ (r : Ranked). r.path) rs
 
-plain_paths : (rs : List Ranked) → paths_in (map removal_of rs) ≡ rank_paths rs
+plain_paths : (rs : List Ranked) → removal_paths (map removal_of rs) ≡ rank_paths rs
 plain_paths [] = refl
 plain_paths (r ∷ rs) = ap (λ (xs : List Path). r.path ∷ xs) (plain_paths rs)
 
@@ -501,12 +501,12 @@ module _ (log target : Path) (job : Option Job) (c : Count) (maxage : Option ℕ
         by f false j = ⊎_elim (λ l. lands_pair p k l) (λ l. from_pair p (suc k) (m ∷ ms) among l) (in_append p (lands k) (pairs_from (suc k) (m ∷ ms)) j)
 
   module _ (n : Naming) (members : List Member) (good : or_none is_format n.dated ≡ true) (named : AreNamed n members) (newest : AreNewestFirst members) (next : IsNext members moment serial) (at : IsDatedAt n moment serial target) where
-    gone_so : paths_in (map removal_of (reverse (gone_of c 0 (all_of maxage now moment serial target members)))) ≡ seconds (reverse (pairs_with 0 members))
+    gone_so : removal_paths (map removal_of (reverse (gone_of c 0 (all_of maxage now moment serial target members)))) ≡ seconds (reverse (pairs_with 0 members))
     gone_so = plain_paths (reverse (gone_of c 0 (all_of maxage now moment serial target members)))
         ∙ (map_reverse (λ (x : Ranked). x.path) (gone_of c 0 (all_of maxage now moment serial target members)) ∙ (ap reverse (with_then 0 members) ∙ sym (map_reverse (λ (p : Option Path × Path). p.1) (pairs_with 0 members))))
 
     -- no member has the log's new name
-    free : HasNone members target
+    free : NoMemberHas members target
     free = next_free n good members named moment serial next target at
 
     distinct : AreDistinct (seconds (reverse (pairs_with 0 members)))
@@ -514,7 +514,7 @@ module _ (log target : Path) (job : Option Job) (c : Count) (maxage : Option ℕ
         (distinct_reverse (seconds (pairs_with 0 members)) (subst AreDistinct (with_then 0 members)
         (gone_distinct n c 0 (all_of maxage now moment serial target members) good (all_fall n maxage now moment serial target members newest next named at) (keyed_by n (all_of maxage now moment serial target members) (all_dated n maxage now moment serial target members named at)))))
 
-    pub dated_retires : Retires n (log_from job log) [] [] target (paths_in (map removal_of (reverse (gone_of c 0 (all_of maxage now moment serial target members)))))
+    pub dated_retires : Retires n (log_from job log) [] [] target (removal_paths (map removal_of (reverse (gone_of c 0 (all_of maxage now moment serial target members)))))
         (going_paths (reverse (going_with c maxage now (stamp_key moment serial) (log_going c job log) 0 members)))
     dated_retires = record {
       pairs = reverse (pairs_with 0 members);

@@ -17,7 +17,7 @@ use Rattle.lr_chain.specs.declared.ready.Move.{Move}
 use Rattle.lr_plan.specs.declared.step.Step.{Step}
 use Rattle.lr_plan.specs.declared.step.Step.TheVariants as step
 use Rattle.lr_plan.specs.Steps.{program, removal, removals, directory, move}
-use Rattle.lr_laws_targets.specs.Rotation.{paths_in}
+use Rattle.lr_laws_targets.specs.Rotation.{removal_paths}
 use Rattle.lr_audited.specs.Unlinked.{Origins, without, renamed, behind, unlinks, unlinked}
 
 -- ---- lists
@@ -198,22 +198,22 @@ unlinked_one (Some p) (Some m) path steps came = refl
 touch_one : (P : Path → Type 0) (pre mail : Option Command) (path : Path) → P path → AllTouch P (steps_with pre mail path)
 touch_one P pre mail path h = touch_both P (program phase.Preremove pre) (program phase.Mail mail ++ step.Removes path ∷ []) (touch_program P phase.Preremove pre) (touch_both P (program phase.Mail mail) (step.Removes path ∷ []) (touch_program P phase.Mail mail) (h, tt))
 
-pub run_removals : (rs : List Removal) (steps : List Step) (came : Origins) → run came (removals rs ++ steps) ≡ run (dropped came (paths_in rs)) steps
+pub run_removals : (rs : List Removal) (steps : List Step) (came : Origins) → run came (removals rs ++ steps) ≡ run (dropped came (removal_paths rs)) steps
 run_removals [] steps came = refl
 run_removals (r ∷ rs) steps came = ap (run came) (append_assoc (removal r) (removals rs) steps) ∙ (run_one r.preremove r.mail r.path (removals rs ++ steps) came ∙ run_removals rs steps (without r.path came))
 
-pub unlinked_removals : (rs : List Removal) (steps : List Step) (came : Origins) → unlinked came (removals rs ++ steps) ≡ gone came (paths_in rs) ++ unlinked (dropped came (paths_in rs)) steps
+pub unlinked_removals : (rs : List Removal) (steps : List Step) (came : Origins) → unlinked came (removals rs ++ steps) ≡ gone came (removal_paths rs) ++ unlinked (dropped came (removal_paths rs)) steps
 unlinked_removals [] steps came = refl
 unlinked_removals (r ∷ rs) steps came =
     ap (unlinked came) (append_assoc (removal r) (removals rs) steps)
     ∙ (unlinked_one r.preremove r.mail r.path (removals rs ++ steps) came
     ∙ (ap (λ (xs : List Path). option_to_list (came r.path) ++ xs) (unlinked_removals rs steps (without r.path came))
-    ∙ sym (append_assoc (option_to_list (came r.path)) (gone (without r.path came) (paths_in rs)) (unlinked (dropped (without r.path came) (paths_in rs)) steps))))
+    ∙ sym (append_assoc (option_to_list (came r.path)) (gone (without r.path came) (removal_paths rs)) (unlinked (dropped (without r.path came) (removal_paths rs)) steps))))
 
-pub unlinked_alone : (rs : List Removal) (came : Origins) → unlinked came (removals rs) ≡ gone came (paths_in rs)
-unlinked_alone rs came = ap (unlinked came) (sym (append-nil (removals rs))) ∙ (unlinked_removals rs [] came ∙ append-nil (gone came (paths_in rs)))
+pub unlinked_alone : (rs : List Removal) (came : Origins) → unlinked came (removals rs) ≡ gone came (removal_paths rs)
+unlinked_alone rs came = ap (unlinked came) (sym (append-nil (removals rs))) ∙ (unlinked_removals rs [] came ∙ append-nil (gone came (removal_paths rs)))
 
-pub touch_removals : (P : Path → Type 0) (rs : List Removal) → ((x : Path) → IsIn x (paths_in rs) → P x) → AllTouch P (removals rs)
+pub touch_removals : (P : Path → Type 0) (rs : List Removal) → ((x : Path) → IsIn x (removal_paths rs) → P x) → AllTouch P (removals rs)
 touch_removals P [] h = tt
 touch_removals P (r ∷ rs) h = touch_both P (removal r) (removals rs) (touch_one P r.preremove r.mail r.path (h r.path (inl refl))) (touch_removals P rs (λ x i. h x (inr i)))
 

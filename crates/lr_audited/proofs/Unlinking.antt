@@ -24,7 +24,7 @@ use Rattle.lr_plan.specs.Planned.{dressed}
 use Rattle.lr_plan.specs.Steps.{program, removals, directory, move, step_if, copy, transfer, anew, made_anew, finishing}
 use Rattle.lr_laws_family.specs.Members.{IsNoMember}
 use Rattle.lr_laws_targets.specs.Apart.{HasNames}
-use Rattle.lr_laws_targets.specs.Rotation.{paths_in}
+use Rattle.lr_laws_targets.specs.Rotation.{removal_paths}
 use Rattle.lr_laws_targets.specs.Target.{Target}
 use Rattle.lr_laws_targets.proofs.Own.{member_own, named_own, family_members, target_member, part_file_own}
 use Rattle.lr_laws_targets.proofs.PartFile.{part_no_waiting, job_part, job_no_member}
@@ -103,7 +103,7 @@ module _ (job : Job) where
 
 -- ---- one log
 
-dressed_paths : (rule : Rule) (mailer log : Path) (rs : List Removal) → paths_in (map (with_programs rule mailer log) rs) ≡ paths_in rs
+dressed_paths : (rule : Rule) (mailer log : Path) (rs : List Removal) → removal_paths (map (with_programs rule mailer log) rs) ≡ removal_paths rs
 dressed_paths rule mailer log [] = refl
 dressed_paths rule mailer log (r ∷ rs) = ap (λ (xs : List Path). r.path ∷ xs) (dressed_paths rule mailer log rs)
 
@@ -129,7 +129,7 @@ module _ (t : Target) (h : HasNames t) (rule : Rule) (mailer : Path) where
   with_all = dressed rule mailer t.log t.ready
 
   abbrev early : List Path
-  early = paths_in t.ready.leftovers
+  early = removal_paths t.ready.leftovers
 
   abbrev mid : Origins → Origins
   mid came = run (dropped came early) (map move t.ready.moves)
@@ -141,19 +141,19 @@ module _ (t : Target) (h : HasNames t) (rule : Rule) (mailer : Path) where
   abbrev from_moves : List Step
   from_moves = map move t.ready.moves ++ tail t.job t.aside
 
-  early_are : paths_in (map (with_programs rule mailer t.log) t.ready.leftovers) ≡ paths_in t.ready.leftovers
+  early_are : removal_paths (map (with_programs rule mailer t.log) t.ready.leftovers) ≡ removal_paths t.ready.leftovers
   early_are = dressed_paths rule mailer t.log t.ready.leftovers
 
-  late_are : paths_in (map (with_programs rule mailer t.log) t.ready.retire) ≡ paths_in t.ready.retire
+  late_are : removal_paths (map (with_programs rule mailer t.log) t.ready.retire) ≡ removal_paths t.ready.retire
   late_are = dressed_paths rule mailer t.log t.ready.retire
 
   -- ---- its paths
 
-  early_members : (x : Path) → IsIn x (paths_in t.ready.leftovers) → IsMember t.naming x
-  early_members x i = All-contains (IsMember t.naming) (paths_in t.ready.leftovers) x (family_members t h).early (in_to x (paths_in t.ready.leftovers) i)
+  early_members : (x : Path) → IsIn x (removal_paths t.ready.leftovers) → IsMember t.naming x
+  early_members x i = All-contains (IsMember t.naming) (removal_paths t.ready.leftovers) x (family_members t h).early (in_to x (removal_paths t.ready.leftovers) i)
 
-  late_members : (x : Path) → IsIn x (paths_in t.ready.retire) → IsMember t.naming x
-  late_members x i = All-contains (IsMember t.naming) (paths_in t.ready.retire) x (family_members t h).gone (in_to x (paths_in t.ready.retire) i)
+  late_members : (x : Path) → IsIn x (removal_paths t.ready.retire) → IsMember t.naming x
+  late_members x i = All-contains (IsMember t.naming) (removal_paths t.ready.retire) x (family_members t h).gone (in_to x (removal_paths t.ready.retire) i)
 
   own_member : (x : Path) → IsMember t.naming x → Own t x
   own_member x m = member_own t.log t.naming x m
@@ -294,11 +294,11 @@ module _ (t : Target) (h : HasNames t) (rule : Rule) (mailer : Path) where
   tail_is : (j : Option Job) (a : Option Path) → t.job ≡ j → t.aside ≡ a → tail t.job t.aside ≡ tail j a
   tail_is j a is aside = ap (λ (k : Option Job). tail k t.aside) is ∙ ap (λ (b : Option Path). tail j b) aside
 
-  module _ (told : List Path) (retires : Retires t.naming (log_from t.job t.ready.log) (paths_in t.ready.leftovers) t.ready.moves t.ready.target (paths_in t.ready.retire) told) where
+  module _ (told : List Path) (retires : Retires t.naming (log_from t.job t.ready.log) (removal_paths t.ready.leftovers) t.ready.moves t.ready.target (removal_paths t.ready.retire) told) where
     -- ---- where the files that go come from
 
     abbrev IsOne : Option Path × Path → Type 0
-    IsOne p = ComesBy t.naming (log_from t.job t.ready.log) (paths_in t.ready.leftovers) t.ready.moves t.ready.target p
+    IsOne p = ComesBy t.naming (log_from t.job t.ready.log) (removal_paths t.ready.leftovers) t.ready.moves t.ready.target p
 
     came_so : (came : Origins) → IsAsBefore t came → (p : Option Path × Path) → IsOne p → run (run came (turning (dressed rule mailer t.log t.ready) t.log t.job t.aside)) (finishing t.job t.aside) p.1 ≡ p.0
     came_so came before p (landed e f) = ap (λ (g : Origins). run g (finishing t.job t.aside) p.1) (run_rotation came) ∙ (ap (settled came t.job t.aside) e ∙ (at_target came before t.job t.aside refl refl ∙ sym f))
@@ -346,7 +346,7 @@ module _ (t : Target) (h : HasNames t) (rule : Rule) (mailer : Path) where
           ∙ copy_drops (mid came) job is (mid_part came before job is)
       tail_drops came before (Some job) (Some path) is aside = ap (filter p) (rename_unlinks t.ready.make t.log t.ready.log path (mid came))
 
-      pub rotation_unlinks : AreDistinct (paths_in t.ready.leftovers) → (came : Origins) → IsAsBefore t came → filter p (unlinked came (turning (dressed rule mailer t.log t.ready) t.log t.job t.aside)) ≡ paths_in (dressed rule mailer t.log t.ready).leftovers
+      pub rotation_unlinks : AreDistinct (removal_paths t.ready.leftovers) → (came : Origins) → IsAsBefore t came → filter p (unlinked came (turning (dressed rule mailer t.log t.ready) t.log t.job t.aside)) ≡ removal_paths (dressed rule mailer t.log t.ready).leftovers
       rotation_unlinks distinct came before =
           ap (filter p) (unlinked_rotation came)
           ∙ (filter-append p (gone came early) (unlinked (mid came) (tail t.job t.aside))

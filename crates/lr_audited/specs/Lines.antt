@@ -19,15 +19,15 @@ use Rattle.lr_audited.specs.declared.line.What.{What}
 use Rattle.lr_audited.specs.declared.line.What.TheVariants as what
 
 -- the line of a file that is a log's
-abbrev pub line_of : Path → What → Path → Line
-line_of path kind log = record { path = path; what = kind; log = Some log }
+abbrev pub log_file_line : Path → What → Path → Line
+log_file_line path kind log = record { path = path; what = kind; log = Some log }
 
 -- the log itself, and a part file
 abbrev pub log_line : Path → Line
-log_line log = line_of log what.Log log
+log_line log = log_file_line log what.Log log
 
 abbrev pub part_line : Path → Path → Line
-part_line log part = line_of part what.Part log
+part_line log part = log_file_line part what.Part log
 
 -- a numbered member is left over where the count leaves no room for its place
 abbrev pub numbered_what : Count → ℕ → What
@@ -41,7 +41,8 @@ what_of (Some format) c later m = what.Member later
 -- members, the newest first, of which the first has so many later ones
 abbrev pub member_lines : Option Format → Count → Path → ℕ → List Member → List Line
 member_lines dated c log later [] = []
-member_lines dated c log later (m ∷ ms) = line_of m.path (what_of dated c later m) log ∷ member_lines dated c log (suc later) ms
+member_lines dated c log later (m ∷ ms) = log_file_line m.path (what_of dated c later m) log ∷ member_lines dated c log
+    (suc later) ms
 
 -- the log's file where it waits for its copy: a run that broke off had set it aside
 abbrev pub waiting_lines : Path → Option Seen → List Line
@@ -55,11 +56,11 @@ part_lines look = map (part_line look.path) look.stand.parts ++ waiting_lines lo
 abbrev pub family_lines : Rule → LogLook → List Line
 family_lines rule look = member_lines look.family.naming.dated rule.count look.path 0 look.stand.members ++ part_lines look
 
-abbrev pub set_lines : Rule → List LogLook → List Line
-set_lines rule looks = flat_map (family_lines rule) looks
+abbrev pub rule_lines : Rule → List LogLook → List Line
+rule_lines rule looks = flat_map (family_lines rule) looks
 
 abbrev pub sets_lines : List Rule → List SetLooks → List Line
-sets_lines (rule ∷ rules) (set ∷ sets) = set_lines rule set.logs ++ sets_lines rules sets
+sets_lines (rule ∷ rules) (set ∷ sets) = rule_lines rule set.logs ++ sets_lines rules sets
 sets_lines _ _ = []
 
 -- what is known: the logs that are kept; and of those that were looked at whole the members, the part files and what waits

@@ -11,7 +11,7 @@ use Rattle.lr_plan.specs.declared.step.SetSteps.{SetSteps}
 use Rattle.lr_plan.specs.declared.step.Step.{Step}
 use Rattle.lr_plan.specs.declared.step.Step.TheVariants as step
 use Rattle.lr_plan.specs.Steps.{steps_of_plan}
-use Rattle.lr_laws_targets.specs.AllTurns.{part_paths}
+use Rattle.lr_laws_targets.specs.AllTurns.{job_part_paths}
 use Rattle.lr_audited.specs.declared.line.Why.{Why}
 
 -- the paths of what is told as going
@@ -65,7 +65,7 @@ plan_steps plan = flat_map set_steps (steps_of_plan plan)
 
 -- where its copies make their part files; an old one is unlinked before
 abbrev pub log_parts : LogPlan → List Path
-log_parts log = part_paths log.job
+log_parts log = job_part_paths log.job
 
 abbrev pub set_parts : SetPlan → List Path
 set_parts set = flat_map log_parts set.logs

@@ -3,8 +3,8 @@ ghost use Rattle.std.specs.Prelude.{◌≡◌, ◌≤◌, ◌++◌, ◌∷◌, [
 ghost use Rattle.lr_family.specs.Stands.{number_in};
 ghost use Rattle.lr_chain.specs.Rotation.{is_left};
 ghost use Rattle.lr_plan.specs.Planned.{is_file, CanPlan, CanPlanAll};
-ghost use Rattle.lr_audited.specs.Lines.{line_of, log_line, part_line, numbered_what, what_of, member_lines, waiting_lines};
-ghost use Rattle.lr_audited.specs.Lines.{part_lines, family_lines, set_lines, sets_lines, known_lines};
+ghost use Rattle.lr_audited.specs.Lines.{log_file_line, log_line, part_line, numbered_what, what_of, member_lines, waiting_lines};
+ghost use Rattle.lr_audited.specs.Lines.{part_lines, family_lines, rule_lines, sets_lines, known_lines};
 
 use crate::line::{Line, What};
 use lr_family::{Member, Place};
@@ -63,7 +63,7 @@ fn add_line(
     what: What,
     log: &Path,
 ) -> Result<(), Memory>
-    ensures { OnOk result (lines.new.items ≡ lines.old.items ++ line_of path.now what log.now ∷ []) }
+    ensures { OnOk result (lines.new.items ≡ lines.old.items ++ log_file_line path.now what log.now ∷ []) }
 {
     let path = path.copy(alloc)?;
     let log = log.copy(alloc)?;
@@ -150,7 +150,7 @@ fn add_set(
     looks: &[LogLook],
 ) -> Result<(), Memory>
     requires { All CanPlan looks.now }
-    ensures { OnOk result (lines.new.items ≡ lines.old.items ++ set_lines rule.now looks.now) }
+    ensures { OnOk result (lines.new.items ≡ lines.old.items ++ rule_lines rule.now looks.now) }
 {
     for look in looks {
         add_family(alloc, lines, rule, look)?;

@@ -39,7 +39,7 @@ use Rattle.lr_cat.specs.First.{IsFound}
 use Rattle.lr_cat.specs.Internal.{CameSo, IsNoClock, answer_by}
 use Rattle.lr_cat.specs.Says.{HasCounted, HasFault}
 use Rattle.lr_cat.specs.Stops.{StopCause, CameTo}
-use Rattle.lr_cat.specs.Texts.{HasCause, Passes}
+use Rattle.lr_cat.specs.Texts.{HasCause, PassesTexts}
 use Rattle.lr_cat.specs.Words.{wanted}
 
 -- it came to nothing, and left nothing
@@ -55,7 +55,7 @@ came_behind P Q R f l c = record { came = c.came; shown = left_then l c.shown (�
 -- ---- behind the definition
 
 module _ (w : Wanted) (clock : Clock) (m : Meaning) (rules : Rules) (n : Naming) where
-  by_files : (own : Option Fault) (out : CatOutcome) {o k : Option Journal} {x y : Option (List ℕ)} → out ≡ outcome.Done (report_by m own) → Passes (Cats w clock rules n own) own o k x y → CameSo (LogEnds w clock m rules n out) o k x y
+  by_files : (own : Option Fault) (out : CatOutcome) {o k : Option Journal} {x y : Option (List ℕ)} → out ≡ outcome.Done (report_by m own) → PassesTexts (Cats w clock rules n own) own o k x y → CameSo (LogEnds w clock m rules n out) o k x y
   by_files own out is p = record {
     came = Some (record { clock = clock; meaning = m; rules = rules; naming = n; own = own; texts = p.texts });
     shown = left_as p.left (λ ts h. called own p.texts is refl h);

@@ -33,7 +33,7 @@ use Rattle.lr_due.specs.Zone.{IsInRange}
 use Rattle.lr_family.specs.declared.stand.StandStop.{StandStop}
 use Rattle.lr_family.specs.declared.stand.StandStop.TheVariants as stands
 use Rattle.lr_family.specs.Among.{ShowsNoneIn, StopsAmong}
-use Rattle.lr_family.specs.Looks.{Sight}
+use Rattle.lr_family.specs.Looks.{MemberSight}
 use Rattle.lr_family.specs.Parts.{IsMember, ShowsNoParts, StopsBefore}
 use Rattle.lr_family.specs.Standing.{ShowsStop}
 use Rattle.lr_looks.specs.Families.{stop_fault}
@@ -48,7 +48,7 @@ use Rattle.lr_cat.specs.Cats.{Cats, no_directory, began}
 use Rattle.lr_cat.specs.Complete.{IsClear, IsDirOrNone, IsFileOrNone, NoRise, PrintsAll, printed}
 use Rattle.lr_cat.specs.Saw.{Works, FindsNone, FindsNot, not_looked, no_file, SeesNone, not_stood, not_found, read_all, aside_of, files_of}
 use Rattle.lr_cat.specs.Says.{HasCounted, HasFault}
-use Rattle.lr_cat.specs.Texts.{FileText, BreaksOff, ReadsSome, text_fault}
+use Rattle.lr_cat.specs.Texts.{FileText, TextBreaksOff, ReadsTextPart, text_fault}
 use Rattle.lr_cat.specs.Words.{wanted}
 use Rattle.lr_cat.proofs.Lasting.{read_so_far}
 use Rattle.lr_cat.proofs.Whole.{some_none}
@@ -128,7 +128,7 @@ module _ (w : Wanted) (c : Came) (p q : Past) (es : List Entry) (journal : IsJou
       (λ e i. in_all e (subst (IsIn e) (sym a.looks.looks.joined) (in_back e a.looks.looks.front a.looks.looks.back i))) (clear.members x member)
     where
       there : IsIn a.looks.spot a.spots
-      there = subst (IsIn a.looks.spot) (sym a.looks.each) (in_back a.looks.spot (map (λ (sight : Sight). sight.spot) a.looks.before) (a.looks.spot ∷ a.looks.after) (inl refl))
+      there = subst (IsIn a.looks.spot) (sym a.looks.each) (in_back a.looks.spot (map (λ (sight : MemberSight). sight.spot) a.looks.before) (a.looks.spot ∷ a.looks.after) (inl refl))
 
       member : IsMember c.naming x
       member = ((a.spots_are.has.all x).0 (a.looks.spot, in_to a.looks.spot a.spots there, a.looks.is)).member
@@ -181,13 +181,13 @@ module _ (w : Wanted) (c : Came) (p q : Past) (es : List Entry) (journal : IsJou
       let more = file.2 in
       omega (arith, long, short, more)
 
-  broken_counted : (f : Fault) (files : List Path) (us : List Entry) → BreaksOff files f c.texts us → Within us → IsCounted f
+  broken_counted : (f : Fault) (files : List Path) (us : List Entry) → TextBreaksOff files f c.texts us → Within us → IsCounted f
   broken_counted f files us b in_all = by b.why b.fault_is b.reads.second
     where
       among : IsIn b.last c.texts
       among = subst (IsIn b.last) (sym b.texts_are) (in_back b.last b.before (b.last ∷ []) (inl refl))
 
-      by : (why : TextStop) → f ≡ text_fault why b.last.path → ReadsSome why b.last b.reads.back → IsCounted f
+      by : (why : TextStop) → f ≡ text_fault why b.last.path → ReadsTextPart why b.last b.reads.back → IsCounted f
       by stop.Read is r = subst IsCounted (sym is) tt
       by stop.Out is r = subst IsCounted (sym is) tt
       by stop.TooLong is r = absurd (too_long b.last b.reads.back among r.0 r.1 (λ e i. in_all e (subst (IsIn e) (sym b.reads.joined) (in_back e b.reads.front b.reads.back i))))
@@ -196,7 +196,7 @@ module _ (w : Wanted) (c : Came) (p q : Past) (es : List Entry) (journal : IsJou
 
   works_counted : (f : Fault) (us : List Entry) → Works c.naming w.log (Some f) c.texts us → Within us → IsCounted f
   works_counted f us (Works.not_seen g is e h) in_all = none_counted f us (subst (λ (k : Fault). SeesNone c.naming w.log k us) (same_Some g f (sym is)) h) in_all
-  works_counted f us (Works.broke_off saw g is h) in_all = broken_counted f (files_of saw) h.back (subst (λ (k : Fault). BreaksOff (files_of saw) k c.texts h.back) (same_Some g f (sym is)) h.second)
+  works_counted f us (Works.broke_off saw g is h) in_all = broken_counted f (files_of saw) h.back (subst (λ (k : Fault). TextBreaksOff (files_of saw) k c.texts h.back) (same_Some g f (sym is)) h.second)
       (λ e i. in_all e (subst (IsIn e) (sym h.joined) (in_back e h.front h.back i)))
   works_counted f us (read_all saw is h) in_all = absurd (some_none f is)
 

@@ -8,7 +8,7 @@ use Rattle.lr_host.specs.declared.entry.Entry.{Entry}
 use Rattle.lr_host.specs.declared.entry.Entry.TheVariants.{Reads}
 use Rattle.lr_host.specs.declared.thing.Thing.{Thing}
 use Rattle.lr_host.specs.declared.thing.Thing.TheVariants as thing
-use Rattle.lr_host.specs.Fits.{Gives, IsFileAt, IsPiece}
+use Rattle.lr_host.specs.Fits.{GivesPiece, IsFileAt, IsPiece}
 use Rattle.lr_host.specs.Lists.{IsIn}
 use Rattle.lr_host.specs.Opening.{IsJournal}
 use Rattle.lr_host.specs.Quiet.{Quiet, here, wrote, looked, is_disk_change, ChangeNothing}
@@ -25,7 +25,7 @@ use Rattle.lr_laws_family.specs.Beside.{IsNeverAt, IsOn, not_here, nor_then}
 use Rattle.lr_laws_family.specs.Moments.{fed}
 use Rattle.lr_laws_family.proofs.Fed.{IsTurnOrMake, fed_bytes}
 use Rattle.lr_laws_family.proofs.Stood.{quiet_journal}
-use Rattle.lr_cat.specs.History.{IsTextOf}
+use Rattle.lr_cat.specs.History.{IsTextRead}
 use Rattle.lr_cat.specs.Texts.{FileText, ReadsWhole}
 use Rattle.lr_cat.proofs.Pieces.{GivesOf, piece_of_more, pieces_are, longer_has, nothing_more}
 
@@ -93,7 +93,7 @@ module _ (p q : Past) (es : List Entry) (journal : IsJournal p) (m : Made p es q
       at : Moment IsAny p q (Reads x from piece)
       at = moment IsAny p q (Reads x from piece) es (since_any p q es m) m still (from_reverse (Reads x from piece) es i)
 
-      go : (t : Thing) → names (world at.at) x ≡ t → Gives (world at.at) t from piece → WasRead x from piece p q
+      go : (t : Thing) → names (world at.at) x ≡ t → GivesPiece (world at.at) t from piece → WasRead x from piece p q
       go thing.Nothing is fits = absurd fits
       go thing.Directory is fits = absurd fits
       go thing.Other is fits = absurd fits
@@ -138,7 +138,7 @@ module _ (p q : Past) (es : List Entry) (journal : IsJournal p) (m : Made p es q
 
   -- ---- all of one file
 
-  pub text_of : (t : FileText) (ts : List Entry) → ReadsWhole t ts → ((e : Entry) → IsIn e ts → IsIn e (reverse es)) → IsTextOf t p q
+  pub text_of : (t : FileText) (ts : List Entry) → ReadsWhole t ts → ((e : Entry) → IsIn e ts → IsIn e (reverse es)) → IsTextRead t p q
   text_of t ts w in_all = record {
     file = last.file;
     later = rest.0;

@@ -20,7 +20,7 @@ use Rattle.lr_report.proofs.PutLemmas.{took_none, took_on, part_on}
 use Rattle.lr_cat.specs.declared.texts.TextStop.{TextStop}
 use Rattle.lr_cat.specs.declared.texts.TextStop.TheVariants as stop
 use Rattle.lr_cat.specs.InternalTexts.{PassesOne, PassesSome, PassesTo}
-use Rattle.lr_cat.specs.Texts.{FileText, paths_of, joined, ReadsWhole, ReadsTexts, BreaksOff, ReadsAllOf, TookBy, Passes, CanReadAll, text_fault}
+use Rattle.lr_cat.specs.Texts.{FileText, text_paths, joined, ReadsWhole, ReadsTexts, TextBreaksOff, ReadsAllOf, TookBy, PassesTexts, CanReadAll, text_fault}
 
 -- ---- one file
 
@@ -130,7 +130,7 @@ joined_more texts t = flat_map-append (λ (u : FileText). u.bytes) texts (t ∷ 
 -- Of these files, read from the last one on, some were read, and these are left.
 pub record Putting (all rest : List Path) (told later : Option Journal) (before after : Option (List ℕ)) : Type 0 where
   pub texts : List FileText
-  pub files_are : reverse all ≡ paths_of texts ++ reverse rest
+  pub files_are : reverse all ≡ text_paths texts ++ reverse rest
   pub reads : Left (ReadsTexts texts) told later
   pub took : Took (joined texts) before after
 
@@ -138,11 +138,11 @@ pub putting_first : (all : List Path) (o : Option Journal) (x : Option (List ℕ
 putting_first all o x = record { texts = []; files_are = refl; reads = left_first (ReadsTexts []) o refl; took = took_none x }
 
 -- the last of them is the next
-next_file : (all rest now : List Path) (file : Path) (texts : List FileText) → reverse all ≡ paths_of texts ++ reverse now → now ≡ rest ++ file ∷ [] → reverse all ≡ paths_of texts ++ file ∷ reverse rest
-next_file all rest now file texts is e = is ∙ ap (λ (xs : List Path). paths_of texts ++ xs) (ap reverse e ∙ reverse-append rest (file ∷ []))
+next_file : (all rest now : List Path) (file : Path) (texts : List FileText) → reverse all ≡ text_paths texts ++ reverse now → now ≡ rest ++ file ∷ [] → reverse all ≡ text_paths texts ++ file ∷ reverse rest
+next_file all rest now file texts is e = is ∙ ap (λ (xs : List Path). text_paths texts ++ xs) (ap reverse e ∙ reverse-append rest (file ∷ []))
 
-one_more : (all rest : List Path) (texts : List FileText) (t : FileText) → reverse all ≡ paths_of texts ++ t.path ∷ reverse rest → reverse all ≡ paths_of (texts ++ t ∷ []) ++ reverse rest
-one_more all rest texts t is = is ∙ (sym (append_assoc (paths_of texts) (t.path ∷ []) (reverse rest)) ∙ ap (λ (xs : List Path). xs ++ reverse rest) (sym (map-append (λ (u : FileText). u.path) texts (t ∷ []))))
+one_more : (all rest : List Path) (texts : List FileText) (t : FileText) → reverse all ≡ text_paths texts ++ t.path ∷ reverse rest → reverse all ≡ text_paths (texts ++ t ∷ []) ++ reverse rest
+one_more all rest texts t is = is ∙ (sym (append_assoc (text_paths texts) (t.path ∷ []) (reverse rest)) ∙ ap (λ (xs : List Path). xs ++ reverse rest) (sym (map-append (λ (u : FileText). u.path) texts (t ∷ []))))
 
 pub putting_more : (all now rest : List Path) (file : Path) {o m n : Option Journal} {x y z : Option (List ℕ)} → now ≡ rest ++ file ∷ [] → Putting all now o m x y → PassesOne file m n y z → Putting all rest o n x z
 putting_more all now rest file {o = o} {n = n} {x = x} {y = y} {z = z} e p one = record {
@@ -155,10 +155,10 @@ putting_more all now rest file {o = o} {n = n} {x = x} {y = y} {z = z} e p one =
     t : FileText
     t = record { path = file; bytes = one.bytes }
 
-pub putting_all : (all now : List Path) {o m : Option Journal} {x y : Option (List ℕ)} → now ≡ [] → Putting all now o m x y → Passes (ReadsAllOf (reverse all)) None o m x y
+pub putting_all : (all now : List Path) {o m : Option Journal} {x y : Option (List ℕ)} → now ≡ [] → Putting all now o m x y → PassesTexts (ReadsAllOf (reverse all)) None o m x y
 putting_all all now none p = record {
   texts = p.texts;
-  left = left_as p.reads (λ ts a. record { files_are = p.files_are ∙ (ap (λ (xs : List Path). paths_of p.texts ++ reverse xs) none ∙ append-nil (paths_of p.texts)); reads = a });
+  left = left_as p.reads (λ ts a. record { files_are = p.files_are ∙ (ap (λ (xs : List Path). text_paths p.texts ++ reverse xs) none ∙ append-nil (text_paths p.texts)); reads = a });
   took = p.took;
 }
 
@@ -168,7 +168,7 @@ took_both stop.TooLong path a b x y z t u = took_on a b x y z t u
 took_both stop.Out path a b x y z t u = part_on a b x y z t u
 
 pub putting_stops : (all now rest : List Path) (file : Path) (why : TextStop) (f : Fault) {o m n : Option Journal} {x y z : Option (List ℕ)} → now ≡ rest ++ file ∷ [] → f ≡ text_fault why file → Putting all now o m x y → PassesSome file why m n y z
-    → Passes (BreaksOff (reverse all) f) (Some f) o n x z
+    → PassesTexts (TextBreaksOff (reverse all) f) (Some f) o n x z
 putting_stops all now rest file why f {o = o} {n = n} {x = x} {y = y} {z = z} e is p some = record {
   texts = p.texts ++ t ∷ [];
   left = left_then p.reads some.reads (λ ts us a w. record {

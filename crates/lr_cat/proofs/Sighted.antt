@@ -19,9 +19,9 @@ use Rattle.lr_host.proofs.Quiet.{quiet_still}
 use Rattle.lr_family.proofs.OnlyLooks.{AreLooking, looking_both}
 use Rattle.lr_cat.specs.declared.texts.TextStop.{TextStop}
 use Rattle.lr_cat.specs.declared.texts.TextStop.TheVariants as stop
-use Rattle.lr_cat.specs.Saw.{Saw, ShowsSaw, SeesNone, not_stood, not_found, Works, not_seen, broke_off, read_all, aside_of, files_of}
+use Rattle.lr_cat.specs.Saw.{FamilySaw, ShowsFamilySaw, SeesNone, not_stood, not_found, Works, not_seen, broke_off, read_all, aside_of, files_of}
 use Rattle.lr_glob.specs.Looking.{IsSight, AreSights}
-use Rattle.lr_cat.specs.Texts.{FileText, ReadsTexts, ReadsSome, BreaksOff, ReadsAllOf}
+use Rattle.lr_cat.specs.Texts.{FileText, ReadsTexts, ReadsTextPart, TextBreaksOff, ReadsAllOf}
 use Rattle.lr_cat.proofs.Putting.{whole_only}
 use Rattle.lr_cat.proofs.Standing.{both_looks, looks_sights, none_looks, stand_looks, stop_looks}
 
@@ -41,21 +41,21 @@ texts_sights : (texts : List FileText) (ts : List Entry) → ReadsTexts texts ts
 texts_sights [] ts r = subst AreSights (sym r) tt
 texts_sights (t ∷ texts) ts r = sights_both ts (λ us w. reads_sights t.path us (whole_only t us w)) (λ us w. texts_sights texts us w) r
 
-some_sights : (why : TextStop) (t : FileText) (ts : List Entry) → ReadsSome why t ts → AreSights ts
+some_sights : (why : TextStop) (t : FileText) (ts : List Entry) → ReadsTextPart why t ts → AreSights ts
 some_sights stop.TooLong t ts r = reads_sights t.path ts r.1.only
 some_sights stop.Read t ts r = reads_sights t.path ts r.only
 some_sights stop.Out t ts r = reads_sights t.path ts r.only
 
-pub broken_sights : (files : List Path) (f : Fault) (texts : List FileText) (ts : List Entry) → BreaksOff files f texts ts → AreSights ts
+pub broken_sights : (files : List Path) (f : Fault) (texts : List FileText) (ts : List Entry) → TextBreaksOff files f texts ts → AreSights ts
 broken_sights files f texts ts b = sights_both ts (λ us r. texts_sights b.before us r) (λ us r. some_sights b.why b.last us r) b.reads
 
 pub all_sights : (files : List Path) (texts : List FileText) (ts : List Entry) → ReadsAllOf files texts ts → AreSights ts
 all_sights files texts ts r = texts_sights texts ts r.reads
 
-saw_looks : (n : Naming) (log : Path) (saw : Saw) (ts : List Entry) → ShowsSaw n log saw ts → AreLooking ts
+saw_looks : (n : Naming) (log : Path) (saw : FamilySaw) (ts : List Entry) → ShowsFamilySaw n log saw ts → AreLooking ts
 saw_looks n log saw ts s = looking_both ts (λ us h. stand_looks n saw.stand us h) (λ us h. both_looks (aside_of n.aside log) log saw.aside saw.log us h) s
 
-pub saw_sights : (n : Naming) (log : Path) (saw : Saw) (ts : List Entry) → ShowsSaw n log saw ts → AreSights ts
+pub saw_sights : (n : Naming) (log : Path) (saw : FamilySaw) (ts : List Entry) → ShowsFamilySaw n log saw ts → AreSights ts
 saw_sights n log saw ts s = looks_sights ts (saw_looks n log saw ts s)
 
 pub none_sights : (n : Naming) (log : Path) (f : Fault) (ts : List Entry) → SeesNone n log f ts → AreSights ts

@@ -28,7 +28,7 @@ use Rattle.lr_cat.specs.declared.outcome.CatOutcome.{CatOutcome}
 use Rattle.lr_cat.specs.declared.outcome.CatOutcome.TheVariants as outcome
 use Rattle.lr_cat.specs.declared.words.Wanted.{Wanted}
 use Rattle.lr_cat.specs.Came.{Came, LogEnds, held, short, called, RulesEnd, no_log, lacks, given, ConfsEnd, not_read, read, CatEnds, no_clock, no_memory, behind_clock, CatShows, bad_words, no_words, wants}
-use Rattle.lr_cat.specs.Cats.{Cats, no_directory, began, IsShort}
+use Rattle.lr_cat.specs.Cats.{Cats, no_directory, began, CatIsShort}
 use Rattle.lr_cat.specs.Complete.{IsClear, NoRise, PrintsAll}
 use Rattle.lr_cat.specs.History.{IsHistory}
 use Rattle.lr_cat.specs.Says.{CatSays, HasCounted, HasFault}
@@ -62,7 +62,7 @@ cats_still w clock rules n own texts ts (Cats.not_seen is e h) = none_still ts h
 cats_still w clock rules n own texts ts (Cats.not_begun is e h) = then_still (Sees (parent_of w.state) IsDir) (Maybe (Starts w.state clock.now rules)) ts (λ us s. sees_still (parent_of w.state) us s) (λ us s. maybe_still w clock rules us s) h
 cats_still w clock rules n own texts ts (began i) = inside_still w clock rules _ ts (λ us h. works_sights n w.log own texts us h) i
 
-short_still : (w : Wanted) (clock : Clock) (rules : Rules) (ts : List Entry) → IsShort w clock rules ts → ChangeNothing ts
+short_still : (w : Wanted) (clock : Clock) (rules : Rules) (ts : List Entry) → CatIsShort w clock rules ts → ChangeNothing ts
 short_still w clock rules ts (inl e) = none_still ts e
 short_still w clock rules ts (inr i) = inside_still w clock rules AreSights ts (λ us h. h) i
 

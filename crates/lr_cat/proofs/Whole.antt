@@ -28,9 +28,9 @@ use Rattle.lr_cat.specs.declared.outcome.CatOutcome.{CatOutcome}
 use Rattle.lr_cat.specs.declared.words.Wanted.{Wanted}
 use Rattle.lr_cat.specs.Came.{Came, LogEnds, held, short, called, RulesEnd, no_log, lacks, given, ConfsEnd, not_read, broke_off, read, CatEnds, no_clock, no_memory, behind_clock, CatShows, bad_words, no_words, wants}
 use Rattle.lr_cat.specs.Cats.{Cats, no_directory, began}
-use Rattle.lr_cat.specs.History.{HasText, IsHistory}
-use Rattle.lr_cat.specs.Saw.{Finds, Saw, ShowsSaw, Works, read_all, aside_of, files_behind, files_of, listed}
-use Rattle.lr_cat.specs.Texts.{FileText, paths_of, ReadsWhole, ReadsTexts, ReadsAllOf}
+use Rattle.lr_cat.specs.History.{HasTextOf, IsHistory}
+use Rattle.lr_cat.specs.Saw.{Finds, FamilySaw, ShowsFamilySaw, Works, read_all, aside_of, files_behind, files_of, listed}
+use Rattle.lr_cat.specs.Texts.{FileText, text_paths, ReadsWhole, ReadsTexts, ReadsAllOf}
 use Rattle.lr_cat.specs.Words.{wanted}
 use Rattle.lr_cat.proofs.Lasting.{text_of}
 use Rattle.lr_cat.proofs.Sighted.{saw_sights, all_sights, sights_both, sights_still}
@@ -46,8 +46,8 @@ pub record IsWork (w : Wanted) (c : Came) (ts : List Entry) : Type 0 where
   pub between : List Entry
   pub is : ts ≡ front ++ (Starts w.state c.clock.now c.rules ∷ (between ++ Ends ∷ []))
   pub family : IsFamily w.log c.naming
-  pub saw : Saw
-  pub works : Then (ShowsSaw c.naming w.log saw) (ReadsAllOf (files_of saw) c.texts) between
+  pub saw : FamilySaw
+  pub works : Then (ShowsFamilySaw c.naming w.log saw) (ReadsAllOf (files_of saw) c.texts) between
 
 module _ (w : Wanted) (clock : Clock) (m : Meaning) (rules : Rules) (n : Naming) (own : Option Fault) (texts : List FileText) where
   abbrev it : Came
@@ -111,14 +111,14 @@ one_text [] ts r t i = absurd i
 one_text (u ∷ texts) ts r t (inl is) = (r.front, subst (λ (v : FileText). ReadsWhole v r.front) is r.first, λ e j. subst (IsIn e) (sym r.joined) (in_front e r.front r.back j))
 one_text (u ∷ texts) ts r t (inr i) = let s = one_text texts r.back r.second t i in (s.0, s.1, λ e j. subst (IsIn e) (sym r.joined) (in_back e r.front r.back (s.2 e j)))
 
-has_text : (files : List Path) (texts : List FileText) (x : Path) → files ≡ paths_of texts → IsIn x files → HasText texts x
+has_text : (files : List Path) (texts : List FileText) (x : Path) → files ≡ text_paths texts → IsIn x files → HasTextOf texts x
 has_text files texts x is i = in_unmap (λ (t : FileText). t.path) x texts (subst (IsIn x) is i)
 
 -- the log, what was set aside, and each member, is one of the files
 in_listed : (x : Path) (found : Option Path) → found ≡ Some x → IsIn x (listed found)
 in_listed x found is = subst (λ (o : Option Path). IsIn x (listed o)) (sym is) (inl refl)
 
-module _ (saw : Saw) where
+module _ (saw : FamilySaw) where
   abbrev members : List Path
   members = map (λ (m : Member). m.path) saw.stand.members
 

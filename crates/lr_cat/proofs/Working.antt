@@ -19,19 +19,19 @@ use Rattle.lr_host.specs.Told.{Are, Left, Maybe, DidWhere}
 use Rattle.lr_host.proofs.Left.{left_as, left_both, left_then}
 use Rattle.lr_family.specs.declared.directory.DirStop.{DirStop}
 use Rattle.lr_family.specs.declared.directory.DirStop.TheVariants as seen
-use Rattle.lr_family.specs.Directory.{DirSeen, DirStopped}
+use Rattle.lr_family.specs.Directory.{DirSeen, DirLookStopped}
 use Rattle.lr_looks.specs.Inside.{Inside}
 use Rattle.lr_report.proofs.PutLemmas.{took_none}
 use Rattle.lr_cat.specs.declared.stop.CatStop.{CatStop}
 use Rattle.lr_cat.specs.declared.stop.CatStop.TheVariants as stop
 use Rattle.lr_cat.specs.declared.words.Wanted.{Wanted}
 use Rattle.lr_cat.specs.Cats.{Cats, no_directory, began, StopsSo}
-use Rattle.lr_cat.specs.InternalCats.{EndsWork, BeginsAndEnds, Goes, begun, GoesShort, dir_fault}
+use Rattle.lr_cat.specs.InternalCats.{EndsWork, BeginsAndEnds, Goes, begun, GoesShort, unseen_dir_fault}
 use Rattle.lr_cat.specs.InternalSaw.{SeesAll, SeesNot}
 use Rattle.lr_cat.specs.Saw.{Works, read_all, broke_off}
 use Rattle.lr_glob.specs.Looking.{AreSights}
 use Rattle.lr_cat.specs.Stops.{CameTo}
-use Rattle.lr_cat.specs.Texts.{FileText, BreaksOff, ReadsAllOf, TookBy, Passes}
+use Rattle.lr_cat.specs.Texts.{FileText, TextBreaksOff, ReadsAllOf, TookBy, PassesTexts}
 use Rattle.lr_cat.proofs.Sighted.{saw_sights, none_sights, all_sights, broken_sights, sights_both}
 
 -- ---- what stands, put out
@@ -42,7 +42,7 @@ took_nothing (Some fault.Out) x = (0, took_none x)
 took_nothing (Some _) x = took_none x
 
 -- nothing was read for this fault, which isn't the output's
-pub nothing_read : (P : List FileText → List Entry → Type 0) (f : Fault) {o m : Option Journal} (x : Option (List ℕ)) → Left (P []) o m → Passes P (Some f) o m x x
+pub nothing_read : (P : List FileText → List Entry → Type 0) (f : Fault) {o m : Option Journal} (x : Option (List ℕ)) → Left (P []) o m → PassesTexts P (Some f) o m x x
 nothing_read P f x l = record { texts = []; left = l; took = took_nothing (Some f) x }
 
 pub saw_not : (n : Naming) (log : Path) (why : CatStop) (o m : Option Journal) (x : Option (List ℕ)) → SeesNot n log why o m → CameTo (λ own texts ts. Works n log own texts ts) (Err why) o m x x
@@ -55,29 +55,29 @@ sights_not n log (stop.Fault f) o m l = left_as l (λ ts s. none_sights n log f 
 sights_not n log stop.Held o m l = absurd l
 sights_not n log stop.Memory o m l = l
 
-pub put_all : (n : Naming) (log : Path) (files : List Path) {o m k : Option Journal} {x y : Option (List ℕ)} → SeesAll n log files o m → Passes (ReadsAllOf (reverse files)) None m k x y → Passes (Works n log None) None o k x y
+pub put_all : (n : Naming) (log : Path) (files : List Path) {o m k : Option Journal} {x y : Option (List ℕ)} → SeesAll n log files o m → PassesTexts (ReadsAllOf (reverse files)) None m k x y → PassesTexts (Works n log None) None o k x y
 put_all n log files s p = record {
   texts = p.texts;
   left = left_then s.shows p.left (λ ts us a r. read_all s.saw refl (record { front = ts; back = us; joined = refl; first = a; second = subst (λ (fs : List Path). ReadsAllOf fs p.texts us) s.files_are r }));
   took = p.took;
 }
 
-pub put_some : (n : Naming) (log : Path) (files : List Path) (f : Fault) {o m k : Option Journal} {x y : Option (List ℕ)} → SeesAll n log files o m → Passes (BreaksOff (reverse files) f) (Some f) m k x y → Passes (Works n log (Some f)) (Some f) o k x y
+pub put_some : (n : Naming) (log : Path) (files : List Path) (f : Fault) {o m k : Option Journal} {x y : Option (List ℕ)} → SeesAll n log files o m → PassesTexts (TextBreaksOff (reverse files) f) (Some f) m k x y → PassesTexts (Works n log (Some f)) (Some f) o k x y
 put_some n log files f s p = record {
   texts = p.texts;
-  left = left_then s.shows p.left (λ ts us a b. broke_off s.saw f refl (record { front = ts; back = us; joined = refl; first = a; second = subst (λ (fs : List Path). BreaksOff fs f p.texts us) s.files_are b }));
+  left = left_then s.shows p.left (λ ts us a b. broke_off s.saw f refl (record { front = ts; back = us; joined = refl; first = a; second = subst (λ (fs : List Path). TextBreaksOff fs f p.texts us) s.files_are b }));
   took = p.took;
 }
 
-pub sights_all : (n : Naming) (log : Path) (files : List Path) {o m k : Option Journal} {x y : Option (List ℕ)} → SeesAll n log files o m → Passes (ReadsAllOf (reverse files)) None m k x y → Left AreSights o k
+pub sights_all : (n : Naming) (log : Path) (files : List Path) {o m k : Option Journal} {x y : Option (List ℕ)} → SeesAll n log files o m → PassesTexts (ReadsAllOf (reverse files)) None m k x y → Left AreSights o k
 sights_all n log files s p = left_as (left_both s.shows p.left) (λ ts t. sights_both ts (λ us h. saw_sights n log s.saw us h) (λ us r. all_sights (reverse files) p.texts us r) t)
 
-pub sights_some : (n : Naming) (log : Path) (files : List Path) (f : Fault) {o m k : Option Journal} {x y : Option (List ℕ)} → SeesAll n log files o m → Passes (BreaksOff (reverse files) f) (Some f) m k x y → Left AreSights o k
+pub sights_some : (n : Naming) (log : Path) (files : List Path) (f : Fault) {o m k : Option Journal} {x y : Option (List ℕ)} → SeesAll n log files o m → PassesTexts (TextBreaksOff (reverse files) f) (Some f) m k x y → Left AreSights o k
 sights_some n log files f s p = left_as (left_both s.shows p.left) (λ ts t. sights_both ts (λ us h. saw_sights n log s.saw us h) (λ us b. broken_sights (reverse files) f p.texts us b) t)
 
 -- ---- and the end
 
-ended_passes : (P : List FileText → List Entry → Type 0) (own : Option Fault) {o m k : Option Journal} {x y : Option (List ℕ)} → Passes P own o m x y → Left (Are (Ends ∷ [])) m k → Passes (λ texts ts. EndsWork (P texts) ts) own o k x y
+ended_passes : (P : List FileText → List Entry → Type 0) (own : Option Fault) {o m k : Option Journal} {x y : Option (List ℕ)} → PassesTexts P own o m x y → Left (Are (Ends ∷ [])) m k → PassesTexts (λ texts ts. EndsWork (P texts) ts) own o k x y
 ended_passes P own p l = record { texts = p.texts; left = left_both p.left l; took = p.took }
 
 pub ended_so : (P : Option Fault → List FileText → List Entry → Type 0) (r : Result (Unit {0}) CatStop) (o m k : Option Journal) (x y : Option (List ℕ)) → CameTo P r o m x y → Left (Are (Ends ∷ [])) m k → CameTo (λ own texts ts. EndsWork (P own texts) ts) r o k x y
@@ -95,7 +95,7 @@ pub did_nothing : (state : Path) (clock : Clock) (rules : Rules) (b : Bool) {o n
 did_nothing state clock rules b e l = left_as l (λ ts h. subst (λ (x : Bool). DidWhere {E = CallFault} (Ok x) (Starts state clock.now rules) ts) e h)
 
 module _ (w : Wanted) (clock : Clock) (rules : Rules) (n : Naming) where
-  begun_passes : (own : Option Fault) {o m k : Option Journal} {x y : Option (List ℕ)} → Left (Are (Starts w.state clock.now rules ∷ [])) o m → Passes (λ texts ts. EndsWork (Works n w.log own texts) ts) own m k x y → Passes (Goes w clock rules n own) own o k x y
+  begun_passes : (own : Option Fault) {o m k : Option Journal} {x y : Option (List ℕ)} → Left (Are (Starts w.state clock.now rules ∷ [])) o m → PassesTexts (λ texts ts. EndsWork (Works n w.log own texts) ts) own m k x y → PassesTexts (Goes w clock rules n own) own o k x y
   begun_passes own l p = record { texts = p.texts; left = left_as (left_both l p.left) (λ ts t. begun t); took = p.took }
 
   pub begun_so : (r : Result (Unit {0}) CatStop) (o m k : Option Journal) (x y : Option (List ℕ)) → Left (Are (Starts w.state clock.now rules ∷ [])) o m → CameTo (λ own texts ts. EndsWork (Works n w.log own texts) ts) r m k x y → CameTo (λ own texts ts. Goes w clock rules n own texts ts) r o k x y
@@ -139,7 +139,7 @@ module _ (w : Wanted) (clock : Clock) (rules : Rules) (n : Naming) where
   seen_dir : (dir : Path) (ts : List Entry) → dir ≡ parent_of w.state → DirSeen dir true ts → Sees (parent_of w.state) IsDir ts
   seen_dir dir ts is s = subst (λ (d : Path). Sees d IsDir ts) is s
 
-  cats_passes : (dir : Path) (own : Option Fault) {o m k : Option Journal} {x y : Option (List ℕ)} → dir ≡ parent_of w.state → Left (DirSeen dir true) o m → Passes (Goes w clock rules n own) own m k x y → Passes (Cats w clock rules n own) own o k x y
+  cats_passes : (dir : Path) (own : Option Fault) {o m k : Option Journal} {x y : Option (List ℕ)} → dir ≡ parent_of w.state → Left (DirSeen dir true) o m → PassesTexts (Goes w clock rules n own) own m k x y → PassesTexts (Cats w clock rules n own) own o k x y
   cats_passes dir own is l p = record { texts = p.texts; left = left_then l p.left (λ ts us s g. cats_by own p.texts ts us (seen_dir dir ts is s) g); took = p.took }
 
   pub cats_so : (dir : Path) (r : Result (Unit {0}) CatStop) (o m k : Option Journal) (x y : Option (List ℕ)) → dir ≡ parent_of w.state → Left (DirSeen dir true) o m → CameTo (λ own texts ts. Goes w clock rules n own texts ts) r m k x y → CameTo (λ own texts ts. Cats w clock rules n own texts ts) r o k x y
@@ -170,7 +170,7 @@ module _ (w : Wanted) (clock : Clock) (rules : Rules) (n : Naming) where
   dir_missing dir x is l = nothing_read (Cats w clock rules n (Some (fault.NoDir dir))) (fault.NoDir dir) x
       (left_as l (λ ts s. no_directory (ap (λ (d : Path). Some (fault.NoDir d)) is) refl (subst (λ (d : Path). Sees d IsNotDir ts) is (record { seen = s.seen; is = nothing_is_no_dir s.seen s.is; look = s.look }))))
 
-  pub dir_stopped : (dir : Path) (why : DirStop) {o m : Option Journal} (x : Option (List ℕ)) → dir ≡ parent_of w.state → Left (DirStopped dir why) o m → CameTo (λ own texts ts. Cats w clock rules n own texts ts) (Err (stop.Fault (dir_fault why dir))) o m x x
+  pub dir_stopped : (dir : Path) (why : DirStop) {o m : Option Journal} (x : Option (List ℕ)) → dir ≡ parent_of w.state → Left (DirLookStopped dir why) o m → CameTo (λ own texts ts. Cats w clock rules n own texts ts) (Err (stop.Fault (unseen_dir_fault why dir))) o m x x
   dir_stopped dir seen.NotDir x is l = nothing_read (Cats w clock rules n (Some (fault.NoDir dir))) (fault.NoDir dir) x
       (left_as l (λ ts s. no_directory (ap (λ (d : Path). Some (fault.NoDir d)) is) refl (subst (λ (d : Path). Sees d IsNotDir ts) is (record { seen = s.seen; is = other_is_no_dir s.seen s.is; look = s.look }))))
   dir_stopped dir seen.Call x is l = nothing_read (Cats w clock rules n (Some (fault.Call call.Look dir))) (fault.Call call.Look dir) x

@@ -22,7 +22,7 @@ use Rattle.lr_report.specs.declared.outcome.Report.{Report}
 use Rattle.lr_cat.specs.declared.outcome.CatOutcome.{CatOutcome}
 use Rattle.lr_cat.specs.declared.outcome.CatOutcome.TheVariants.{Done, BadWords, NoLog, Held, OutOfMemory}
 use Rattle.lr_cat.specs.declared.words.Wanted.{Wanted}
-use Rattle.lr_cat.specs.Cats.{Cats, IsHeld, IsShort}
+use Rattle.lr_cat.specs.Cats.{Cats, LockIsHeld, CatIsShort}
 use Rattle.lr_cat.specs.First.{GivesNone, IsFirst}
 use Rattle.lr_cat.specs.Texts.{FileText}
 use Rattle.lr_cat.specs.Words.{wanted}
@@ -58,8 +58,8 @@ clock_fault = record { notices = []; faults = fault.Clock ∷ [] }
 -- fault.
 pub data LogEnds (w : Wanted) (clock : Clock) (m : Meaning) (rules : Rules) (n : Naming) (outcome : CatOutcome) (came : Option Came)
     (ts : List Entry) : Type 0 where
-  held : outcome ≡ Held → came ≡ None → IsHeld w ts → LogEnds w clock m rules n outcome came ts
-  short : outcome ≡ OutOfMemory → came ≡ None → IsShort w clock rules ts → LogEnds w clock m rules n outcome came ts
+  held : outcome ≡ Held → came ≡ None → LockIsHeld w ts → LogEnds w clock m rules n outcome came ts
+  short : outcome ≡ OutOfMemory → came ≡ None → CatIsShort w clock rules ts → LogEnds w clock m rules n outcome came ts
   called : (own : Option Fault) (texts : List FileText) → outcome ≡ Done (report_by m own)
       → came ≡ Some (record { clock = clock; meaning = m; rules = rules; naming = n; own = own; texts = texts })
       → Cats w clock rules n own texts ts → LogEnds w clock m rules n outcome came ts

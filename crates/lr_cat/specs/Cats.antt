@@ -32,13 +32,13 @@ pub data Cats (w : Wanted) (clock : Clock) (rules : Rules) (n : Naming) (own : O
 
 -- Where it wasn't carried through: another run has the lock; or there was no memory, before the first call, or under the lock,
 -- where nothing was changed.
-abbrev pub IsHeld : Wanted → List Entry → Type 0
-IsHeld w ts = Sees (parent_of w.state) IsDir ts
+abbrev pub LockIsHeld : Wanted → List Entry → Type 0
+LockIsHeld w ts = Sees (parent_of w.state) IsDir ts
 
-abbrev pub IsShort : Wanted → Clock → Rules → List Entry → Type 0
-IsShort w clock rules ts = (ts ≡ []) ⊎ Inside w.state clock rules AreSights ts
+abbrev pub CatIsShort : Wanted → Clock → Rules → List Entry → Type 0
+CatIsShort w clock rules ts = (ts ≡ []) ⊎ Inside w.state clock rules AreSights ts
 
 abbrev pub StopsSo : Wanted → Clock → Rules → CatStop → List Entry → Type 0
-StopsSo w clock rules stop.Held ts = IsHeld w ts
-StopsSo w clock rules stop.Memory ts = IsShort w clock rules ts
+StopsSo w clock rules stop.Held ts = LockIsHeld w ts
+StopsSo w clock rules stop.Memory ts = CatIsShort w clock rules ts
 StopsSo w clock rules (stop.Fault f) ts = Unit {0}

@@ -14,12 +14,12 @@ AreMatched (part ∷ parts) (name ∷ names) = Matches true (chars part) (chars 
 AreMatched _ _ = ⊥
 
 -- this definition stands at this place
-abbrev pub IsAt : List Rule → ℕ → Rule → Type 0
-IsAt rules place rule = (place < length rules) × (get_or rules place rule ≡ rule)
+abbrev pub IsRuleAt : List Rule → ℕ → Rule → Type 0
+IsRuleAt rules place rule = (place < length rules) × (get_or rules place rule ≡ rule)
 
 -- none before this place gives the log
 abbrev pub GivesNoneBefore : ℕ → List Rule → Path → Type 0
-GivesNoneBefore place rules log = (k : ℕ) (rule : Rule) → k < place → IsAt rules k rule → RuleGives rule log → ⊥
+GivesNoneBefore place rules log = (k : ℕ) (rule : Rule) → k < place → IsRuleAt rules k rule → RuleGives rule log → ⊥
 
 abbrev pub GivesNone : List Rule → Path → Type 0
 GivesNone rules log = GivesNoneBefore (length rules) rules log
@@ -27,7 +27,7 @@ GivesNone rules log = GivesNoneBefore (length rules) rules log
 -- The definition gives it, and none before it does.
 pub record IsFirst (rules : List Rule) (log : Path) (rule : Rule) : Type 0 where
   pub place : ℕ
-  pub there : IsAt rules place rule
+  pub there : IsRuleAt rules place rule
   pub none_before : GivesNoneBefore place rules log
   pub gives : RuleGives rule log
 

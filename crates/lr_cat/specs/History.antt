@@ -14,11 +14,11 @@ use Rattle.lr_cat.specs.Came.{Came}
 use Rattle.lr_cat.specs.Texts.{FileText}
 
 -- one of the texts is of the path
-abbrev pub HasText : List FileText → Path → Type 0
-HasText texts x = (t : FileText) × IsIn t texts × (t.path ≡ x)
+abbrev pub HasTextOf : List FileText → Path → Type 0
+HasTextOf texts x = (t : FileText) × IsIn t texts × (t.path ≡ x)
 
 -- What was read of a file: a first part of its bytes at the end, and of those that it had at the beginning, if it stood, all.
-pub record IsTextOf (t : FileText) (before after : Past) : Type 0 where
+pub record IsTextRead (t : FileText) (before after : Past) : Type 0 where
   pub file : ℕ
   -- at the end the path names the file, which has the text, and then what came since
   pub later : List ℕ
@@ -34,7 +34,7 @@ pub record IsHistory (w : Wanted) (c : Came) (before after : Past) : Type 0 wher
   pub at : Past
   pub since : IsPrefix before at
   pub begun : IsPrefix (at ▸ Starts w.state c.clock.now c.rules) after
-  pub members : (x : Path) → IsMember c.naming x → IsFileAt (names (world at)) x → HasText c.texts x
-  pub aside : c.naming.aside ≡ true → IsFileAt (names (world at)) (aside_path w.log) → HasText c.texts (aside_path w.log)
-  pub log : IsFileAt (names (world at)) w.log → HasText c.texts w.log
-  pub texts : (t : FileText) → IsIn t c.texts → IsTextOf t before after
+  pub members : (x : Path) → IsMember c.naming x → IsFileAt (names (world at)) x → HasTextOf c.texts x
+  pub aside : c.naming.aside ≡ true → IsFileAt (names (world at)) (aside_path w.log) → HasTextOf c.texts (aside_path w.log)
+  pub log : IsFileAt (names (world at)) w.log → HasTextOf c.texts w.log
+  pub texts : (t : FileText) → IsIn t c.texts → IsTextRead t before after

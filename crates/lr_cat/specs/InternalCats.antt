@@ -40,6 +40,6 @@ GoesShort w clock rules stop.Memory ts = BeginsAndEnds w clock rules AreSights t
 GoesShort w clock rules (stop.Fault f) ts = Unit {0}
 
 -- the fault of a directory that wasn't seen as one
-abbrev pub dir_fault : DirStop → Path → Fault
-dir_fault seen.Call dir = fault.Call call.Look dir
-dir_fault seen.NotDir dir = fault.NoDir dir
+abbrev pub unseen_dir_fault : DirStop → Path → Fault
+unseen_dir_fault seen.Call dir = fault.Call call.Look dir
+unseen_dir_fault seen.NotDir dir = fault.NoDir dir

@@ -16,7 +16,7 @@ use Rattle.lr_cat.specs.declared.seeing.FileStop.{FileStop}
 use Rattle.lr_cat.specs.declared.seeing.FileStop.TheVariants as files
 use Rattle.lr_cat.specs.declared.stop.CatStop.{CatStop}
 use Rattle.lr_cat.specs.declared.stop.CatStop.TheVariants as stop
-use Rattle.lr_cat.specs.Saw.{Saw, ShowsSaw, SeesNone, files_of}
+use Rattle.lr_cat.specs.Saw.{FamilySaw, ShowsFamilySaw, SeesNone, files_of}
 
 -- the path, where a file was found there
 abbrev pub found_if : Path → Bool → Option Path
@@ -38,8 +38,8 @@ stand_stop stands.Memory = stop.Memory
 
 -- what stands was seen, and these are its files, of which the last is the oldest
 pub record SeesAll (n : Naming) (log : Path) (files : List Path) (told later : Option Journal) : Type 0 where
-  pub saw : Saw
-  pub shows : Left (ShowsSaw n log saw) told later
+  pub saw : FamilySaw
+  pub shows : Left (ShowsFamilySaw n log saw) told later
   pub files_are : reverse files ≡ files_of saw
 
 -- it wasn't, for this cause

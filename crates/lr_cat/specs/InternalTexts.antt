@@ -6,7 +6,7 @@ use Rattle.lr_host.specs.Told.{Left}
 use Rattle.lr_host.specs.Reading.{ReadsOf}
 use Rattle.lr_report.specs.Puts.{Took}
 use Rattle.lr_cat.specs.declared.texts.TextStop.{TextStop}
-use Rattle.lr_cat.specs.Texts.{ReadsSome, ReadsWhole, TookBy, text_fault}
+use Rattle.lr_cat.specs.Texts.{ReadsTextPart, ReadsWhole, TookBy, text_fault}
 
 -- the whole file was read, and the output took it
 pub record PassesOne (path : Path) (told later : Option Journal) (before after : Option (List ℕ)) : Type 0 where
@@ -17,7 +17,7 @@ pub record PassesOne (path : Path) (told later : Option Journal) (before after :
 -- it was read so far, and the output took that, unless it failed
 pub record PassesSome (path : Path) (why : TextStop) (told later : Option Journal) (before after : Option (List ℕ)) : Type 0 where
   pub bytes : List ℕ
-  pub reads : Left (ReadsSome why (record { path = path; bytes = bytes })) told later
+  pub reads : Left (ReadsTextPart why (record { path = path; bytes = bytes })) told later
   pub took : TookBy (Some (text_fault why path)) bytes before after
 
 -- it was read up to this place, and the output took that

@@ -4,7 +4,7 @@ use Rattle.std.specs.List.{concat}
 use Rattle.lr_rules.specs.declared.path.Path.{Path}
 use Rattle.lr_report.specs.declared.outcome.Outcome.{Outcome}
 use Rattle.lr_report.specs.declared.outcome.Outcome.TheVariants as outcome
-use Rattle.lr_report.specs.Outcome.{status_of, text_of}
+use Rattle.lr_report.specs.Outcome.{status_of, outcome_text}
 use Rattle.lr_cat.specs.declared.words.Wanted.{Wanted}
 use Rattle.lr_cat.specs.Words.{wanted}
 use Rattle.lr_cat.specs.declared.outcome.CatOutcome.{CatOutcome}
@@ -26,10 +26,10 @@ cat_status_of NoLog = 5
 
 -- all that there is to say of an outcome, where the words name this log
 abbrev pub notes_of : Path → CatOutcome → List ℕ
-notes_of log (Done report) = text_of (outcome.Done report)
-notes_of log BadWords = text_of outcome.BadWords
-notes_of log Held = text_of outcome.Held
-notes_of log OutOfMemory = text_of outcome.OutOfMemory
+notes_of log (Done report) = outcome_text (outcome.Done report)
+notes_of log BadWords = outcome_text outcome.BadWords
+notes_of log Held = outcome_text outcome.Held
+notes_of log OutOfMemory = outcome_text outcome.OutOfMemory
 notes_of log NoLog = concat (codes "logrotate: " ∷ log ∷ codes ": not defined\n" ∷ [])
 
 -- the log that is wanted, if one is

@@ -14,7 +14,7 @@ use Rattle.lr_family.specs.declared.stand.Stand.{Stand}
 use Rattle.lr_family.specs.declared.stand.StandStop.{StandStop}
 use Rattle.lr_family.specs.Standing.{ShowsStand, ShowsStop}
 use Rattle.lr_looks.specs.Families.{stop_fault}
-use Rattle.lr_cat.specs.Texts.{FileText, BreaksOff, ReadsAllOf}
+use Rattle.lr_cat.specs.Texts.{FileText, TextBreaksOff, ReadsAllOf}
 
 -- ---- a file that may stand at a path
 
@@ -52,13 +52,13 @@ FindsNone aside log f ts = FindsNot aside f ts ⊎ ((set : Option Path) × Then 
 -- ---- all of it
 
 -- What stands of the family; the path where the log waits that is set aside, if a file stands there; and the log's own, if one does.
-pub record Saw : Type 0 where
+pub record FamilySaw : Type 0 where
   pub stand : Stand
   pub aside : Option Path
   pub log : Option Path
 
-abbrev pub ShowsSaw : Naming → Path → Saw → List Entry → Type 0
-ShowsSaw n log saw = Then (ShowsStand n saw.stand) (FindsBoth (aside_of n.aside log) log saw.aside saw.log)
+abbrev pub ShowsFamilySaw : Naming → Path → FamilySaw → List Entry → Type 0
+ShowsFamilySaw n log saw = Then (ShowsStand n saw.stand) (FindsBoth (aside_of n.aside log) log saw.aside saw.log)
 
 -- the log, where it is there, behind it what was set aside, and these members
 abbrev pub files_behind : Option Path → Option Path → List Member → List Path
@@ -66,7 +66,7 @@ files_behind log aside members = listed log ++ (listed aside ++ map (λ m. m.pat
 
 -- The files of the call: the members, the oldest first, then what was set aside and not yet copied, which is newer than they are,
 -- and then the log, where it is there.
-abbrev pub files_of : Saw → List Path
+abbrev pub files_of : FamilySaw → List Path
 files_of saw = reverse (files_behind saw.log saw.aside saw.stand.members)
 
 -- It isn't known what stands, as this fault tells: of the family, or beside its members.
@@ -78,7 +78,8 @@ pub data SeesNone (n : Naming) (log : Path) (f : Fault) (ts : List Entry) : Type
 -- reading of its files broke off, or came to its end.
 pub data Works (n : Naming) (log : Path) (own : Option Fault) (texts : List FileText) (ts : List Entry) : Type 0 where
   not_seen : (f : Fault) → own ≡ Some f → texts ≡ [] → SeesNone n log f ts → Works n log own texts ts
-  broke_off : (saw : Saw) (f : Fault) → own ≡ Some f → Then (ShowsSaw n log saw) (BreaksOff (files_of saw) f texts) ts
+  broke_off : (saw : FamilySaw) (f : Fault) → own ≡ Some f
+      → Then (ShowsFamilySaw n log saw) (TextBreaksOff (files_of saw) f texts) ts
       → Works n log own texts ts
-  read_all : (saw : Saw) → own ≡ None → Then (ShowsSaw n log saw) (ReadsAllOf (files_of saw) texts) ts
+  read_all : (saw : FamilySaw) → own ≡ None → Then (ShowsFamilySaw n log saw) (ReadsAllOf (files_of saw) texts) ts
       → Works n log own texts ts

@@ -6,7 +6,7 @@ use Rattle.lr_host.specs.declared.journal.Journal.{Journal}
 use Rattle.lr_host.specs.Told.{Counts, Rose}
 use Rattle.lr_cat.specs.declared.stop.CatStop.{CatStop}
 use Rattle.lr_cat.specs.declared.stop.CatStop.TheVariants as stop
-use Rattle.lr_cat.specs.Texts.{FileText, HasCause, Passes}
+use Rattle.lr_cat.specs.Texts.{FileText, HasCause, PassesTexts}
 
 -- a fault that a call raised has its cause, and so has the lock of another
 abbrev pub StopCause : CatStop → Counts → Counts → ℕ → ℕ → Type 0
@@ -18,6 +18,6 @@ StopCause stop.Memory counted counts puts later = Unit {0}
 -- took nothing.
 abbrev pub CameTo : (Option Fault → List FileText → List Entry → Type 0) → Result (Unit {0}) CatStop → Option Journal
     → Option Journal → Option (List ℕ) → Option (List ℕ) → Type 0
-CameTo P (Ok done) told later before after = Passes (P None) None told later before after
-CameTo P (Err (stop.Fault f)) told later before after = Passes (P (Some f)) (Some f) told later before after
+CameTo P (Ok done) told later before after = PassesTexts (P None) None told later before after
+CameTo P (Err (stop.Fault f)) told later before after = PassesTexts (P (Some f)) (Some f) told later before after
 CameTo P (Err _) told later before after = after ≡ before

@@ -18,8 +18,8 @@ pub record FileText : Type 0 where
   pub path : Path
   pub bytes : List ℕ
 
-abbrev pub paths_of : List FileText → List Path
-paths_of texts = map (λ t. t.path) texts
+abbrev pub text_paths : List FileText → List Path
+text_paths texts = map (λ t. t.path) texts
 
 -- the texts, one behind another
 abbrev pub joined : List FileText → List ℕ
@@ -37,9 +37,9 @@ ReadsTexts [] ts = ts ≡ []
 ReadsTexts (t ∷ texts) ts = Then (ReadsWhole t) (ReadsTexts texts) ts
 
 -- a file was read so far: a read failed, or the output did, or it has more than 2^40 bytes
-abbrev pub ReadsSome : TextStop → FileText → List Entry → Type 0
-ReadsSome stop.TooLong t ts = (1_099_511_627_776 < length t.bytes) × ReadsOf t.path t.bytes ts
-ReadsSome _ t ts = ReadsOf t.path t.bytes ts
+abbrev pub ReadsTextPart : TextStop → FileText → List Entry → Type 0
+ReadsTextPart stop.TooLong t ts = (1_099_511_627_776 < length t.bytes) × ReadsOf t.path t.bytes ts
+ReadsTextPart _ t ts = ReadsOf t.path t.bytes ts
 
 abbrev pub text_fault : TextStop → Path → Fault
 text_fault stop.Read path = fault.Call call.Read path
@@ -47,19 +47,19 @@ text_fault stop.TooLong path = fault.TooLong path
 text_fault stop.Out path = fault.Out
 
 -- The first of these files were read whole, and the next so far.
-pub record BreaksOff (files : List Path) (f : Fault) (texts : List FileText) (ts : List Entry) : Type 0 where
+pub record TextBreaksOff (files : List Path) (f : Fault) (texts : List FileText) (ts : List Entry) : Type 0 where
   pub before : List FileText
   pub last : FileText
   pub behind : List Path
   pub why : TextStop
   pub texts_are : texts ≡ before ++ last ∷ []
-  pub files_are : files ≡ paths_of before ++ last.path ∷ behind
+  pub files_are : files ≡ text_paths before ++ last.path ∷ behind
   pub fault_is : f ≡ text_fault why last.path
-  pub reads : Then (ReadsTexts before) (ReadsSome why last) ts
+  pub reads : Then (ReadsTexts before) (ReadsTextPart why last) ts
 
 -- all of these files were read
 pub record ReadsAllOf (files : List Path) (texts : List FileText) (ts : List Entry) : Type 0 where
-  pub files_are : files ≡ paths_of texts
+  pub files_are : files ≡ text_paths texts
   pub reads : ReadsTexts texts ts
 
 -- ---- what the output took
@@ -70,7 +70,7 @@ TookBy (Some fault.Out) bytes before after = TookPart bytes before after
 TookBy _ bytes before after = Took bytes before after
 
 -- What was left, and what the output took, are of the same texts.
-pub record Passes (P : List FileText → List Entry → Type 0) (own : Option Fault) (told later : Option Journal)
+pub record PassesTexts (P : List FileText → List Entry → Type 0) (own : Option Fault) (told later : Option Journal)
     (before after : Option (List ℕ)) : Type 0 where
   pub texts : List FileText
   pub left : Left (P texts) told later

@@ -9,7 +9,7 @@ ghost use Rattle.lr_host.specs.Told.{Left, Can, NoneFell, Onward, WhereTold};
 ghost use Rattle.lr_host.specs.World.{world};
 ghost use Rattle.lr_cat.specs.Cats.{Cats, StopsSo};
 ghost use Rattle.lr_cat.specs.declared.stop.CatStop.TheVariants as stop;
-ghost use Rattle.lr_cat.specs.InternalCats.{EndsWork, Goes, GoesShort, dir_fault};
+ghost use Rattle.lr_cat.specs.InternalCats.{EndsWork, Goes, GoesShort, unseen_dir_fault};
 ghost use Rattle.lr_cat.specs.Saw.{Works, aside_of};
 ghost use Rattle.lr_cat.specs.Stops.{CameTo, StopCause};
 
@@ -179,7 +179,7 @@ fn no_dir(names: Names) -> CatStop
 
 // The look at it failed, or saw something else.
 fn not_dir(why: DirStop, names: Names) -> CatStop
-    ensures { result ≡ stop.Fault (dir_fault why names.dir) }
+    ensures { result ≡ stop.Fault (unseen_dir_fault why names.dir) }
 {
     let Names { dir, .. } = names;
     match why {

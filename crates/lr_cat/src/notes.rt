@@ -1,7 +1,7 @@
 // What there is to say of an outcome, put out.
 ghost use Rattle.std.specs.Prelude.{◌≡◌, ◌≤◌, OnErr, OnOk};
 ghost use Rattle.lr_host.specs.Told.{Rose};
-ghost use Rattle.lr_report.specs.Outcome.{text_of};
+ghost use Rattle.lr_report.specs.Outcome.{outcome_text};
 ghost use Rattle.lr_report.specs.Puts.{Took, TookPart};
 ghost use Rattle.lr_cat.specs.Outcome.{cat_outcome, notes_of};
 ghost use Rattle.lr_cat.specs.Says.{Noted};
@@ -41,7 +41,7 @@ pub fn noted<N: Sink>(log: &Path, outcome: CatOutcome, notes: &mut N) -> CatOutc
 /// The same of a call that came to no log.
 pub fn noted_early<N: Sink>(outcome: Outcome, notes: &mut N) -> CatOutcome
     ensures same { result ≡ cat_outcome outcome }
-    ensures noted { Noted (text_of outcome) (N.taken notes.old) (N.taken notes.new) (N.faults notes.old) (N.faults notes.new) }
+    ensures noted { Noted (outcome_text outcome) (N.taken notes.old) (N.taken notes.new) (N.faults notes.old) (N.faults notes.new) }
     ensures counts { N.faults notes.old ≤ N.faults notes.new }
 {
     cat_outcome(printed(outcome, notes))

@@ -2,7 +2,7 @@
 ghost use Rattle.std.specs.Prelude.{◌≡◌, ◌≤◌, ◌<◌, [], reverse, Some, None, length, OnOk, IfErr};
 ghost use Rattle.lr_host.specs.declared.entry.Entry.TheVariants as entry;
 ghost use Rattle.lr_host.specs.Told.{Can, Onward};
-ghost use Rattle.lr_cat.specs.Texts.{BreaksOff, CanReadAll, HasCause, Passes, ReadsAllOf, text_fault};
+ghost use Rattle.lr_cat.specs.Texts.{TextBreaksOff, CanReadAll, HasCause, PassesTexts, ReadsAllOf, text_fault};
 ghost use Rattle.lr_cat.specs.InternalTexts.{PassesOne, PassesSome};
 
 use lr_host::{Host, Sink};
@@ -79,10 +79,10 @@ pub fn put_texts<H: Host, K: Sink>(
     requires room { 0 < length buffer.old }
     requires short { length buffer.old ≤ 65536 }
     requires files { CanReadAll (H.told host.old) files.items }
-    ensures told { OnOk result (Passes (ReadsAllOf (reverse files.items)) None (H.told host.old) (H.told host.new) (K.taken out.old)
-        (K.taken out.new)) }
-    ensures stopped { IfErr result (λ f. Passes (BreaksOff (reverse files.items) f) (Some f) (H.told host.old) (H.told host.new)
+    ensures told { OnOk result (PassesTexts (ReadsAllOf (reverse files.items)) None (H.told host.old) (H.told host.new)
         (K.taken out.old) (K.taken out.new)) }
+    ensures stopped { IfErr result (λ f. PassesTexts (TextBreaksOff (reverse files.items) f) (Some f) (H.told host.old)
+        (H.told host.new) (K.taken out.old) (K.taken out.new)) }
     ensures cause { IfErr result (λ f. HasCause f (H.counts host.old) (H.counts host.new) (K.faults out.old) (K.faults out.new)) }
     ensures counts { Onward (H.counts host.old) (H.counts host.new) }
     ensures puts { K.faults out.old ≤ K.faults out.new }

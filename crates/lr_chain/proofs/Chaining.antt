@@ -15,11 +15,11 @@ use Rattle.lr_chain.specs.declared.ready.Move.{Move}
 use Rattle.lr_chain.specs.declared.chain.ChainStop.{ChainStop}
 use Rattle.lr_chain.specs.declared.chain.ChainStop.TheVariants as stop
 use Rattle.lr_chain.specs.Ready.{move_step, dir_calls, BehindDir}
-use Rattle.lr_chain.specs.Stops.{StopsAt, StopsFrom, ChainStopped, IsFrom, ChainCause}
+use Rattle.lr_chain.specs.Stops.{StopsAtStep, StopsFrom, ChainStopped, IsFrom, ChainCause}
 use Rattle.lr_chain.proofs.Dirs.{behind_can, behind_then, behind_as}
 
 -- the step behind these was refused
-stops_behind : (before : List Entry) (e : Entry) (after xs ys : List Entry) → xs ≡ before → (ys ≡ []) ⊎ (ys ≡ e ∷ []) → StopsAt (before ++ e ∷ after) e (xs ++ ys)
+stops_behind : (before : List Entry) (e : Entry) (after xs ys : List Entry) → xs ≡ before → (ys ≡ []) ⊎ (ys ≡ e ∷ []) → StopsAtStep (before ++ e ∷ after) e (xs ++ ys)
 stops_behind before e after xs ys p q = record {
   before = before;
   after = after;
@@ -36,7 +36,7 @@ pub move_refused : (moves all : List Move) (at : ℕ) (x : Move) {o m n : Option
     → Left (Are (map move_step (take at moves))) o m → Left (λ ts. (ts ≡ []) ⊎ (ts ≡ move_step x ∷ [])) m n → Left (StopsFrom (map move_step all) x.from) o n
 move_refused moves all at x same is lt so_far now = left_then so_far now (λ xs ys p q. record {
   to = x.to;
-  stops = subst (λ steps. StopsAt steps (move_step x) (xs ++ ys)) (split_at moves at x is lt ∙ ap (map move_step) same) (stops_behind (map move_step (take at moves)) (move_step x) (map move_step (drop (at + 1) moves)) xs ys p q);
+  stops = subst (λ steps. StopsAtStep steps (move_step x) (xs ++ ys)) (split_at moves at x is lt ∙ ap (map move_step) same) (stops_behind (map move_step (take at moves)) (move_step x) (map move_step (drop (at + 1) moves)) xs ys p q);
 })
 
 -- the log's rename was refused
@@ -45,7 +45,7 @@ pub last_refused : (d : Option (Path × Option ℕ)) (moves : List Move) (log ta
 last_refused d moves log target so_far now = behind_then d (Are (map move_step moves)) (λ ts. (ts ≡ []) ⊎ (ts ≡ Renames log target ∷ [])) (StopsFrom (map move_step moves ++ Renames log target ∷ []) log) so_far now (λ xs ys p q. record { to = target; stops = stops_behind (map move_step moves) (Renames log target) [] xs ys p q })
 
 -- what was refused among the first steps was so among all
-at_more : (xs ys : List Entry) (e : Entry) (ts : List Entry) → StopsAt xs e ts → StopsAt (xs ++ ys) e ts
+at_more : (xs ys : List Entry) (e : Entry) (ts : List Entry) → StopsAtStep xs e ts → StopsAtStep (xs ++ ys) e ts
 at_more xs ys e ts s = record {
   before = s.before;
   after = s.after ++ ys;

@@ -8,7 +8,7 @@ use Rattle.lr_rules.specs.declared.rule.Make.{Make}
 use Rattle.lr_rules.specs.declared.rule.Naming.{Naming}
 use Rattle.lr_host.specs.declared.entry.Entry.TheVariants.{Renames, Unlinks}
 use Rattle.lr_family.specs.declared.stand.Member.{Member}
-use Rattle.lr_chain.specs.Ready.{removals_of, steps_of}
+use Rattle.lr_chain.specs.Ready.{removals_of, ready_steps}
 use Rattle.lr_chain.specs.DatedRotation.{Ranked, gone, unlink, dated_rotation}
 use Rattle.lr_chain.specs.DatedReady.{removal_of, dated_target, all_by, dated_ready}
 
@@ -23,7 +23,7 @@ unlinks (x ∷ xs) = ap (λ es. Unlinks x.path ∷ es) (unlinks xs)
 
 -- the steps of a ready one are those of one dated rotation
 pub steps_are : (log : Path) (n : Naming) (c : Count) (maxage : Option ℕ) (clock : Clock) (anew : Make) (members : List Member)
-    → steps_of (dated_ready log n c maxage clock anew members) ≡ dated_rotation c log (dated_target n clock members) (all_by n maxage clock members)
+    → ready_steps (dated_ready log n c maxage clock anew members) ≡ dated_rotation c log (dated_target n clock members) (all_by n maxage clock members)
 steps_are log n c maxage clock anew members =
     ap (λ es. Renames log (dated_target n clock members) ∷ es)
     (unlinks (reverse (gone c 0 (all_by n maxage clock members))) ∙ map_reverse unlink (gone c 0 (all_by n maxage clock members)))

@@ -23,11 +23,11 @@ use Rattle.lr_chain.specs.DatedReady.{dated_target, all_by}
 use Rattle.lr_chain.specs.DatedRotation.{dated_rotation}
 use Rattle.lr_chain.specs.DatedTurning.{StandSo as StandDated, IsDatedTurned}
 use Rattle.lr_chain.specs.Prepared.{ready_of}
-use Rattle.lr_chain.specs.Ready.{IsCount, NoneTooHigh, steps_of}
+use Rattle.lr_chain.specs.Ready.{IsCount, NoneTooHigh, ready_steps}
 use Rattle.lr_chain.specs.Rotation.{places_of, is_left, going, rotation}
 use Rattle.lr_chain.specs.Standing.{StandSo as StandNumbered}
-use Rattle.lr_chain.specs.Turning.{IsTurned}
-use Rattle.lr_chain.specs.WhereTheyStand.{StandBy, AreTurnedBy, FitsWhereTheyStand, TurnsWhereTheyStand}
+use Rattle.lr_chain.specs.Turning.{IsChainTurned}
+use Rattle.lr_chain.specs.WhereTheyStand.{StandBy, AreTurnedBy, FitsWhereTheyStand, ReadyTurnsFamily}
 use Rattle.lr_chain.proofs.Bounds.{have_names, have_next, top_number}
 use Rattle.lr_chain.proofs.DatedSteps.{steps_are as dated_steps}
 use Rattle.lr_chain.proofs.DatedWhole.{fits, turns}
@@ -50,26 +50,26 @@ module _ (log : Path) (n : Naming) (c : Count) (maxage : Option ℕ) (clock : Cl
 
   -- ---- its steps
 
-  pub steps_numbers : n.dated ≡ None → steps_of ready ≡ rotation n c log (places_of members) from
-  steps_numbers numbered = ap steps_of (ready_numbers log n c maxage clock anew members numbered) ∙ numbered_steps log n c maxage clock.now.seconds anew members
+  pub steps_numbers : n.dated ≡ None → ready_steps ready ≡ rotation n c log (places_of members) from
+  steps_numbers numbered = ap ready_steps (ready_numbers log n c maxage clock anew members numbered) ∙ numbered_steps log n c maxage clock.now.seconds anew members
 
-  pub steps_by : (f : Format) → n.dated ≡ Some f → steps_of ready ≡ dated_rotation c log target (all_by n maxage clock members)
-  steps_by f dated = ap steps_of (ready_dates log n c maxage clock anew members f dated) ∙ dated_steps log n c maxage clock anew members
+  pub steps_by : (f : Format) → n.dated ≡ Some f → ready_steps ready ≡ dated_rotation c log target (all_by n maxage clock members)
+  steps_by f dated = ap ready_steps (ready_dates log n c maxage clock anew members f dated) ∙ dated_steps log n c maxage clock anew members
 
-  pub steps_dates : IsSome n.dated → steps_of ready ≡ dated_rotation c log target (all_by n maxage clock members)
+  pub steps_dates : IsSome n.dated → ready_steps ready ≡ dated_rotation c log target (all_by n maxage clock members)
   steps_dates some = go n.dated refl some
     where
-      go : (d : Option Format) → n.dated ≡ d → IsSome d → steps_of ready ≡ dated_rotation c log target (all_by n maxage clock members)
+      go : (d : Option Format) → n.dated ≡ d → IsSome d → ready_steps ready ≡ dated_rotation c log target (all_by n maxage clock members)
       go None e some = absurd (cc some)
       go (Some f) e some = steps_by f e
 
   -- ---- they fit, and turn the family
 
   abbrev Fits : Names → Type 0
-  Fits m = FitAll m (reverse (steps_of ready))
+  Fits m = FitAll m (reverse (ready_steps ready))
 
   abbrev Behind : Names → Names
-  Behind m = names_after m (changes_of (reverse (steps_of ready)))
+  Behind m = names_after m (changes_of (reverse (ready_steps ready)))
 
   module _ (kin : IsKin log n) (start : n.start ≤ 999999) (count : IsCount c) (named : AreNamed n members) (low : n.dated ≡ None → NoneTooHigh n c members) where
     within : n.dated ≡ None → Every (λ k. n.start + k ≤ 4294967295) (places_of members)
@@ -86,8 +86,8 @@ module _ (log : Path) (n : Naming) (c : Count) (maxage : Option ℕ) (clock : Cl
         up : parent_of ready.target ≡ n.dir
         up = ap (λ (r : Ready). parent_of r.target) (ready_numbers log n c maxage clock anew members numbered) ∙ stands_in log n 0 kin dir_path (let t = top_number n c start count in omega (arith, t))
 
-    turns_numbers : n.dated ≡ None → (m : Names) → StandNumbered log n (places_of members) m → IsTurned log n c from m (Behind m)
-    turns_numbers numbered m s = subst (λ (es : List Entry). IsTurned log n c from m (names_after m (changes_of (reverse es)))) (sym (steps_numbers numbered))
+    turns_numbers : n.dated ≡ None → (m : Names) → StandNumbered log n (places_of members) m → IsChainTurned log n c from m (Behind m)
+    turns_numbers numbered m s = subst (λ (es : List Entry). IsChainTurned log n c from m (names_after m (changes_of (reverse es)))) (sym (steps_numbers numbered))
         (family_turned log n kin numbered m c (places_of members) from (top_number n c start count) (falls_all (places_of members) s.falling) (within numbered) (next numbered)
         (going_are c maxage clock.now.seconds members s.falling) s)
 
@@ -107,7 +107,7 @@ module _ (log : Path) (n : Naming) (c : Count) (maxage : Option ℕ) (clock : Cl
           go None e s = fits_numbers dir_path e m dir s
           go (Some f) e s = fits_dates f e m dir s
 
-      pub ready_turns : TurnsWhereTheyStand log n c maxage clock anew members
+      pub ready_turns : ReadyTurnsFamily log n c maxage clock anew members
       ready_turns m s = go n.dated refl s
         where
           go : (d : Option Format) → n.dated ≡ d → StandBy d log n maxage clock members m → AreTurnedBy d log n c maxage clock members m (Behind m)

@@ -20,7 +20,7 @@ use Rattle.lr_family.proofs.Numbers.{Every, Falls, every_as, every_both, every_f
 use Rattle.lr_family.proofs.Paths.{places_apart, log_apart}
 use Rattle.lr_chain.specs.Rotation.{is_left, leftovers, kept, retired, unlink_at, move_at, leftover_steps, shift_steps, turn_steps, retire_steps, rotation}
 use Rattle.lr_chain.specs.Standing.{StandSo, AreGoing}
-use Rattle.lr_chain.specs.Turning.{turned, IsTurned}
+use Rattle.lr_chain.specs.Turning.{turned, IsChainTurned}
 use Rattle.lr_chain.proofs.Bounds.{top_of}
 use Rattle.lr_chain.proofs.Has.{has, has_below, has_next, has_filter, has_it, has_none, order}
 use Rattle.lr_chain.proofs.Kept.{kept_stay, kept_as}
@@ -298,7 +298,7 @@ module _ (log : Path) (n : Naming) (kin : IsKin log n) (numbered : n.dated ≡ N
 
   -- those that go, and the log where none is kept, are gone behind that
   ended : (m r : Names) (c : Count) (places from : List ℕ) → IsNumber (top_of n c) → Every (λ k. is_left c k ≡ false → IsNumber (k + 1)) places → AreGoing c places from → StandSo log n places m → Renamed c m r
-      → IsTurned log n c from m (run r (retire_steps n c from))
+      → IsChainTurned log n c from m (run r (retire_steps n c from))
   ended m r c places from small next going s f = record {
     members = members;
     log_gone = drops_aside r (retired c from) log numbers log_other ∙ f.log_gone;
@@ -324,9 +324,9 @@ module _ (log : Path) (n : Naming) (kin : IsKin log n) (numbered : n.dated ≡ N
 
   -- the whole
   pub family_turned : (m : Names) (c : Count) (places from : List ℕ) → IsNumber (top_of n c) → Falls places → Every IsNumber places → Every (λ k. is_left c k ≡ false → IsNumber (k + 1)) places → AreGoing c places from → StandSo log n places m
-      → IsTurned log n c from m (names_after m (changes_of (reverse (rotation n c log places from))))
+      → IsChainTurned log n c from m (names_after m (changes_of (reverse (rotation n c log places from))))
   family_turned m c places from small falls within next going s =
-      subst (IsTurned log n c from m) (sym parts) (ended m (run m (leftover_steps n c places ++ turn_steps n c log places)) c places from small next going s (renamed_so m c places small falls within next s))
+      subst (IsChainTurned log n c from m) (sym parts) (ended m (run m (leftover_steps n c places ++ turn_steps n c log places)) c places from small next going s (renamed_so m c places small falls within next s))
     where
       parts : names_after m (changes_of (reverse (rotation n c log places from))) ≡ run (run m (leftover_steps n c places ++ turn_steps n c log places)) (retire_steps n c from)
       parts = run_is m (rotation n c log places from) ∙ (ap (run m) (sym (append_assoc (leftover_steps n c places) (turn_steps n c log places) (retire_steps n c from))) ∙ run_both m (leftover_steps n c places ++ turn_steps n c log places) (retire_steps n c from))

@@ -99,8 +99,8 @@ abbrev pub removals_of : List Removal → List Entry
 removals_of list = flat_map steps_of_removal list
 
 -- all of its steps, its directory aside: the leftovers go, the members move, the log goes to its target, and those behind it go
-abbrev pub steps_of : Ready → List Entry
-steps_of ready = removals_of ready.leftovers ++ (turn_of ready ++ removals_of ready.retire)
+abbrev pub ready_steps : Ready → List Entry
+ready_steps ready = removals_of ready.leftovers ++ (turn_of ready ++ removals_of ready.retire)
 
 -- ---- the directory of a ready rotation, where one is to be made
 

@@ -16,7 +16,7 @@ use Rattle.lr_chain.specs.Directory.{DirStopped}
 use Rattle.lr_chain.specs.Ready.{BehindDir, removals_of}
 
 -- The steps before the refused one were made, and that one was refused: its entry stands or not.
-pub record StopsAt (steps : List Entry) (refused : Entry) (ts : List Entry) : Type 0 where
+pub record StopsAtStep (steps : List Entry) (refused : Entry) (ts : List Entry) : Type 0 where
   pub before : List Entry
   pub after : List Entry
   pub steps_are : steps ≡ before ++ refused ∷ after
@@ -25,7 +25,7 @@ pub record StopsAt (steps : List Entry) (refused : Entry) (ts : List Entry) : Ty
 -- one of the steps, a rename from this path, was refused so
 pub record StopsFrom (steps : List Entry) (from : Path) (ts : List Entry) : Type 0 where
   pub to : Path
-  pub stops : StopsAt steps (Renames from to) ts
+  pub stops : StopsAtStep steps (Renames from to) ts
 
 -- The directory wasn't made, for the reason that is told.
 abbrev pub DirRefused : Option (Path × Option ℕ) → ChainStop → List Entry → Type 0

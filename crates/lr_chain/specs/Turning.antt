@@ -17,7 +17,7 @@ turned c from log before zero = cond (is_left c 0) thing.Nothing log
 turned c from log before (suc place) = cond (is_left c (suc place) || list_any (λ p. p == place) from) thing.Nothing (before place)
 
 -- The family was turned: each member is where it belongs, the log's path names nothing, and each other path what it named.
-pub record IsTurned (log : Path) (n : Naming) (c : Count) (from : List ℕ) (before after : Names) : Type 0 where
+pub record IsChainTurned (log : Path) (n : Naming) (c : Count) (from : List ℕ) (before after : Names) : Type 0 where
   pub members : (place : ℕ) → n.start + place ≤ 4294967295 → after (path_at n place)
       ≡ turned c from (before log) (λ p. before (path_at n p)) place
   pub log_gone : after log ≡ thing.Nothing

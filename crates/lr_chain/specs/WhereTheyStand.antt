@@ -15,10 +15,10 @@ use Rattle.lr_family.specs.declared.stand.Member.{Member}
 use Rattle.lr_chain.specs.DatedReady.{dated_target, all_by}
 use Rattle.lr_chain.specs.DatedTurning.{StandSo as StandDated, IsDatedTurned}
 use Rattle.lr_chain.specs.Prepared.{ready_of}
-use Rattle.lr_chain.specs.Ready.{steps_of}
+use Rattle.lr_chain.specs.Ready.{ready_steps}
 use Rattle.lr_chain.specs.Rotation.{places_of, going}
 use Rattle.lr_chain.specs.Standing.{StandSo as StandNumbered}
-use Rattle.lr_chain.specs.Turning.{IsTurned}
+use Rattle.lr_chain.specs.Turning.{IsChainTurned}
 
 -- The log is a regular file, these members are regular files in their order, and no other member of the family names anything: by
 -- the format of the dates, where there is one.
@@ -31,7 +31,7 @@ StandBy (Some format) log n maxage clock members names = StandDated n log (dated
 -- for or that were too old; each other path names what it named.
 abbrev pub AreTurnedBy : Option Format → Path → Naming → Count → Option ℕ → Clock → List Member → Names → Names → Type 0
 AreTurnedBy None log n c maxage clock members before after =
-    IsTurned log n c (going c maxage clock.now.seconds members) before after
+    IsChainTurned log n c (going c maxage clock.now.seconds members) before after
 AreTurnedBy (Some format) log n c maxage clock members before after =
     IsDatedTurned n log (dated_target n clock members) c (all_by n maxage clock members) before after
 
@@ -40,10 +40,10 @@ abbrev pub FitsWhereTheyStand : Path → Naming → Count → Option ℕ → Clo
 FitsWhereTheyStand log n c maxage clock anew members = (names : Names)
     → IsDirectoryAt names (parent_of (ready_of log n c maxage clock anew members).target)
     → StandBy n.dated log n maxage clock members names → FitAll names
-    (reverse (steps_of (ready_of log n c maxage clock anew members)))
+    (reverse (ready_steps (ready_of log n c maxage clock anew members)))
 
 -- and turn the family
-abbrev pub TurnsWhereTheyStand : Path → Naming → Count → Option ℕ → Clock → Make → List Member → Type 0
-TurnsWhereTheyStand log n c maxage clock anew members = (names : Names) → StandBy n.dated log n maxage clock members names
+abbrev pub ReadyTurnsFamily : Path → Naming → Count → Option ℕ → Clock → Make → List Member → Type 0
+ReadyTurnsFamily log n c maxage clock anew members = (names : Names) → StandBy n.dated log n maxage clock members names
     → AreTurnedBy n.dated log n c maxage clock members names
-    (names_after names (changes_of (reverse (steps_of (ready_of log n c maxage clock anew members)))))
+    (names_after names (changes_of (reverse (ready_steps (ready_of log n c maxage clock anew members)))))

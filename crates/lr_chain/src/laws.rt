@@ -15,20 +15,20 @@ ghost use Rattle.lr_chain.specs.DatedReady.{dated_target, all_by};
 ghost use Rattle.lr_chain.specs.DatedRotation.{dated_rotation};
 ghost use Rattle.lr_chain.specs.Hindrances.{what_hinders};
 ghost use Rattle.lr_chain.specs.Prepared.{ready_of};
-ghost use Rattle.lr_chain.specs.Ready.{IsCount, steps_of};
+ghost use Rattle.lr_chain.specs.Ready.{IsCount, ready_steps};
 ghost use Rattle.lr_chain.specs.Rotation.{places_of, going, rotation};
-ghost use Rattle.lr_chain.specs.WhereTheyStand.{FitsWhereTheyStand, TurnsWhereTheyStand};
+ghost use Rattle.lr_chain.specs.WhereTheyStand.{FitsWhereTheyStand, ReadyTurnsFamily};
 
 /// The steps of what `prepare` makes ready are the entries of one rotation, in order.
 pub fn steps_of_ready()
     ensures numbers { (log : Path) (n : Naming) (c : Count) (maxage : Option ℕ) (clock : Clock) (anew : Make)
         (members : List Member)
         → n.dated ≡ None
-        → steps_of (ready_of log n c maxage clock anew members)
+        → ready_steps (ready_of log n c maxage clock anew members)
         ≡ rotation n c log (places_of members) (going c maxage clock.now.seconds members) }
     ensures dates { (log : Path) (n : Naming) (c : Count) (maxage : Option ℕ) (clock : Clock) (anew : Make) (members : List Member)
         → IsSome n.dated
-        → steps_of (ready_of log n c maxage clock anew members)
+        → ready_steps (ready_of log n c maxage clock anew members)
         ≡ dated_rotation c log (dated_target n clock members) (all_by n maxage clock members) }
 {}
 
@@ -46,5 +46,5 @@ pub fn ready_fits()
 pub fn ready_turns()
     ensures { (log : Path) (n : Naming) (c : Count) (maxage : Option ℕ) (clock : Clock) (anew : Make) (stand : Stand) → IsKin log n
         → n.start ≤ 999999 → IsCount c → or_none is_format n.dated ≡ true → AreNamed n stand.members
-        → what_hinders n c clock stand ≡ [] → TurnsWhereTheyStand log n c maxage clock anew stand.members }
+        → what_hinders n c clock stand ≡ [] → ReadyTurnsFamily log n c maxage clock anew stand.members }
 {}

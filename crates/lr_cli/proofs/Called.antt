@@ -41,7 +41,7 @@ use Rattle.lr_cli.specs.Faults.{answer_of, clock_answer, told_faults, HasCounted
 use Rattle.lr_cli.specs.Asked.{AskFor, planned_text}
 use Rattle.lr_cli.specs.Internal.{CameTo, TurnsByClock, only_looked, ran}
 use Rattle.lr_cli.specs.Safe.{HadClock, KeepsSafeByClock, no_clock as safe_without, by_clock}
-use Rattle.lr_report.specs.Outcome.{text_of}
+use Rattle.lr_report.specs.Outcome.{outcome_text}
 use Rattle.lr_cli.specs.Printed.{without_out, printed_of}
 use Rattle.lr_cli.specs.Says.{asked_text, Prints, Says}
 use Rattle.lr_cli.proofs.OutAside.{report_with}
@@ -133,20 +133,20 @@ abbrev pub IsLine : Outcome → Type 0
 IsLine (Done report) = ⊥
 IsLine _ = Unit {0}
 
-line_prints : (o : Outcome) (x y : Option (List ℕ)) (low high : ℕ) → IsLine o → TookPart (text_of o) x y → Took (text_of o) x y ⊎ Rose low high → Prints (printed_of [] o) o x y low high
+line_prints : (o : Outcome) (x y : Option (List ℕ)) (low high : ℕ) → IsLine o → TookPart (outcome_text o) x y → Took (outcome_text o) x y ⊎ Rose low high → Prints (printed_of [] o) o x y low high
 line_prints (Done report) x y low high i p w = absurd i
 line_prints BadWords x y low high i p w = record { printed = p; whole = w; broken_off = λ report e. absurd (cc) }
 line_prints Held x y low high i p w = record { printed = p; whole = w; broken_off = λ report e. absurd (cc) }
 line_prints OutOfMemory x y low high i p w = record { printed = p; whole = w; broken_off = λ report e. absurd (cc) }
 
-pub prints_line : (front : List ℕ) (o a : Outcome) (x y : Option (List ℕ)) (low high : ℕ) → IsLine o → front ≡ [] → a ≡ o → TookPart (text_of o) x y → Took (text_of o) x y ⊎ Rose low high → Prints (printed_of front a) a x y low high
+pub prints_line : (front : List ℕ) (o a : Outcome) (x y : Option (List ℕ)) (low high : ℕ) → IsLine o → front ≡ [] → a ≡ o → TookPart (outcome_text o) x y → Took (outcome_text o) x y ⊎ Rose low high → Prints (printed_of front a) a x y low high
 prints_line front o a x y low high i f e p w = subst (λ (b : Outcome). Prints (printed_of front b) b x y low high) (sym e) (subst (λ (t : List ℕ). Prints (printed_of t o) o x y low high) (sym f) (line_prints o x y low high i p w))
 
 -- ---- all that is told of a call
 
 -- words that ask for nothing, or there was no memory for what they ask for
 pub says_nothing : (here : Path) (words : List (List ℕ)) (zone : Zone) (seconds : ℤ) (a o : Outcome) (j : Option Journal) (counted counts : Counts) (x y : Option (List ℕ)) (low high : ℕ) → WhereTold j IsJournal → a ≡ o → (o ≡ BadWords) ⊎ (o ≡ OutOfMemory) → IsLine o → without_out a ≡ without_out o → without_out o ≡ o
-    → TookPart (text_of o) x y → Took (text_of o) x y ⊎ Rose low high → Says here words zone seconds a j j counted counts x y low high
+    → TookPart (outcome_text o) x y → Took (outcome_text o) x y ⊎ Rose low high → Says here words zone seconds a j j counted counts x y low high
 says_nothing here words zone seconds a o j counted counts x y low high disk same which i w v p t = record {
   came = None;
   plan = None;
@@ -188,12 +188,12 @@ says_so here words zone s seconds request plan a o j k counted counts x y low hi
 -- what was put of a report
 pub report_prints : (put : Result (Unit {0}) SinkFault) (front : List ℕ) (ns : List Notice) (fs : List Fault) (o : Outcome) (x y : Option (List ℕ)) (low high : ℕ) → Puts (front ++ lines ns fs) put x y low high → without_out o ≡ report_with ns fs → OnErr put (HasFault o fault.Out) → Prints (printed_of front o) o x y low high
 report_prints (Ok u) front ns fs o x y low high p e h = record {
-  printed = subst (λ (r : Outcome). TookPart (front ++ text_of r) x y) (sym e) p.part;
-  whole = inl (subst (λ (r : Outcome). Took (front ++ text_of r) x y) (sym e) p.whole);
-  broken_off = λ report is. inl (subst (λ (r : Outcome). Took (front ++ text_of r) x y) (sym e) p.whole);
+  printed = subst (λ (r : Outcome). TookPart (front ++ outcome_text r) x y) (sym e) p.part;
+  whole = inl (subst (λ (r : Outcome). Took (front ++ outcome_text r) x y) (sym e) p.whole);
+  broken_off = λ report is. inl (subst (λ (r : Outcome). Took (front ++ outcome_text r) x y) (sym e) p.whole);
 }
 report_prints (Err f) front ns fs o x y low high p e h = record {
-  printed = subst (λ (r : Outcome). TookPart (front ++ text_of r) x y) (sym e) p.part;
+  printed = subst (λ (r : Outcome). TookPart (front ++ outcome_text r) x y) (sym e) p.part;
   whole = inr p.cause;
   broken_off = λ report is. inr (subst (λ (r : Outcome). HasFault r fault.Out) is h);
 }

@@ -28,7 +28,7 @@ use Rattle.lr_clock.specs.declared.clock.ClockStop.TheVariants as clock_stop
 use Rattle.lr_report.specs.declared.outcome.Outcome.{Outcome}
 use Rattle.lr_report.specs.declared.outcome.Outcome.TheVariants.{Done, Held, OutOfMemory}
 use Rattle.lr_report.specs.declared.outcome.Report.{Report}
-use Rattle.lr_cli.specs.Called.{Came, no_reading, no_plan, Ends, CallHalts, no_clock, no_zone, behind_clock, CallEnds, halted, called, asked_by}
+use Rattle.lr_cli.specs.Called.{Came, no_reading, no_plan, PlanEnds, CallHalts, no_clock, no_zone, behind_clock, CallEnds, halted, called, asked_in}
 use Rattle.lr_clock.specs.Clock.{ShowsClock, ClockStopped}
 use Rattle.lr_cli.specs.Faults.{answer_of, clock_answer}
 use Rattle.lr_cli.specs.Internal.{ConfsEnd, confs_halted, confs_called, CameTo}
@@ -54,7 +54,7 @@ module _ (request : Request) (clock : Clock) (r : Reading) (earlier : List Fault
   came_in front None = None
   came_in front (Some w) = Some (came_of front w)
 
-  halt_ends : (result : Result Ran RunStop) (halt : Halt) (ts : List Entry) → Then (Reads request.confs (meaning_of r)) (Halts request.settings.debug request.settings.state r.rules clock (asked_by request) halt) ts → AnswersHalt earlier halt result
+  halt_ends : (result : Result Ran RunStop) (halt : Halt) (ts : List Entry) → Then (Reads request.confs (meaning_of r)) (Halts request.settings.debug request.settings.state r.rules clock (asked_in request) halt) ts → AnswersHalt earlier halt result
       → ConfsEnd request clock (plan_by result) (outcome_by r result) None ts
   halt_ends (Ok ran) (OfFaults own) ts t a = confs_halted refl a.0 (no_plan (meaning_of r) r.rules (OfFaults own) refl (ap (λ (fs : List Fault). Done (record { notices = r.notices; faults = fs })) (a.1 ∙ ap (λ (fs : List Fault). fs ++ own) same)) t)
   halt_ends (Ok ran) OfLock ts t a = absurd a
@@ -66,7 +66,7 @@ module _ (request : Request) (clock : Clock) (r : Reading) (earlier : List Fault
   halt_ends (Err stop.Memory) OfLock ts t a = absurd a
   halt_ends (Err stop.Memory) OfMemory ts t a = confs_halted refl refl (no_plan (meaning_of r) r.rules OfMemory refl refl t)
 
-  work_ends : (debug : Bool) (result : Result Ran RunStop) (front : List Entry) (w : Work) → AnswersWork debug request.settings.state clock earlier w result → Ends debug request (came_of front w) (plan_by result) (outcome_by r result)
+  work_ends : (debug : Bool) (result : Result Ran RunStop) (front : List Entry) (w : Work) → AnswersWork debug request.settings.state clock earlier w result → PlanEnds debug request (came_of front w) (plan_by result) (outcome_by r result)
   work_ends true (Ok ran) front w a = (record { plan = a.0.plan; notices = refl; faults = a.0.faults ∙ ap (λ (fs : List Fault). fs ++ (w.saw.faults ++ (w.plan.faults ++ act_faults w.acts))) same }, a.1)
   work_ends true (Err stop.Held) front w a = absurd a
   work_ends true (Err stop.Memory) front w a = absurd a
@@ -74,11 +74,11 @@ module _ (request : Request) (clock : Clock) (r : Reading) (earlier : List Fault
   work_ends false (Err stop.Held) front w a = absurd a
   work_ends false (Err stop.Memory) front w a = (refl, a)
 
-  run_ends : (result : Result Ran RunStop) (work : Option Work) (ts : List Entry) → (t : Then (Reads request.confs (meaning_of r)) (RunEnds request.settings.debug request.settings.state r.rules clock (asked_by request) earlier result work) ts)
+  run_ends : (result : Result Ran RunStop) (work : Option Work) (ts : List Entry) → (t : Then (Reads request.confs (meaning_of r)) (RunEnds request.settings.debug request.settings.state r.rules clock (asked_in request) earlier result work) ts)
       → ConfsEnd request clock (plan_by result) (outcome_by r result) (came_in t.front work) ts
   run_ends result work ts t = go t.front t.back t.joined t.first t.second
     where
-      go : (front back : List Entry) → ts ≡ front ++ back → Reads request.confs (meaning_of r) front → RunEnds request.settings.debug request.settings.state r.rules clock (asked_by request) earlier result work back
+      go : (front back : List Entry) → ts ≡ front ++ back → Reads request.confs (meaning_of r) front → RunEnds request.settings.debug request.settings.state r.rules clock (asked_in request) earlier result work back
           → ConfsEnd request clock (plan_by result) (outcome_by r result) (came_in front work) ts
       go front back joined read (ran.halted halt none h a) =
           subst (λ (o : Option Work). ConfsEnd request clock (plan_by result) (outcome_by r result) (came_in front o) ts) (sym none) (halt_ends result halt ts (record { front = front; back = back; joined = joined; first = read; second = h }) a)
@@ -93,7 +93,7 @@ module _ (request : Request) (clock : Clock) (r : Reading) (earlier : List Fault
   names_in (Err stop.Held) front (Some w) o n h c report is done acts = absurd (cc)
   names_in (Err stop.Memory) front (Some w) o n h c report is done acts = absurd (cc)
 
-  came_behind : (result : Result Ran RunStop) (work : Option Work) {o n : Option Journal} → Left (Then (Reads request.confs (meaning_of r)) (RunEnds request.settings.debug request.settings.state r.rules clock (asked_by request) earlier result work)) o n
+  came_behind : (result : Result Ran RunStop) (work : Option Work) {o n : Option Journal} → Left (Then (Reads request.confs (meaning_of r)) (RunEnds request.settings.debug request.settings.state r.rules clock (asked_in request) earlier result work)) o n
       → ((w : Work) (ran : Ran) → work ≡ Some w → result ≡ Ok ran → request.settings.debug ≡ false → TellsNamesOf request.settings.state clock w o n) → CameTo (ConfsEnd request clock (plan_by result) (outcome_by r result)) request (outcome_by r result) o n
   came_behind result work not_told h = record { came = None; shows = not_told; names = λ c report is done acts. absurd (none-some c is) }
   came_behind result work (is_told {j = j} {k = k} {es = es} made t) h = record {
@@ -102,7 +102,7 @@ module _ (request : Request) (clock : Clock) (r : Reading) (earlier : List Fault
     names = names_in result t.front work (Some j) (Some k) h;
   }
 
-  pub confs_came : (result : Result Ran RunStop) {o m n : Option Journal} → Left (Reads request.confs (meaning_of r)) o m → RanSo request.settings.debug request.settings.state r.rules clock (asked_by request) earlier result m n
+  pub confs_came : (result : Result Ran RunStop) {o m n : Option Journal} → Left (Reads request.confs (meaning_of r)) o m → RanSo request.settings.debug request.settings.state r.rules clock (asked_in request) earlier result m n
       → CameTo (ConfsEnd request clock (plan_by result) (outcome_by r result)) request (outcome_by r result) o n
   confs_came result a h = came_behind result h.work (left_both a h.shows)
       (λ w ran is done acts. record { named = (h.names w ran is done acts).named; taken = λ x last i. taken_later x a ((h.names w ran is done acts).taken x last i) })
@@ -125,7 +125,7 @@ module _ (request : Request) (zone : Zone) (seconds : ℤ) (clock : Clock) (plan
   clocked front None = None
   clocked front (Some c) = Some (with_clock front c)
 
-  ends_so : (debug : Bool) (o : Outcome) (front : List Entry) (c : Came) → Ends debug request c plan o → Ends debug request (with_clock front c) plan o
+  ends_so : (debug : Bool) (o : Outcome) (front : List Entry) (c : Came) → PlanEnds debug request c plan o → PlanEnds debug request (with_clock front c) plan o
   ends_so true (Done report) front c e = (record { plan = e.0.plan; notices = e.0.notices; faults = e.0.faults }, e.1)
   ends_so false (Done report) front c e = (record { plan = e.0.plan; notices = e.0.notices; faults = e.0.faults }, e.1)
   ends_so false OutOfMemory front c e = e

@@ -16,7 +16,7 @@ use Rattle.lr_run.specs.Runs.{in_acts}
 use Rattle.lr_seen.proofs.Elements.{in_each}
 use Rattle.lr_plan.specs.declared.plan.Plan.{Plan}
 use Rattle.lr_report.specs.declared.outcome.Outcome.{Outcome}
-use Rattle.lr_cli.specs.Called.{Came, call_entries, asked_by, Ends, CallEnds, halted, called}
+use Rattle.lr_cli.specs.Called.{Came, call_entries, asked_in, PlanEnds, CallEnds, halted, called}
 use Rattle.lr_cli.proofs.Still.{front_quiet, dry_quiet, halt_still}
 use Rattle.lr_host.specs.Told.{Left}
 use Rattle.lr_host.specs.declared.journal.Journal.{Journal}
@@ -51,16 +51,16 @@ ends_lets request zone seconds plan outcome came ts (called c some s e is) = go 
     parts : (b : Bool) → request.settings.debug ≡ b → ts ≡ front ++ run_entries b state c.clock c.rules c.work
     parts b dry = is ∙ (ap (λ (x : Bool). c.of_clock ++ (c.of_confs ++ run_entries x state c.clock c.rules c.work)) dry ∙ sym (append_assoc c.of_clock c.of_confs (run_entries b state c.clock c.rules c.work)))
 
-    shows : request.settings.debug ≡ false → ShowsWork false state c.rules.sets c.clock (asked_by request) c.work
-    shows acts = subst (λ (b : Bool). ShowsWork b state c.rules.sets c.clock (asked_by request) c.work) acts s.confs.work
+    shows : request.settings.debug ≡ false → ShowsWork false state c.rules.sets c.clock (asked_in request) c.work
+    shows acts = subst (λ (b : Bool). ShowsWork b state c.rules.sets c.clock (asked_in request) c.work) acts s.confs.work
 
     behind : request.settings.debug ≡ false → LetsInRun (run_entries false state c.clock c.rules c.work) → LetsInRun ts
     behind acts lets = subst LetsInRun (sym (parts false acts)) (behind_lets front (run_entries false state c.clock c.rules c.work) (front_quiet request zone seconds c s) lets)
 
-    go : (b : Bool) → request.settings.debug ≡ b → (o : Outcome) → Ends b request c plan o → LetsInRun ts
+    go : (b : Bool) → request.settings.debug ≡ b → (o : Outcome) → PlanEnds b request c plan o → LetsInRun ts
     go true dry (Done report) e = subst LetsInRun (sym is) (quiet_run_lets (call_entries request c) (dry_quiet request zone seconds c dry s))
-    go false acts (Done report) e = behind acts (runs_lets state c.rules c.clock (asked_by request) (Some c.work.plan) (faults_of c.work) (run_entries false state c.clock c.rules c.work) (carried_left state c.rules c.clock (asked_by request) c.work (shows acts) e.1))
-    go false acts OutOfMemory e = behind acts (answers_lets state c.rules c.clock (asked_by request) [] (Err stop.Memory) (run_entries false state c.clock c.rules c.work) (in_acts (broken_left state c.rules c.clock (asked_by request) c.work (shows acts) e.1)))
+    go false acts (Done report) e = behind acts (runs_lets state c.rules c.clock (asked_in request) (Some c.work.plan) (faults_of c.work) (run_entries false state c.clock c.rules c.work) (carried_left state c.rules c.clock (asked_in request) c.work (shows acts) e.1))
+    go false acts OutOfMemory e = behind acts (answers_lets state c.rules c.clock (asked_in request) [] (Err stop.Memory) (run_entries false state c.clock c.rules c.work) (in_acts (broken_left state c.rules c.clock (asked_in request) c.work (shows acts) e.1)))
     go _ dry _ e = absurd e
 
 -- ---- the call

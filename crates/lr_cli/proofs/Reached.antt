@@ -37,7 +37,7 @@ use Rattle.lr_report.specs.declared.outcome.Outcome.TheVariants.{Done, BadWords,
 use Rattle.lr_report.specs.declared.outcome.Report.{Report}
 use Rattle.lr_cli.specs.Asked.{AskFor}
 use Rattle.lr_cli.specs.Before.{AreStill, IsOfZone, MayEndCall, MayEndDry, SaysWhyDry, EndsBefore}
-use Rattle.lr_cli.specs.Called.{Came, asked_by, answer_by, ConfsHalt, no_reading, no_plan, CallHalts, no_clock, no_zone, behind_clock, CallEnds, halted, called, CallShows, not_read, read}
+use Rattle.lr_cli.specs.Called.{Came, asked_in, answer_by, ConfsHalt, no_reading, no_plan, CallHalts, no_clock, no_zone, behind_clock, CallEnds, halted, called, CallShows, not_read, read}
 use Rattle.lr_clock.specs.Clock.{LacksClock, out_of_range, no_text, refused}
 use Rattle.lr_clock.specs.Zone.{LacksText, not_file, too_big, look_failed as text_look_failed, read_failed as text_read_failed}
 use Rattle.lr_cli.proofs.Still.{clock_quiet, stop_quiet, same_request, halt_still}
@@ -109,9 +109,9 @@ module _ (request : Request) (zone : Zone) (seconds : ℤ) (report : Report) whe
   same_faults : (notices : List _) (fs : List Fault) → Done report ≡ Done (record { notices = notices; faults = fs }) → report.faults ≡ fs
   same_faults notices fs e = cc
 
-  run_why : request.settings.debug ≡ false → (clock : Clock) (meaning : Meaning) (rules : Rules) (halt : Halt) (us : List Entry) → Done report ≡ answer_by meaning halt → (t : Then (Reads request.confs meaning) (Halts request.settings.debug state rules clock (asked_by request) halt) us) → Unreached state zone report.faults (behind_start us)
+  run_why : request.settings.debug ≡ false → (clock : Clock) (meaning : Meaning) (rules : Rules) (halt : Halt) (us : List Entry) → Done report ≡ answer_by meaning halt → (t : Then (Reads request.confs meaning) (Halts request.settings.debug state rules clock (asked_in request) halt) us) → Unreached state zone report.faults (behind_start us)
   run_why acts clock meaning rules (OfFaults own) us e t =
-      let u = halt_unreached state (asked_by request) clock rules own t.back (subst (λ (b : Bool). Halts b state rules clock (asked_by request) (OfFaults own) t.back) acts t.second) in
+      let u = halt_unreached state (asked_in request) clock rules own t.back (subst (λ (b : Bool). Halts b state rules clock (asked_in request) (OfFaults own) t.back) acts t.second) in
       record {
         before = meaning.faults ++ u.before;
         last = u.last;
@@ -134,9 +134,9 @@ module _ (request : Request) (zone : Zone) (seconds : ℤ) (report : Report) whe
   halt_why acts ts (behind_clock clock t) = subst (Unreached state zone report.faults) (sym (ap behind_start t.joined ∙ behind_quiet t.front t.back (clock_quiet zone seconds clock t.front t.first))) (confs_why acts clock t.back t.second)
 
   -- a dry one
-  run_dry : request.settings.debug ≡ true → (clock : Clock) (meaning : Meaning) (rules : Rules) (halt : Halt) (us : List Entry) → Done report ≡ answer_by meaning halt → (t : Then (Reads request.confs meaning) (Halts request.settings.debug state rules clock (asked_by request) halt) us) → SaysWhyDry state zone report.faults
+  run_dry : request.settings.debug ≡ true → (clock : Clock) (meaning : Meaning) (rules : Rules) (halt : Halt) (us : List Entry) → Done report ≡ answer_by meaning halt → (t : Then (Reads request.confs meaning) (Halts request.settings.debug state rules clock (asked_in request) halt) us) → SaysWhyDry state zone report.faults
   run_dry dry clock meaning rules (OfFaults own) us e t =
-      let w = try_why state (asked_by request) clock rules own t.back (subst (λ (b : Bool). Halts b state rules clock (asked_by request) (OfFaults own) t.back) dry t.second) in
+      let w = try_why state (asked_in request) clock rules own t.back (subst (λ (b : Bool). Halts b state rules clock (asked_in request) (OfFaults own) t.back) dry t.second) in
       record {
         before = meaning.faults ++ w.before;
         last = w.last;

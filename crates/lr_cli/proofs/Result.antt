@@ -21,7 +21,7 @@ use Rattle.lr_host.proofs.Each.{each_as}
 use Rattle.lr_host.proofs.Lists.{in_back}
 use Rattle.lr_host.proofs.Made.{Cut}
 use Rattle.lr_due.specs.declared.tz.Zone.{Zone}
-use Rattle.lr_durable.specs.Renewing.{IsAsideOf, MayRenew, left_alone}
+use Rattle.lr_durable.specs.Renewing.{LeavesAlone, MayRenew, left_alone}
 use Rattle.lr_durable.specs.StateWhole.{KeepsWhole}
 use Rattle.lr_copy.specs.declared.job.Job.{Job}
 use Rattle.lr_copy.specs.Fits.{ArePaths}
@@ -73,7 +73,7 @@ use Rattle.lr_report.specs.declared.outcome.Outcome.TheVariants.{Done, OutOfMemo
 use Rattle.lr_report.specs.declared.outcome.Report.{Report}
 use Rattle.lr_cli.specs.Asked.{AskFor}
 use Rattle.lr_cli.specs.Before.{IsStill, AreStill}
-use Rattle.lr_cli.specs.Called.{Came, call_entries, asked_by, ShowsCame, Tells, Ends, CallEnds, halted, called, CallShows, not_read, read}
+use Rattle.lr_cli.specs.Called.{Came, call_entries, asked_in, ShowsCame, Tells, PlanEnds, CallEnds, halted, called, CallShows, not_read, read}
 use Rattle.lr_report.specs.Reported.{AreReported}
 use Rattle.lr_cli.specs.Faults.{HasCounted}
 use Rattle.lr_cli.specs.Result.{SawTruly, Makes, IsCalled, IsTextOf, IsCopyIn}
@@ -140,8 +140,8 @@ module _ (request : Request) (zone : Zone) (seconds : ℤ) (c : Came) (j k : Jou
     abbrev run : List Entry
     run = run_entries false state c.clock c.rules c.work
 
-    shows : ShowsWork false state c.rules.sets c.clock (asked_by request) c.work
-    shows = subst (λ (b : Bool). ShowsWork b state c.rules.sets c.clock (asked_by request) c.work) acts shown.confs.work
+    shows : ShowsWork false state c.rules.sets c.clock (asked_in request) c.work
+    shows = subst (λ (b : Bool). ShowsWork b state c.rules.sets c.clock (asked_in request) c.work) acts shown.confs.work
 
     acting : reverse (reverse entries) ≡ front ++ run
     acting = joined ∙ ap (λ (b : Bool). front ++ run_entries b state c.clock c.rules c.work) acts
@@ -152,14 +152,14 @@ module _ (request : Request) (zone : Zone) (seconds : ℤ) (c : Came) (j k : Jou
     module _ (report : Report) (plan : Option Plan) (tells : Tells c plan report) (names : TellsNamesOf state c.clock c.work (Some j) (Some k)) (counted counts : Counts) (are : AreReported report.faults counted counts) where
       fulfilled_so : act_faults c.work.acts ≡ [] → IsFulfilled state c.clock c.work entries (past j) (past k)
       fulfilled_so none = subst (λ (us : List Entry). IsFulfilled state c.clock c.work us (past j) (past k)) (reverse-reverse entries)
-          (fulfilled state (asked_by request) c.clock c.rules c.work (past j) (past k) (reverse entries) front made journal acting (front_sights request zone seconds c shown) shows out none names.named)
+          (fulfilled state (asked_in request) c.clock c.rules c.work (past j) (past k) (reverse entries) front made journal acting (front_sights request zone seconds c shown) shows out none names.named)
 
       -- the acts' own faults are told
       of_acts : {n : List Fault → ℕ} → ((xs ys : List Fault) → n (xs ++ ys) ≡ 0 → n ys ≡ 0) → n report.faults ≡ 0 → n (act_faults c.work.acts) ≡ 0
       of_acts {n} own_so none = own_so c.work.plan.faults (act_faults c.work.acts) (own_so c.work.saw.faults (c.work.plan.faults ++ act_faults c.work.acts) (own_so c.meaning.faults (faults_of c.work) (subst (λ (fs : List Fault). n fs ≡ 0) tells.faults none)))
 
       smooth_so : NoneRose counted counts → IsSmooth state (jobs_of c.work.plan.sets) (dirs_in c.work.plan) (past j) (past k) → act_faults c.work.acts ≡ []
-      smooth_so none smooth = run_fails_nothing state (asked_by request) c.clock c.rules c.work j k (reverse entries) front made journal acting quiet shows out names smooth
+      smooth_so none smooth = run_fails_nothing state (asked_in request) c.clock c.rules c.work j k (reverse entries) front made journal acting quiet shows out names smooth
           (of_acts own_calls (none_told report.faults counted counts are none).0) (of_acts own_ends (none_told report.faults counted counts are none).1)
 
       met_so : MetNothing (dirs_in c.work.plan) report.faults → MetNothing (dirs_in c.work.plan) (faults_of c.work)
@@ -168,8 +168,8 @@ module _ (request : Request) (zone : Zone) (seconds : ℤ) (c : Came) (j k : Jou
       reached_so : NoneEnds state report.faults × SawState state (behind_start entries)
       reached_so = (
         subst (NoneEnds state) (sym tells.faults) (none_both state c.meaning.faults (faults_of c.work) (means_none state request.confs c.meaning c.of_confs shown.confs.read)
-            (carried_none state (asked_by request) c.clock c.rules c.work cut.mid (past k) cut.second shows out)),
-        subst (SawState state) (sym (ap behind_start all_acting ∙ behind_quiet front run quiet)) (carried_saw state (asked_by request) c.clock c.rules c.work shows out),
+            (carried_none state (asked_in request) c.clock c.rules c.work cut.mid (past k) cut.second shows out)),
+        subst (SawState state) (sym (ap behind_start all_acting ∙ behind_quiet front run quiet)) (carried_saw state (asked_in request) c.clock c.rules c.work shows out),
       )
         where
           cut : Cut (past j) (past k) (reverse run) (reverse front)
@@ -177,12 +177,12 @@ module _ (request : Request) (zone : Zone) (seconds : ℤ) (c : Came) (j k : Jou
 
       makes : Makes request c report counted counts j k
       makes = record {
-        turned = λ none. logs_turned state (asked_by request) c.clock c.rules c.work (past j) (past k) (reverse entries) front made journal acting quiet shows out none;
+        turned = λ none. logs_turned state (asked_in request) c.clock c.rules c.work (past j) (past k) (reverse entries) front made journal acting quiet shows out none;
         fulfilled = fulfilled_so;
         smooth = smooth_so;
         complete = λ none read saw planned. tells.faults ∙ (ap (λ (fs : List Fault). fs ++ faults_of c.work) read ∙ (ap (λ (fs : List Fault). fs ++ (c.work.plan.faults ++ act_faults c.work.acts)) saw ∙ (ap (λ (fs : List Fault). fs ++ act_faults c.work.acts) planned ∙ none)));
-        told_of_logs = λ m. logs_met_nothing state c.rules.sets c.clock (asked_by request) c.work shows.plan out (met_so m);
-        told_of_all = λ n. run_met_nothing state c.rules.sets c.clock (asked_by request) c.work shows.plan out
+        told_of_logs = λ m. logs_met_nothing state c.rules.sets c.clock (asked_in request) c.work shows.plan out (met_so m);
+        told_of_all = λ n. run_met_nothing state c.rules.sets c.clock (asked_in request) c.work shows.plan out
             (record { met = met_so n.met; not_taken = λ i. n.not_taken (subst (IsIn (fault.Taken (state_part state))) (sym tells.faults) (in_back (fault.Taken (state_part state)) c.meaning.faults (faults_of c.work) i)) });
         names = names;
         reached = reached_so;
@@ -190,42 +190,42 @@ module _ (request : Request) (zone : Zone) (seconds : ℤ) (c : Came) (j k : Jou
 
     -- it left all else alone
     rest_so : LeavesRest state c.work.saw.kept (targets_in c.work.plan) (past j) (past k)
-    rest_so = done_rest state (asked_by request) c.clock c.rules c.work shows (past j) (past k) (reverse entries) front made journal acting quiet out
+    rest_so = done_rest state (asked_in request) c.clock c.rules c.work shows (past j) (past k) (reverse entries) front made journal acting quiet out
 
     sets_so : LeavesSets (targets_in c.work.plan) (past j) (past k)
-    sets_so = done_sets state (asked_by request) c.clock c.rules c.work shows (past j) (past k) (reverse entries) front made journal acting quiet out
+    sets_so = done_sets state (asked_in request) c.clock c.rules c.work shows (past j) (past k) (reverse entries) front made journal acting quiet out
 
   given_so : AreGivenBy c.rules.sets c.work.plan
-  given_so = logs_given request.settings.debug state (asked_by request) c.clock c.rules c.work (past j) (past k) (reverse entries) front made joined shown.confs.work.seen.sets shown.confs.work.plan
+  given_so = logs_given request.settings.debug state (asked_in request) c.clock c.rules c.work (past j) (past k) (reverse entries) front made joined shown.confs.work.seen.sets shown.confs.work.plan
 
   -- ---- a dry one
 
   tries_so : (report : Report) (plan : Option Plan) → request.settings.debug ≡ true → Tells c plan report → DidNothing c.work → NoneEndsTry state report.faults
   tries_so report plan dry tells nothing = subst (NoneEndsTry state) (sym tells.faults) (try_both state c.meaning.faults (faults_of c.work) (none_try state c.meaning.faults (means_none state request.confs c.meaning c.of_confs shown.confs.read))
-      (tried_none state (asked_by request) c.clock c.rules c.work (subst (λ (b : Bool). ShowsWork b state c.rules.sets c.clock (asked_by request) c.work) dry shown.confs.work) nothing))
+      (tried_none state (asked_in request) c.clock c.rules c.work (subst (λ (b : Bool). ShowsWork b state c.rules.sets c.clock (asked_in request) c.work) dry shown.confs.work) nothing))
 
   -- ---- one that broke off
 
   module _ (acts : request.settings.debug ≡ false) (out : BreaksOff c.work) where
-    broken_shows : ShowsWork false state c.rules.sets c.clock (asked_by request) c.work
-    broken_shows = subst (λ (b : Bool). ShowsWork b state c.rules.sets c.clock (asked_by request) c.work) acts shown.confs.work
+    broken_shows : ShowsWork false state c.rules.sets c.clock (asked_in request) c.work
+    broken_shows = subst (λ (b : Bool). ShowsWork b state c.rules.sets c.clock (asked_in request) c.work) acts shown.confs.work
 
     broken_entries : reverse (reverse entries) ≡ front ++ run_entries false state c.clock c.rules c.work
     broken_entries = joined ∙ ap (λ (b : Bool). front ++ run_entries b state c.clock c.rules c.work) acts
 
     broken_rest : LeavesRest state c.work.saw.kept (targets_in c.work.plan) (past j) (past k)
-    broken_rest = cut_rest state (asked_by request) c.clock c.rules c.work broken_shows (past j) (past k) (reverse entries) front made journal broken_entries quiet out
+    broken_rest = cut_rest state (asked_in request) c.clock c.rules c.work broken_shows (past j) (past k) (reverse entries) front made journal broken_entries quiet out
 
     broken_sets : LeavesSets (targets_in c.work.plan) (past j) (past k)
-    broken_sets = cut_sets state (asked_by request) c.clock c.rules c.work broken_shows (past j) (past k) (reverse entries) front made journal broken_entries quiet out
+    broken_sets = cut_sets state (asked_in request) c.clock c.rules c.work broken_shows (past j) (past k) (reverse entries) front made journal broken_entries quiet out
 
   short_so : request.settings.debug ≡ false → BreaksOff c.work → RunNothing c.rules.sets → ⊥
-  short_so acts out none = never_broke_off state c.rules.sets c.clock (asked_by request) (c.work.reads ++ (c.work.looks ++ c.work.did)) none
-      (broken_of state c.rules c.clock (asked_by request) c.work (subst (λ (b : Bool). ShowsWork b state c.rules.sets c.clock (asked_by request) c.work) acts shown.confs.work) out)
+  short_so acts out none = never_broke_off state c.rules.sets c.clock (asked_in request) (c.work.reads ++ (c.work.looks ++ c.work.did)) none
+      (broken_of state c.rules c.clock (asked_in request) c.work (subst (λ (b : Bool). ShowsWork b state c.rules.sets c.clock (asked_in request) c.work) acts shown.confs.work) out)
 
   -- ---- all of it
 
-  called_so : (debug : Bool) → request.settings.debug ≡ debug → (plan : Option Plan) (outcome : Outcome) → Ends debug request c plan outcome → (counted counts : Counts) → HasCounted outcome counted counts
+  called_so : (debug : Bool) → request.settings.debug ≡ debug → (plan : Option Plan) (outcome : Outcome) → PlanEnds debug request c plan outcome → (counted counts : Counts) → HasCounted outcome counted counts
       → ((report : Report) → outcome ≡ Done report → request.settings.debug ≡ false → TellsNamesOf state c.clock c.work (Some j) (Some k)) → IsCalled request c outcome counted counts j k
   called_so true is plan (Done report) e counted counts are names = record {
     saw = saw_truly;
@@ -240,7 +240,7 @@ module _ (request : Request) (zone : Zone) (seconds : ℤ) (c : Came) (j k : Jou
   called_so false is plan (Done report) e counted counts are names = record {
     saw = saw_truly;
     given = given_so;
-    only = λ acts. done_only state (asked_by request) c.clock c.rules c.work (shows acts e.1) e.1;
+    only = λ acts. done_only state (asked_in request) c.clock c.rules c.work (shows acts e.1) e.1;
     rest = λ acts. rest_so acts e.1;
     sets = λ acts. sets_so acts e.1;
     made = λ other acts done. subst (λ (r : Report). Makes request c r counted counts j k) (same_report report other done) (makes acts e.1 report plan e.0 (names report refl acts) counted counts are);
@@ -250,7 +250,7 @@ module _ (request : Request) (zone : Zone) (seconds : ℤ) (c : Came) (j k : Jou
   called_so false is plan OutOfMemory e counted counts are names = record {
     saw = saw_truly;
     given = given_so;
-    only = λ acts. cut_only state (asked_by request) c.clock c.rules c.work (broken_shows acts e.1) e.1;
+    only = λ acts. cut_only state (asked_in request) c.clock c.rules c.work (broken_shows acts e.1) e.1;
     rest = λ acts. broken_rest acts e.1;
     sets = λ acts. broken_sets acts e.1;
     made = λ other acts done. absurd (cc);
@@ -286,7 +286,7 @@ came_so here words zone seconds plan outcome came counted counts disk (is_told {
 -- ---- the state at each moment
 
 -- what is still leaves each path alone
-still_aside : (x : Path) (e : Entry) → IsStill e → IsAsideOf x e
+still_aside : (x : Path) (e : Entry) → IsStill e → LeavesAlone x e
 still_aside x (entry.Look y seen) s = λ i. i
 still_aside x (entry.List y names) s = λ i. i
 still_aside x (entry.Reads y place piece) s = λ i. i
@@ -295,7 +295,7 @@ still_aside x entry.Ends s = λ i. i
 still_aside x _ s = absurd s
 
 still_may : (state : Path) (IsText : List ℕ → Type 0) (ts : List Entry) → AreStill ts → MayRenew state IsText ts
-still_may state IsText ts still = left_alone (each_as IsStill (IsAsideOf state) ts (still_aside state) still)
+still_may state IsText ts still = left_alone (each_as IsStill (LeavesAlone state) ts (still_aside state) still)
 
 ends_may : (request : Request) (zone : Zone) (seconds : ℤ) (plan : Option Plan) (outcome : Outcome) (came : Option Came) (ts : List Entry) → AreMade ts → CallEnds request zone seconds plan outcome came ts → MayRenew request.settings.state (IsTextOf request.settings.debug outcome came) ts
 ends_may request zone seconds plan outcome came ts made (halted none lost h) = still_may request.settings.state (IsTextOf request.settings.debug outcome came) ts (halt_still request zone seconds outcome ts h)
@@ -313,15 +313,15 @@ ends_may request zone seconds plan outcome came ts made (called c some s e is) =
     run_made : request.settings.debug ≡ false → AreMade (run_entries false state c.clock c.rules c.work)
     run_made acts = made_later front (run_entries false state c.clock c.rules c.work) (subst AreMade (is ∙ parts false acts) made)
 
-    shows : request.settings.debug ≡ false → ShowsWork false state c.rules.sets c.clock (asked_by request) c.work
-    shows acts = subst (λ (b : Bool). ShowsWork b state c.rules.sets c.clock (asked_by request) c.work) acts s.confs.work
+    shows : request.settings.debug ≡ false → ShowsWork false state c.rules.sets c.clock (asked_in request) c.work
+    shows acts = subst (λ (b : Bool). ShowsWork b state c.rules.sets c.clock (asked_in request) c.work) acts s.confs.work
 
-    go : (b : Bool) → request.settings.debug ≡ b → (o : Outcome) → Ends b request c plan o → MayRenew state (IsTextOf b o (Some c)) (call_entries request c)
+    go : (b : Bool) → request.settings.debug ≡ b → (o : Outcome) → PlanEnds b request c plan o → MayRenew state (IsTextOf b o (Some c)) (call_entries request c)
     go true dry (Done report) e = quiet_alone state (IsTextOf true (Done report) (Some c)) (call_entries request c) (dry_quiet request zone seconds c dry s)
     go false acts (Done report) e = subst (MayRenew state (IsTextOf false (Done report) (Some c))) (sym (parts false acts)) (may_behind state (IsTextOf false (Done report) (Some c)) (IsTextOf false (Done report) (Some c)) (λ text t. t) front (run_entries false state c.clock c.rules c.work) (front_quiet request zone seconds c s)
-        (carried_may state c.rules c.clock (asked_by request) c.work (shows acts) e.1 (run_made acts)))
+        (carried_may state c.rules c.clock (asked_in request) c.work (shows acts) e.1 (run_made acts)))
     go false acts OutOfMemory e = subst (MayRenew state (IsTextOf false OutOfMemory (Some c))) (sym (parts false acts)) (may_behind state (IsTextOf false OutOfMemory (Some c)) (IsTextOf false OutOfMemory (Some c)) (λ text t. t) front (run_entries false state c.clock c.rules c.work) (front_quiet request zone seconds c s)
-        (broken_may state c.rules c.clock (asked_by request) c.work (shows acts) e.1 (IsTextOf false OutOfMemory (Some c)) (run_made acts)))
+        (broken_may state c.rules c.clock (asked_in request) c.work (shows acts) e.1 (IsTextOf false OutOfMemory (Some c)) (run_made acts)))
     go _ dry _ e = absurd e
 
 pub came_whole : (here : Path) (words : List (List ℕ)) (zone : Zone) (seconds : ℤ) (plan : Option Plan) (outcome : Outcome) (came : Option Came) {o n : Option Journal} → Left (CallShows here words zone seconds plan outcome came) o n → (request : Request) → AskFor here words request → KeepsWhole request.settings.state (λ ts text. IsTextOf request.settings.debug outcome came text) o n
@@ -352,17 +352,17 @@ ends_copied request zone seconds plan outcome came ts made (called c some s e is
     run_made : request.settings.debug ≡ false → AreMade (run_entries false state c.clock c.rules c.work)
     run_made acts = made_later front (run_entries false state c.clock c.rules c.work) (subst AreMade (parts false acts) made)
 
-    shows : request.settings.debug ≡ false → ShowsWork false state c.rules.sets c.clock (asked_by request) c.work
-    shows acts = subst (λ (b : Bool). ShowsWork b state c.rules.sets c.clock (asked_by request) c.work) acts s.confs.work
+    shows : request.settings.debug ≡ false → ShowsWork false state c.rules.sets c.clock (asked_in request) c.work
+    shows acts = subst (λ (b : Bool). ShowsWork b state c.rules.sets c.clock (asked_in request) c.work) acts s.confs.work
 
     behind : request.settings.debug ≡ false → EmptiesCopied (IsCopyBy c.rules.sets c.clock) (run_entries false state c.clock c.rules c.work) → EmptiesCopied (IsCopyBy c.rules.sets c.clock) ts
     behind acts e = same_empties (IsCopyBy c.rules.sets c.clock) (front ++ run_entries false state c.clock c.rules c.work) ts (parts false acts)
         (both_empty (IsCopyBy c.rules.sets c.clock) front (run_entries false state c.clock c.rules c.work) (quiet_empties (IsCopyBy c.rules.sets c.clock) front (front_quiet request zone seconds c s)) e)
 
-    go : (b : Bool) → request.settings.debug ≡ b → (o : Outcome) → Ends b request c plan o → EmptiesCopied (IsCopyBy c.rules.sets c.clock) ts
+    go : (b : Bool) → request.settings.debug ≡ b → (o : Outcome) → PlanEnds b request c plan o → EmptiesCopied (IsCopyBy c.rules.sets c.clock) ts
     go true dry (Done report) e = same_empties (IsCopyBy c.rules.sets c.clock) (call_entries request c) ts is (quiet_empties (IsCopyBy c.rules.sets c.clock) (call_entries request c) (dry_quiet request zone seconds c dry s))
-    go false acts (Done report) e = behind acts (leaves_copied false state c.rules c.clock (asked_by request) (Some c.work.plan) (faults_of c.work) (run_entries false state c.clock c.rules c.work) (run_made acts) (carried_left state c.rules c.clock (asked_by request) c.work (shows acts) e.1))
-    go false acts OutOfMemory e = behind acts (lacks_copied false state c.rules c.clock (asked_by request) (run_entries false state c.clock c.rules c.work) (run_made acts) (in_acts (broken_left state c.rules c.clock (asked_by request) c.work (shows acts) e.1)))
+    go false acts (Done report) e = behind acts (leaves_copied false state c.rules c.clock (asked_in request) (Some c.work.plan) (faults_of c.work) (run_entries false state c.clock c.rules c.work) (run_made acts) (carried_left state c.rules c.clock (asked_in request) c.work (shows acts) e.1))
+    go false acts OutOfMemory e = behind acts (lacks_copied false state c.rules c.clock (asked_in request) (run_entries false state c.clock c.rules c.work) (run_made acts) (in_acts (broken_left state c.rules c.clock (asked_in request) c.work (shows acts) e.1)))
     go _ dry _ e = absurd e
 
 copy_paths : (came : Option Came) (job : Job) → IsCopyIn came job → ArePaths job

@@ -35,7 +35,7 @@ use Rattle.lr_clock.specs.declared.clock.ClockStop.TheVariants as stop
 use Rattle.lr_report.specs.declared.outcome.Outcome.{Outcome}
 use Rattle.lr_cli.specs.Asked.{AskFor}
 use Rattle.lr_cli.specs.Before.{IsStill, AreStill}
-use Rattle.lr_cli.specs.Called.{Came, call_entries, asked_by, ShowsCame, ConfsHalt, no_reading, no_plan, CallHalts, no_clock, no_zone, behind_clock, CallEnds, halted, called, CallShows, not_read, read}
+use Rattle.lr_cli.specs.Called.{Came, call_entries, asked_in, ShowsCame, ConfsHalt, no_reading, no_plan, CallHalts, no_clock, no_zone, behind_clock, CallEnds, halted, called, CallShows, not_read, read}
 use Rattle.lr_clock.specs.Clock.{ShowsClock, LacksClock, out_of_range, no_text, refused, ClockStopped}
 use Rattle.lr_clock.specs.Zone.{LacksZoneMemory, ShowsZone, LacksText, not_file, too_big, look_failed as text_look_failed, read_failed as text_read_failed, at_first as zone_at_first, at_file}
 
@@ -104,7 +104,7 @@ stop_quiet = stop_so IsQuiet (λ x seen. (tt, refl)) (λ x place piece. (tt, ref
 
 module _ (P : Entry → Type 0) (look : (x : Path) (seen : Option Seen) → P (entry.Look x seen)) (list : (x : Path) (names : List (List ℕ)) → P (entry.List x names)) (reads : (x : Path) (place : ℕ) (piece : List ℕ) → P (entry.Reads x place piece)) where
   -- where it holds of all that a run leaves that halted
-  module _ (request : Request) (run_so : (rules : Rules) (clock : Clock) (halt : Halt) (us : List Entry) → Halts request.settings.debug request.settings.state rules clock (asked_by request) halt us → Each P us) where
+  module _ (request : Request) (run_so : (rules : Rules) (clock : Clock) (halt : Halt) (us : List Entry) → Halts request.settings.debug request.settings.state rules clock (asked_in request) halt us → Each P us) where
     confs_halt_so : (clock : Clock) (outcome : Outcome) (ts : List Entry) → ConfsHalt request clock outcome ts → Each P ts
     confs_halt_so clock outcome ts (no_reading is l) = lacking_so P look list (λ x from piece le. reads x from piece) request.confs ts l
     confs_halt_so clock outcome ts (no_plan meaning rules halt same is t) = then_so P look reads _ _ ts (λ us r. all_so P look list (λ x from piece le. reads x from piece) request.confs meaning us r) (λ us h. run_so rules clock halt us h) t
@@ -117,13 +117,13 @@ module _ (P : Entry → Type 0) (look : (x : Path) (seen : Option Seen) → P (e
 -- it leaves the disk as it is
 pub halt_still : (request : Request) (zone : Zone) (seconds : ℤ) (outcome : Outcome) (ts : List Entry) → CallHalts request zone seconds outcome ts → AreStill ts
 halt_still request = call_halt_so IsStill (λ x seen. tt) (λ x names. tt) (λ x place piece. tt) request
-    (λ rules clock halt us h. halts_so IsStill (λ x seen. tt) (λ x names. tt) (λ x place piece short. tt) (λ x now rs. tt) tt request.settings.debug request.settings.state rules clock (asked_by request) halt us h)
+    (λ rules clock halt us h. halts_so IsStill (λ x seen. tt) (λ x names. tt) (λ x place piece short. tt) (λ x now rs. tt) tt request.settings.debug request.settings.state rules clock (asked_in request) halt us h)
 
 -- a dry one only looks
 pub halt_sights : (request : Request) (zone : Zone) (seconds : ℤ) (outcome : Outcome) (ts : List Entry) → request.settings.debug ≡ true → CallHalts request zone seconds outcome ts → AreSights ts
 halt_sights request zone seconds outcome ts dry = call_halt_so IsSight (λ x seen. tt) (λ x names. tt) (λ x place piece. tt) request
-    (λ rules clock halt us h. halted_so IsSight (λ x seen. tt) (λ x names. tt) (λ x place piece short. tt) request.settings.state rules clock (asked_by request) halt us
-    (subst (λ (b : Bool). Halts b request.settings.state rules clock (asked_by request) halt us) dry h)) zone seconds outcome ts
+    (λ rules clock halt us h. halted_so IsSight (λ x seen. tt) (λ x names. tt) (λ x place piece short. tt) request.settings.state rules clock (asked_in request) halt us
+    (subst (λ (b : Bool). Halts b request.settings.state rules clock (asked_in request) halt us) dry h)) zone seconds outcome ts
 
 -- ---- a call that came to its plan
 

@@ -46,8 +46,8 @@ front_entries request c = c.of_clock ++ (c.of_confs ++ first_entries request.set
     c.work)
 
 -- what the request asks for of a plan
-abbrev pub asked_by : Request → Asked
-asked_by request = asking request.settings.force request.settings.mailer
+abbrev pub asked_in : Request → Asked
+asked_in request = asking request.settings.force request.settings.mailer
 
 -- ---- a call that came to its plan
 
@@ -56,7 +56,7 @@ asked_by request = asking request.settings.force request.settings.mailer
 pub record ShowsConfs (request : Request) (c : Came) : Type 0 where
   pub rules : c.rules.sets ≡ c.meaning.rules
   pub read : Reads request.confs c.meaning c.of_confs
-  pub work : ShowsWork request.settings.debug request.settings.state c.rules.sets c.clock (asked_by request) c.work
+  pub work : ShowsWork request.settings.debug request.settings.state c.rules.sets c.clock (asked_in request) c.work
 
 -- The clock is that of the zone at these seconds, and the rest is so.
 pub record ShowsCame (request : Request) (zone : Zone) (seconds : ℤ) (c : Came) : Type 0 where
@@ -71,11 +71,11 @@ pub record Tells (c : Came) (printed : Option Plan) (report : Report) : Type 0 w
   pub faults : report.faults ≡ c.meaning.faults ++ (c.work.saw.faults ++ (c.work.plan.faults ++ act_faults c.work.acts))
 
 -- A dry call did nothing; another carried its plan out, whatever failed; or it broke off, where there was no memory for a program.
-abbrev pub Ends : Bool → Request → Came → Option Plan → Outcome → Type 0
-Ends true request c plan (Done report) = Tells c plan report × DidNothing c.work
-Ends false request c plan (Done report) = Tells c plan report × CarriesOut request.settings.state c.clock c.work
-Ends false request c plan OutOfMemory = (plan ≡ None) × BreaksOff c.work
-Ends debug request c plan _ = ⊥
+abbrev pub PlanEnds : Bool → Request → Came → Option Plan → Outcome → Type 0
+PlanEnds true request c plan (Done report) = Tells c plan report × DidNothing c.work
+PlanEnds false request c plan (Done report) = Tells c plan report × CarriesOut request.settings.state c.clock c.work
+PlanEnds false request c plan OutOfMemory = (plan ≡ None) × BreaksOff c.work
+PlanEnds debug request c plan _ = ⊥
 
 -- ---- a call that ended before its plan
 
@@ -89,7 +89,7 @@ answer_by meaning OfMemory = OutOfMemory
 pub data ConfsHalt (request : Request) (clock : Clock) (outcome : Outcome) (ts : List Entry) : Type 0 where
   no_reading : outcome ≡ OutOfMemory → LacksReading request.confs ts → ConfsHalt request clock outcome ts
   no_plan : (meaning : Meaning) (rules : Rules) (halt : Halt) → rules.sets ≡ meaning.rules → outcome ≡ answer_by meaning halt
-      → Then (Reads request.confs meaning) (Halts request.settings.debug request.settings.state rules clock (asked_by request) halt)
+      → Then (Reads request.confs meaning) (Halts request.settings.debug request.settings.state rules clock (asked_in request) halt)
       ts → ConfsHalt request clock outcome ts
 
 -- There was no clock, and its fault is told alone; or no memory for the zone; or there was a clock, and behind it the call halted.
@@ -108,7 +108,7 @@ pub data CallEnds (request : Request) (zone : Zone) (seconds : ℤ) (plan : Opti
     (ts : List Entry) : Type 0 where
   halted : came ≡ None → plan ≡ None → CallHalts request zone seconds outcome ts
       → CallEnds request zone seconds plan outcome came ts
-  called : (c : Came) → came ≡ Some c → ShowsCame request zone seconds c → Ends request.settings.debug request c plan outcome
+  called : (c : Came) → came ≡ Some c → ShowsCame request zone seconds c → PlanEnds request.settings.debug request c plan outcome
       → ts ≡ call_entries request c → CallEnds request zone seconds plan outcome came ts
 
 -- So did a call with these words, from the directory `here` on; and nothing where they ask for nothing, or there was no memory for

@@ -13,7 +13,7 @@ use Rattle.lr_command.specs.declared.request.Request.{Request}
 use Rattle.lr_report.specs.declared.outcome.Outcome.{Outcome}
 use Rattle.lr_report.specs.declared.outcome.Outcome.TheVariants.{Done}
 use Rattle.lr_report.specs.declared.outcome.Report.{Report}
-use Rattle.lr_cli.specs.Called.{Came, ConfsHalt, ShowsConfs, Ends, call_entries}
+use Rattle.lr_cli.specs.Called.{Came, ConfsHalt, ShowsConfs, PlanEnds, call_entries}
 use Rattle.lr_cli.specs.Safe.{HadClock}
 
 -- Where there was no clock, the call only looked and listed and read; by a clock it made a run, as far as it came.
@@ -27,7 +27,7 @@ pub data ConfsEnd (request : Request) (clock : Clock) (plan : Option Plan) (outc
     (ts : List Entry) : Type 0 where
   confs_halted : came ≡ None → plan ≡ None → ConfsHalt request clock outcome ts → ConfsEnd request clock plan outcome came ts
   confs_called : (c : Came) → came ≡ Some c → c.clock ≡ clock → c.of_clock ≡ [] → ShowsConfs request c
-      → Ends request.settings.debug request c plan outcome → ts ≡ call_entries request c
+      → PlanEnds request.settings.debug request c plan outcome → ts ≡ call_entries request c
       → ConfsEnd request clock plan outcome came ts
 
 -- What a part of a call left, by what it came to, where it came to a plan; and of that the journal tells the names besides.

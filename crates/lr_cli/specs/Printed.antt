@@ -4,7 +4,7 @@ use Rattle.lr_rules.specs.declared.fault.Fault.{Fault}
 use Rattle.lr_rules.specs.declared.fault.Fault.TheVariants as fault
 use Rattle.lr_report.specs.declared.outcome.Outcome.{Outcome}
 use Rattle.lr_report.specs.declared.outcome.Outcome.TheVariants.{Done, BadWords, Held, OutOfMemory}
-use Rattle.lr_report.specs.Outcome.{text_of}
+use Rattle.lr_report.specs.Outcome.{outcome_text}
 
 -- the fault alone, and nothing for `Out`
 abbrev pub no_out : Fault → List Fault
@@ -27,4 +27,4 @@ without_out OutOfMemory = OutOfMemory
 -- What is printed of an answer: the text of the plan, where there is one to print, and then its own text but for the line of `Out`,
 -- which only comes where the output failed.
 abbrev pub printed_of : List ℕ → Outcome → List ℕ
-printed_of planned outcome = planned ++ text_of (without_out outcome)
+printed_of planned outcome = planned ++ outcome_text (without_out outcome)

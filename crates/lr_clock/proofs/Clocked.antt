@@ -20,7 +20,7 @@ use Rattle.lr_clock.specs.declared.clock.ClockStop.{ClockStop}
 use Rattle.lr_clock.specs.declared.clock.ClockStop.TheVariants as stop
 use Rattle.lr_report.specs.Reported.{AreReported}
 use Rattle.lr_clock.specs.Clock.{ShowsClock, ClockStopped, out_of_range, no_text, refused, HasClock, IsClockFault, is_refused}
-use Rattle.lr_clock.specs.Zone.{ShowsZone, ZoneStopped, LacksZoneMemory, at_file, IsTextOf}
+use Rattle.lr_clock.specs.Zone.{ShowsZone, ZoneStopped, LacksZoneMemory, at_file, IsZoneText}
 
 -- a number of the type is what its bits say
 pub own_seconds : (z : ℤ) → mag z < 2 ^ 63 → to_z w64 (of_z w64 z) ≡ z
@@ -55,11 +55,11 @@ clock_stopped zone seconds t (Ok clock) o n range l bad table = tt
 clock_stopped zone seconds t (Err (stop.Fault f)) o n range l bad table = left_as l (λ ts h. refused t range (bad f refl).0 (bad f refl).1 h)
 clock_stopped zone seconds t (Err stop.Memory) o n range l bad table = left_as l (λ ts h. table_lacks zone t ts (table refl) h)
 
-pub has_clock : (zone : Zone) (seconds : ℤ) (t : ZoneText) (r : Result Clock ClockStop) → IsInRange seconds → IsTextOf zone t → IfOk r (λ clock. ¬ (IsRefusedZone t)) → IfOk r (IsClockIn t seconds) → IfOk r (HasClock zone seconds)
+pub has_clock : (zone : Zone) (seconds : ℤ) (t : ZoneText) (r : Result Clock ClockStop) → IsInRange seconds → IsZoneText zone t → IfOk r (λ clock. ¬ (IsRefusedZone t)) → IfOk r (IsClockIn t seconds) → IfOk r (HasClock zone seconds)
 has_clock zone seconds t (Ok clock) range of_zone good is = record { text = t; in_range = range; text_is = of_zone; not_refused = good; clock_is = is }
 has_clock zone seconds t (Err said) range of_zone good is = tt
 
-pub refused_fault : (zone : Zone) (seconds : ℤ) (t : ZoneText) (f : Fault) (j k : Counts) → IsInRange seconds → IsTextOf zone t → (f ≡ fault.Zone why.Refused) × IsRefusedZone t → NoneFell j k → IsClockFault zone seconds f × AreReported (f ∷ []) j k
+pub refused_fault : (zone : Zone) (seconds : ℤ) (t : ZoneText) (f : Fault) (j k : Counts) → IsInRange seconds → IsZoneText zone t → (f ≡ fault.Zone why.Refused) × IsRefusedZone t → NoneFell j k → IsClockFault zone seconds f × AreReported (f ∷ []) j k
 refused_fault zone seconds t f j k range of_zone bad le = (
   is_refused t range of_zone bad.0 bad.1,
   subst (λ (g : Fault). AreReported (g ∷ []) j k) (sym bad.0) (record {

@@ -12,7 +12,7 @@ use Rattle.lr_due.specs.declared.zone.ZoneText.{ZoneText}
 use Rattle.lr_due.specs.Zone.{IsInRange, IsRefusedZone, IsClockIn}
 use Rattle.lr_clock.specs.declared.clock.ClockStop.{ClockStop}
 use Rattle.lr_clock.specs.declared.clock.ClockStop.TheVariants as stop
-use Rattle.lr_clock.specs.Zone.{ShowsZone, LacksText, LacksZoneMemory, IsTextOf, IsTextFault}
+use Rattle.lr_clock.specs.Zone.{ShowsZone, LacksText, LacksZoneMemory, IsZoneText, IsTextFault}
 
 -- The clock at these seconds is that of the zone's text, which the entries show.
 pub record ShowsClock (zone : Zone) (seconds : ℤ) (clock : Clock) (ts : List Entry) : Type 0 where
@@ -39,7 +39,7 @@ ClockStopped zone seconds stop.Memory ts = LacksZoneMemory zone ts
 pub record HasClock (zone : Zone) (seconds : ℤ) (clock : Clock) : Type 0 where
   pub text : ZoneText
   pub in_range : IsInRange seconds
-  pub text_is : IsTextOf zone text
+  pub text_is : IsZoneText zone text
   pub not_refused : ¬ (IsRefusedZone text)
   pub clock_is : IsClockIn text seconds clock
 
@@ -47,7 +47,7 @@ pub record HasClock (zone : Zone) (seconds : ℤ) (clock : Clock) : Type 0 where
 pub data IsClockFault (zone : Zone) (seconds : ℤ) (f : Fault) : Type 0 where
   is_range : ¬ (IsInRange seconds) → f ≡ fault.Clock → IsClockFault zone seconds f
   is_text : IsInRange seconds → IsTextFault zone f → IsClockFault zone seconds f
-  is_refused : (text : ZoneText) → IsInRange seconds → IsTextOf zone text → f ≡ fault.Zone why.Refused → IsRefusedZone text
+  is_refused : (text : ZoneText) → IsInRange seconds → IsZoneText zone text → f ≡ fault.Zone why.Refused → IsRefusedZone text
       → IsClockFault zone seconds f
 
 -- A report has a clock behind it, and tells no fault of the clock or the zone; or it tells one fault alone, that there is none.

@@ -78,10 +78,10 @@ file_stop stop.Memory path = clock_stop.Memory
 -- ---- without entries
 
 -- the text is that of the zone; of a file it is some bytes
-abbrev pub IsTextOf : Zone → ZoneText → Type 0
-IsTextOf Utc t = t ≡ text.Utc
-IsTextOf (Rule rule) t = t ≡ text.Rule rule
-IsTextOf (File path) t = (bytes : List ℕ) × (t ≡ text.Bytes bytes)
+abbrev pub IsZoneText : Zone → ZoneText → Type 0
+IsZoneText Utc t = t ≡ text.Utc
+IsZoneText (Rule rule) t = t ≡ text.Rule rule
+IsZoneText (File path) t = (bytes : List ℕ) × (t ≡ text.Bytes bytes)
 
 -- it has none only where it is a file: no regular one, too big, or the look or a read of it failed
 abbrev pub IsFileFault : Path → Fault → Type 0

@@ -9,7 +9,8 @@ ghost use Rattle.lr_due.specs.declared.zone.ZoneText.TheVariants as text;
 ghost use Rattle.lr_clock.specs.declared.clock.ClockStop.TheVariants as clock_stop;
 ghost use Rattle.lr_clock.specs.declared.zone.ZoneFileStop.TheVariants as stop;
 ghost use Rattle.lr_report.specs.Reported.{AreReported};
-ghost use Rattle.lr_clock.specs.Zone.{IsNotFile, GivesBytes, ReadStopped, FileStopped, ShowsZone, ZoneStopped, file_stop, IsTextOf};
+ghost use Rattle.lr_clock.specs.Zone.{IsNotFile, GivesBytes, ReadStopped, FileStopped, ShowsZone};
+ghost use Rattle.lr_clock.specs.Zone.{ZoneStopped, file_stop, IsZoneText};
 ghost use Rattle.lr_clock.specs.Zone.{IsFileFault, IsTextFault};
 
 use crate::clock::ClockStop;
@@ -86,7 +87,7 @@ fn bytes_of<H: Host>(alloc: Global, host: &mut H, path: &Path) -> Result<Listed<
 // The text of the zone of a file.
 fn text_of_file<H: Host>(alloc: Global, host: &mut H, path: &Path) -> Result<ZoneText, ZoneFileStop>
     ensures told { IfOk result (λ t. Left (ShowsZone (asked.File path.now) t) (H.told host.old) (H.told host.new)) }
-    ensures bytes { IfOk result (λ t. IsTextOf (asked.File path.now) t) }
+    ensures bytes { IfOk result (λ t. IsZoneText (asked.File path.now) t) }
     ensures stopped { IfErr result (λ why. Left (FileStopped path.now why) (H.told host.old) (H.told host.new)) }
     ensures look { result ≡ Err stop.Look → Rose (H.counts host.old).faults (H.counts host.new).faults }
     ensures read { result ≡ Err stop.Read → Rose (H.counts host.old).faults (H.counts host.new).faults }
@@ -117,7 +118,7 @@ fn stop_of(why: ZoneFileStop, path: Path) -> ClockStop
 // The same, with the fault that tells why there is none.
 fn told_text<H: Host>(alloc: Global, host: &mut H, path: &Path) -> Result<ZoneText, ClockStop>
     ensures told { IfOk result (λ t. Left (ShowsZone (asked.File path.now) t) (H.told host.old) (H.told host.new)) }
-    ensures bytes { IfOk result (λ t. IsTextOf (asked.File path.now) t) }
+    ensures bytes { IfOk result (λ t. IsZoneText (asked.File path.now) t) }
     ensures stopped { IfErr result (λ why. Left (ZoneStopped (asked.File path.now) why) (H.told host.old) (H.told host.new)) }
     ensures fault { (f : Fault) → result ≡ Err (clock_stop.Fault f)
         → IsFileFault path.now f × AreReported (f ∷ []) (H.counts host.old) (H.counts host.new) }
@@ -151,7 +152,7 @@ pub fn zone_text<H: Host>(alloc: Global, host: &mut H, zone: &Zone) -> Result<Zo
     ensures stopped { IfErr result (λ why. Left (ZoneStopped zone.now why) (H.told host.old) (H.told host.new)) }
 
     // Also where the host tells nothing.
-    ensures text { IfOk result (λ t. IsTextOf zone.now t) }
+    ensures text { IfOk result (λ t. IsZoneText zone.now t) }
     ensures fault { (f : Fault) → result ≡ Err (clock_stop.Fault f)
         → IsTextFault zone.now f × AreReported (f ∷ []) (H.counts host.old) (H.counts host.new) }
     ensures counts { Onward (H.counts host.old) (H.counts host.new) }

@@ -19,7 +19,7 @@ use Rattle.lr_forms.specs.Says.{said}
 use Rattle.lr_fields.specs.Fields.{fields_of}
 use Rattle.lr_fields.specs.Rules.{rule_of}
 use Rattle.lr_fields.specs.Scripts.{script_fault}
-use Rattle.lr_conf.specs.Meaning.{Line, Read, Spoiled, End, Cut, Past, stands, spoiled, file_ends, breaks_off, Meaning, ◌and◌, told, conf, list_of, before, through, behind as behind_first, set_of, set_past, settings, names_past, settles, pending, first_line, first_pending, words_pending, past, notice_of, fault_of, script_of, script_in, scripts_in, script_says, said_behind, within, body_of, drops, is_bad, set_in, notice_in, fault_in, broken_fault, spoilt_fault, ends, opens, of_end, of_definition, of_body, of_opening, of_line, of_spoilt, meaning, file_of, or_line}
+use Rattle.lr_conf.specs.Meaning.{Line, Read, Spoiled, End, Cut, OutsideLine, stands, spoiled, file_ends, breaks_off, Meaning, ◌and◌, told, conf, list_of, before, through, behind as behind_first, set_of, set_past, settings, names_past, settles, pending, first_line, first_pending, words_pending, past, notice_of, line_fault, script_of, line_script, scripts_in, script_says, said_behind, within, body_of, drops, is_bad_line, set_in, notice_in, fault_in, broken_fault, spoilt_fault, ends, opens, of_end, of_definition, of_body, of_opening, of_line, of_spoilt, meaning, line_file, or_line}
 use Rattle.lr_fields.specs.Setting.{with_set, default_fields}
 use Rattle.lr_conf.specs.Internal.Draft.{State, run, with_said, scripted, said_inside, outside, turned}
 use Rattle.lr_fields.proofs.Settings.{fields-push}
@@ -30,14 +30,14 @@ abbrev with_option : Option Set → Fields → Fields
 with_option None f = f
 with_option (Some v) f = with_set f v
 
-defaults-push : (out : List Past) (p : Past) → fields_of (settings (out ++ p ∷ [])) ≡ with_option (set_past p) (fields_of (settings out))
+defaults-push : (out : List OutsideLine) (p : OutsideLine) → fields_of (settings (out ++ p ∷ [])) ≡ with_option (set_past p) (fields_of (settings out))
 defaults-push out p = ap fields_of (filter_map-append set_past out (p ∷ [])) ∙ by (set_past p)
   where
     by : (o : Option Set) → fields_of (settings out ++ cons_option o []) ≡ with_option o (fields_of (settings out))
     by None = ap fields_of (append-nil (settings out))
     by (Some v) = fields-push (settings out) v
 
-pending-push : (out : List Past) (p : Past) → pending (out ++ p ∷ []) ≡ (cond (settles p) [] (pending out ++ list_of (names_past p)))
+pending-push : (out : List OutsideLine) (p : OutsideLine) → pending (out ++ p ∷ []) ≡ (cond (settles p) [] (pending out ++ list_of (names_past p)))
 pending-push out p =
     ap (λ back. filter_map names_past (reverse (before settles back))) (reverse-append out (p ∷ [])) ∙ by_test (settles p) refl
   where
@@ -68,7 +68,7 @@ first-append [] None = refl
 first-append [] (Some n) = refl
 first-append (m ∷ ns) o = refl
 
-first-push : (out : List Past) (p : Past) → first_pending (out ++ p ∷ []) ≡ cond (settles p) None (first_with (first_pending out) (names_past p))
+first-push : (out : List OutsideLine) (p : OutsideLine) → first_pending (out ++ p ∷ []) ≡ cond (settles p) None (first_with (first_pending out) (names_past p))
 first-push out p = ap first_line (pending-push out p) ∙ by (settles p)
   where
     by : (b : Bool) → first_line (cond b [] (pending out ++ list_of (names_past p))) ≡ cond b None (first_with (first_pending out) (names_past p))
@@ -84,7 +84,7 @@ words-append [] None = refl
 words-append [] (Some n) = append-nil n.1
 words-append (m ∷ ns) o = ap (λ x. m.1 ++ x) (words-append ns o) ∙ sym (append_assoc m.1 (flat_map (λ n. n.1) ns) (words_in o))
 
-words-push : (out : List Past) (p : Past) → words_pending (out ++ p ∷ []) ≡ cond (settles p) [] (words_pending out ++ words_in (names_past p))
+words-push : (out : List OutsideLine) (p : OutsideLine) → words_pending (out ++ p ∷ []) ≡ cond (settles p) [] (words_pending out ++ words_in (names_past p))
 words-push out p = ap (flat_map (λ n. n.1)) (pending-push out p) ∙ by (settles p)
   where
     by : (b : Bool) → flat_map (λ n. n.1) (cond b [] (pending out ++ list_of (names_past p))) ≡ cond b [] (words_pending out ++ words_in (names_past p))
@@ -97,11 +97,11 @@ abbrev st : Place → Fields → List (List ℕ) → Option ℕ → Fields → L
 st place d ws first f ps = record { place = place; defaults = d; words = ws; first = first; fields = f; scripts = ps }
 
 -- the state outside definitions, behind these lines
-abbrev behind : List Past → Fields → List Phase → State
+abbrev behind : List OutsideLine → Fields → List Phase → State
 behind out f ps = st Outside (fields_of (settings out)) (words_pending out) (first_pending out) f ps
 
 abbrev pub OutsideLaw : List Line → Type 0
-OutsideLaw es = (out : List Past) (f : Fields) (ps : List Phase) → run (behind out f ps) es ≡ meaning false out es
+OutsideLaw es = (out : List OutsideLine) (f : Fields) (ps : List Phase) → run (behind out f ps) es ≡ meaning false out es
 
 -- the meaning of a definition from its lines on that stand behind these
 abbrev rest_of : List Line → ℕ → List (List ℕ) → List Set → List Line → Meaning
@@ -114,11 +114,11 @@ rest_of earlier at ws vs es =
     and (cond (list_any drops (body_of earlier (before ends es))) (told (filter_map broken_fault (behind_first drops (body_of earlier (before ends es))))) (of_end at ws (fields_of (vs ++ filter_map set_in (body_of earlier (before ends es)))) (find ends es)))
 
 abbrev pub GoodLaw : List Line → Type 0
-GoodLaw es = (out : List Past) (vs : List Set) (at : ℕ) (ws : List (List ℕ)) (earlier : List Line)
+GoodLaw es = (out : List OutsideLine) (vs : List Set) (at : ℕ) (ws : List (List ℕ)) (earlier : List Line)
     → run (st Good (fields_of (settings out)) ws (Some at) (fields_of vs) (scripts_in earlier)) es ≡ (rest_of earlier at ws vs es and meaning true out es)
 
 abbrev pub DroppedLaw : List Line → Type 0
-DroppedLaw es = (out : List Past) (ws : List (List ℕ)) (first : Option ℕ) (f : Fields) (ps : List Phase) → run (st Dropped (fields_of (settings out)) ws first f ps) es ≡ (of_spoilt (before ends es) and meaning true out es)
+DroppedLaw es = (out : List OutsideLine) (ws : List (List ℕ)) (first : Option ℕ) (f : Fields) (ps : List Phase) → run (st Dropped (fields_of (settings out)) ws first f ps) es ≡ (of_spoilt (before ends es) and meaning true out es)
 
 pub record Laws (es : List Line) : Type 0 where
   pub out : OutsideLaw es
@@ -126,7 +126,7 @@ pub record Laws (es : List Line) : Type 0 where
   pub drop : DroppedLaw es
 
 -- outside, behind one more line
-next : (es : List Line) (out : List Past) (p : Past) (d : Fields) (ws : List (List ℕ)) (first : Option ℕ) (f : Fields) (ps : List Phase) → OutsideLaw es
+next : (es : List Line) (out : List OutsideLine) (p : OutsideLine) (d : Fields) (ws : List (List ℕ)) (first : Option ℕ) (f : Fields) (ps : List Phase) → OutsideLaw es
     → with_option (set_past p) (fields_of (settings out)) ≡ d
     → cond (settles p) [] (words_pending out ++ words_in (names_past p)) ≡ ws
     → cond (settles p) None (first_with (first_pending out) (names_past p)) ≡ first
@@ -138,14 +138,14 @@ next es out p d ws first f ps law de we fe =
     ∙ law (out ++ p ∷ []) f ps
 
 -- in a definition that this line drops
-next_dropped : (es : List Line) (out : List Past) (p : Past) (d : Fields) (f : Fields) (ps : List Phase) → DroppedLaw es
+next_dropped : (es : List Line) (out : List OutsideLine) (p : OutsideLine) (d : Fields) (f : Fields) (ps : List Phase) → DroppedLaw es
     → with_option (set_past p) (fields_of (settings out)) ≡ d
     → run (st Dropped d [] None f ps) es ≡ (of_spoilt (before ends es) and meaning true (out ++ p ∷ []) es)
 next_dropped es out p d f ps law de =
     ap (λ x. run (st Dropped x [] None f ps) es) (sym de ∙ sym (defaults-push out p)) ∙ law (out ++ p ∷ []) [] None f ps
 
 -- in a definition that this line opens
-next_good : (es : List Line) (out : List Past) (p : Past) (d : Fields) (ws : List (List ℕ)) (at : ℕ) → GoodLaw es
+next_good : (es : List Line) (out : List OutsideLine) (p : OutsideLine) (d : Fields) (ws : List (List ℕ)) (at : ℕ) → GoodLaw es
     → with_option (set_past p) (fields_of (settings out)) ≡ d
     → run (st Good d ws (Some at) d []) es ≡ (of_definition at ws (settings (out ++ p ∷ [])) es and meaning true (out ++ p ∷ []) es)
 next_good es out p d ws at law de =
@@ -154,11 +154,11 @@ next_good es out p d ws at law de =
 -- ---- outside definitions
 
 -- what follows a line
-abbrev follows : List Past → Past → List Line → Meaning
+abbrev follows : List OutsideLine → OutsideLine → List Line → Meaning
 follows out p es = of_opening out p es and meaning (opens p) (out ++ p ∷ []) es
 
 -- a line that leaves pending names, without a brace
-stays : (p : Past) (es : List Line) → Laws es → (out : List Past) (f : Fields) (ps : List Phase) → settles p ≡ false → names_past p ≡ None → set_past p ≡ None
+stays : (p : OutsideLine) (es : List Line) → Laws es → (out : List OutsideLine) (f : Fields) (ps : List Phase) → settles p ≡ false → names_past p ≡ None → set_past p ≡ None
     → run (behind out f ps) es ≡ meaning false (out ++ p ∷ []) es
 stays p es l out f ps no_end no_names no_set =
     next es out p (fields_of (settings out)) (words_pending out) (first_pending out) f ps l.out
@@ -167,7 +167,7 @@ stays p es l out f ps no_end no_names no_set =
     (ap (λ b. cond b None (first_with (first_pending out) (names_past p))) no_end ∙ ap (first_with (first_pending out)) no_names ∙ first_none (first_pending out))
 
 -- a line that ends with no brace
-plain-law : (at : ℕ) (v : Said) (es : List Line) → Laws es → (out : List Past) (f : Fields) (ps : List Phase)
+plain-law : (at : ℕ) (v : Said) (es : List Line) → Laws es → (out : List OutsideLine) (f : Fields) (ps : List Phase)
     → run (outside (behind out f ps) (stands at false v)) es ≡ meaning false (out ++ stands at false v ∷ []) es
 plain-law at (says.Sets v) es l out f ps = next es out (stands at false (says.Sets v)) _ [] None f ps l.out refl refl refl
 plain-law at says.Quiet es l out f ps = next es out (stands at false says.Quiet) _ [] None f ps l.out refl refl refl
@@ -185,7 +185,7 @@ plain-law at (says.Bad k) es l out f ps = next es out (stands at false (says.Bad
 plain-law at (says.BadNames k) es l out f ps = stays (stands at false (says.BadNames k)) es l out f ps refl refl refl
 
 -- a line that ends with a brace
-brace-law : (at : ℕ) (v : Said) (es : List Line) → Laws es → (out : List Past) (f : Fields) (ps : List Phase)
+brace-law : (at : ℕ) (v : Said) (es : List Line) → Laws es → (out : List OutsideLine) (f : Fields) (ps : List Phase)
     → run (outside (behind out f ps) (stands at true v)) es ≡ follows out (stands at true v) es
 brace-law at (says.Sets v) es l out f ps = next_dropped es out (stands at true (says.Sets v)) _ f ps l.drop refl
 brace-law at says.Quiet es l out f ps = next_dropped es out (stands at true says.Quiet) _ f ps l.drop refl
@@ -206,7 +206,7 @@ brace-law at says.Unknown es l out f ps = next_dropped es out (stands at true sa
 brace-law at (says.Bad k) es l out f ps = next_dropped es out (stands at true (says.Bad k)) _ f ps l.drop refl
 brace-law at (says.BadNames k) es l out f ps = next_dropped es out (stands at true (says.BadNames k)) _ f ps l.drop refl
 
-step-law : (p : Past) (es : List Line) → Laws es → (out : List Past) (f : Fields) (ps : List Phase) → run (outside (behind out f ps) p) es ≡ follows out p es
+step-law : (p : OutsideLine) (es : List Line) → Laws es → (out : List OutsideLine) (f : Fields) (ps : List Phase) → run (outside (behind out f ps) p) es ≡ follows out p es
 step-law (stands at false v) es l out f ps = plain-law at v es l out f ps
 step-law (stands at true v) es l out f ps = brace-law at v es l out f ps
 step-law (spoiled e) es l out f ps = stays (spoiled e) es l out f ps refl refl refl
@@ -214,7 +214,7 @@ step-law file_ends es l out f ps = next es out file_ends _ [] None f ps l.out re
 step-law breaks_off es l out f ps = next es out breaks_off _ [] None f ps l.out refl refl refl
 
 outside-law : (e : Line) (es : List Line) → Laws es → OutsideLaw (e ∷ es)
-outside-law e es l out f ps = ap (λ m. of_line (file_of e) (first_pending out) (past e) and m) (step-law (past e) es l out f ps)
+outside-law e es l out f ps = ap (λ m. of_line (line_file e) (first_pending out) (past e) and m) (step-law (past e) es l out f ps)
 
 -- ---- dropped definitions
 
@@ -246,8 +246,8 @@ abbrev with_phase : Option Phase → List Phase → List Phase
 with_phase None ps = ps
 with_phase (Some p) ps = ps ++ p ∷ []
 
-scripts-push : (earlier : List Line) (e : Line) → scripts_in (earlier ++ e ∷ []) ≡ with_phase (script_in e) (scripts_in earlier)
-scripts-push earlier e = filter_map-append (script_in) earlier (e ∷ []) ∙ by (script_in e)
+scripts-push : (earlier : List Line) (e : Line) → scripts_in (earlier ++ e ∷ []) ≡ with_phase (line_script e) (scripts_in earlier)
+scripts-push earlier e = filter_map-append (line_script) earlier (e ∷ []) ∙ by (line_script e)
   where
     by : (o : Option Phase) → scripts_in earlier ++ cons_option o [] ≡ with_phase o (scripts_in earlier)
     by None = append-nil (scripts_in earlier)
@@ -258,11 +258,11 @@ abbrev from_line : List Line → Path → ℕ → Said → ℕ → List (List �
 from_line more file line v at ws vs es =
     record {
       rules = [];
-      notices = cons_option (notice_of file line v) (filter_map notice_in (cond (is_bad v) [] (through drops (body_of more (before ends es)))));
-      faults = cons_option (fault_of file line v) (filter_map fault_in (cond (is_bad v) [] (through drops (body_of more (before ends es)))));
+      notices = cons_option (notice_of file line v) (filter_map notice_in (cond (is_bad_line v) [] (through drops (body_of more (before ends es)))));
+      faults = cons_option (line_fault file line v) (filter_map fault_in (cond (is_bad_line v) [] (through drops (body_of more (before ends es)))));
     }
-    and (cond (is_bad v || list_any drops (body_of more (before ends es)))
-    (told (filter_map broken_fault (cond (is_bad v) (body_of more (before ends es)) (behind_first drops (body_of more (before ends es))))))
+    and (cond (is_bad_line v || list_any drops (body_of more (before ends es)))
+    (told (filter_map broken_fault (cond (is_bad_line v) (body_of more (before ends es)) (behind_first drops (body_of more (before ends es))))))
     (of_end at ws (fields_of (vs ++ cons_option (set_of v) (filter_map set_in (body_of more (before ends es))))) (find ends es)))
 
 -- the same, with the fields told
@@ -275,16 +275,16 @@ ended more at ws es f =
     }
     and (cond (list_any drops (body_of more (before ends es))) (told (filter_map broken_fault (behind_first drops (body_of more (before ends es))))) (of_end at ws f (find ends es)))
 
-abbrev good_state : List Past → List Set → ℕ → List (List ℕ) → List Phase → State
+abbrev good_state : List OutsideLine → List Set → ℕ → List (List ℕ) → List Phase → State
 good_state out vs at ws ps = st Good (fields_of (settings out)) ws (Some at) (fields_of vs) ps
 
 -- behind a line that says nothing here
-plain_on : (es : List Line) → Laws es → (out : List Past) (vs : List Set) (at : ℕ) (ws : List (List ℕ)) (more : List Line) (ps : List Phase) → scripts_in more ≡ ps
+plain_on : (es : List Line) → Laws es → (out : List OutsideLine) (vs : List Set) (at : ℕ) (ws : List (List ℕ)) (more : List Line) (ps : List Phase) → scripts_in more ≡ ps
     → run (good_state out vs at ws ps) es ≡ (rest_of more at ws vs es and meaning true out es)
 plain_on es l out vs at ws more ps is = ap (λ x. run (good_state out vs at ws x) es) (sym is) ∙ l.good out vs at ws more
 
 -- behind one that sets a field
-set_on : (es : List Line) → Laws es → (out : List Past) (vs : List Set) (at : ℕ) (ws : List (List ℕ)) (v : Set) (more : List Line) (ps : List Phase) → scripts_in more ≡ ps
+set_on : (es : List Line) → Laws es → (out : List OutsideLine) (vs : List Set) (at : ℕ) (ws : List (List ℕ)) (v : Set) (more : List Line) (ps : List Phase) → scripts_in more ≡ ps
     → run (st Good (fields_of (settings out)) ws (Some at) (with_set (fields_of vs) v) ps) es
     ≡ (ended more at ws es (fields_of (vs ++ v ∷ filter_map set_in (body_of more (before ends es)))) and meaning true out es)
 set_on es l out vs at ws v more ps is =
@@ -293,13 +293,13 @@ set_on es l out vs at ws v more ps is =
     ∙ ap (λ x. ended more at ws es (fields_of x) and meaning true out es) (append_assoc vs (v ∷ []) (filter_map set_in (body_of more (before ends es))))
 
 -- behind one that drops the definition
-drop_on : (es : List Line) → Laws es → (out : List Past) (vs : List Set) (at : ℕ) (ws : List (List ℕ)) (more : List Line) (ps : List Phase)
+drop_on : (es : List Line) → Laws es → (out : List OutsideLine) (vs : List Set) (at : ℕ) (ws : List (List ℕ)) (more : List Line) (ps : List Phase)
     → run (st Dropped (fields_of (settings out)) ws (Some at) (fields_of vs) ps) es
     ≡ (told (filter_map broken_fault (body_of more (before ends es))) and meaning true out es)
 drop_on es l out vs at ws more ps =
     l.drop out ws (Some at) (fields_of vs) ps ∙ ap (λ fs. told fs and meaning true out es) (sym (broken-are more (before ends es)))
 
-inside-law : (file : Path) (line : ℕ) (v : Said) (es : List Line) → Laws es → (out : List Past) (vs : List Set) (at : ℕ) (ws : List (List ℕ)) (ps : List Phase) (more : List Line)
+inside-law : (file : Path) (line : ℕ) (v : Said) (es : List Line) → Laws es → (out : List OutsideLine) (vs : List Set) (at : ℕ) (ws : List (List ℕ)) (ps : List Phase) (more : List Line)
     → scripts_in more ≡ with_phase (script_of v) ps
     → (said_inside file line (said_behind ps v) and run (with_said (good_state out vs at ws ps) v) es) ≡ (from_line more file line (said_behind ps v) at ws vs es and meaning true out es)
 inside-law file line (says.Sets v) es l out vs at ws ps more is = set_on es l out vs at ws v more ps is

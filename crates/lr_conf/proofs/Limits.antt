@@ -33,7 +33,7 @@ use Rattle.lr_fields.specs.Fields.{fields_of, last_set, criterion_set, count_set
 use Rattle.lr_fields.specs.Rules.{pieces_of, rule_of}
 use Rattle.lr_fields.specs.Scripts.{script_fault}
 use Rattle.lr_conf.specs.Meaning.{Line, End, Meaning, ◌and◌, told, conf, script_says, meaning}
-use Rattle.lr_conf.specs.Stops.{faults_of}
+use Rattle.lr_conf.specs.Stops.{layer_faults}
 use Rattle.lr_conf.specs.Internal.Draft.{coming_from, TookIn}
 use Rattle.lr_conf.proofs.Each.{Given}
 use Rattle.lr_conf.proofs.Walk.{OkSaid, Walk, each_rule, last_given}
@@ -235,9 +235,9 @@ behind_told old new e faults is h lines = sym (ap all_meet (is lines)) ∙ h (e 
 pub behind_line : (old new : Draft) (file : Path) (e : Line) (r : Result (Option Include) LayerStop) → TookIn old new file e r → Limited old → Limited new
 behind_line old new file e (Ok i) is h = behind_silent old new e is h
 behind_line old new file e (Err stop.Memory) is h = from_same old new is h
-behind_line old new file e (Err (stop.Conf at k)) is h = behind_told old new e (faults_of file (stop.Conf at k)) is h
-behind_line old new file e (Err (stop.NoBraceAnd first at k)) is h = behind_told old new e (faults_of file (stop.NoBraceAnd first at k)) is h
-behind_line old new file e (Err (stop.NoBraceThen first i)) is h = behind_told old new e (faults_of file (stop.NoBraceThen first i)) is h
+behind_line old new file e (Err (stop.Conf at k)) is h = behind_told old new e (layer_faults file (stop.Conf at k)) is h
+behind_line old new file e (Err (stop.NoBraceAnd first at k)) is h = behind_told old new e (layer_faults file (stop.NoBraceAnd first at k)) is h
+behind_line old new file e (Err (stop.NoBraceThen first i)) is h = behind_told old new e (layer_faults file (stop.NoBraceThen first i)) is h
 
 -- what the end of a file answers
 pub behind_end : (old new : Draft) (file : Path) (r : Option (ℕ × ConfKind))

@@ -18,7 +18,7 @@ use Rattle.lr_conf.specs.declared.stop.LayerStop.TheVariants as stop
 use Rattle.lr_words.specs.declared.taboo.TabooItems.{TabooItems}
 use Rattle.lr_match.specs.declared.taboo.Taboo.{Taboo}
 use Rattle.lr_fields.specs.Scripts.{script_fault}
-use Rattle.lr_conf.specs.Meaning.{Line, Read, Spoiled, End, Cut, Past, stands, spoiled, file_ends, breaks_off, list_of, opened, opens, past, ends, asks, asked, bans, after_bans, banned, outsiders}
+use Rattle.lr_conf.specs.Meaning.{Line, Read, Spoiled, End, Cut, OutsideLine, stands, spoiled, file_ends, breaks_off, list_of, opened, opens, past, ends, asks, asked, bans, after_bans, banned, outsiders}
 use Rattle.lr_fields.specs.Setting.{default_fields}
 use Rattle.lr_conf.specs.Internal.Draft.{State, spoken, turned, outside, scripted, with_said, good, dropped, left, step, is_inside, asks_at, bans_at, state_of, asking_from, banning_from, Stepped, Unchanged, Steps, AsksIn, BansIn}
 
@@ -50,7 +50,7 @@ spoken_place s at says.Unknown = refl
 spoken_place s at (says.Bad k) = refl
 spoken_place s at (says.BadNames k) = refl
 
-outside_place : (s : State) (p : Past) → s.place ≡ Outside → is_inside (outside s p).place ≡ opens p
+outside_place : (s : State) (p : OutsideLine) → s.place ≡ Outside → is_inside (outside s p).place ≡ opens p
 outside_place s (stands at false v) is = ap is_inside (spoken_place s at v ∙ is)
 outside_place s (stands at true v) is = turned_inside (opened s.first (stands at true v)) (spoken s at v)
 outside_place s (spoiled f) is = ap is_inside is

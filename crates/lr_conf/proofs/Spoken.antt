@@ -13,7 +13,7 @@ use Rattle.lr_conf.specs.declared.draft.Draft.{Draft}
 use Rattle.lr_fields.specs.declared.fields.Fields.{Fields}
 use Rattle.lr_conf.specs.declared.stop.Include.{Include}
 use Rattle.lr_conf.specs.declared.stop.LayerStop.{LayerStop}
-use Rattle.lr_conf.specs.Meaning.{Past, stands, conf, at_line, stray_at}
+use Rattle.lr_conf.specs.Meaning.{OutsideLine, stands, conf, at_line, stray_at}
 use Rattle.lr_fields.specs.Setting.{with_set}
 use Rattle.lr_conf.specs.Internal.Draft.{Spoke, Speaks, Settled, Noticed, Banned, answer_of, asking_answer, state_of, stray_kind, turned, without_names}
 
@@ -21,18 +21,18 @@ abbrev own_faults : Path → ℕ → Option ConfKind → List Fault
 own_faults file at None = []
 own_faults file at (Some k) = conf file k at ∷ []
 
-answered : (old new : Draft) (file : Path) (p : Past) (at : ℕ) (first : Option ℕ) (own : Option ConfKind)
+answered : (old new : Draft) (file : Path) (p : OutsideLine) (at : ℕ) (first : Option ℕ) (own : Option ConfKind)
     → Spoke old new file p (at_line file kind.NoBrace first ++ own_faults file at own) [] → Speaks old new file p (answer_of first at own)
 answered old new file p at None None s = s
 answered old new file p at None (Some k) s = s
 answered old new file p at (Some n) None s = s
 answered old new file p at (Some n) (Some k) s = s
 
-by_answer : (old new : Draft) (file : Path) (p : Past) (at : ℕ) (own : Option ConfKind) (r : Result (Option Include) LayerStop) → r ≡ answer_of old.first at own
+by_answer : (old new : Draft) (file : Path) (p : OutsideLine) (at : ℕ) (own : Option ConfKind) (r : Result (Option Include) LayerStop) → r ≡ answer_of old.first at own
     → Spoke old new file p (at_line file kind.NoBrace old.first ++ own_faults file at own) [] → Speaks old new file p r
 by_answer old new file p at own r e s = subst (Speaks old new file p) (sym e) (answered old new file p at old.first own s)
 
-asked : (old new : Draft) (file : Path) (p : Past) (first : Option ℕ) (i : Include) → Spoke old new file p (at_line file kind.NoBrace first ++ []) (i ∷ []) → Speaks old new file p (asking_answer first i)
+asked : (old new : Draft) (file : Path) (p : OutsideLine) (first : Option ℕ) (i : Include) → Spoke old new file p (at_line file kind.NoBrace first ++ []) (i ∷ []) → Speaks old new file p (asking_answer first i)
 asked old new file p None i s = s
 asked old new file p (Some n) i s = s
 

@@ -12,7 +12,7 @@ use Rattle.lr_forms.specs.Says.{said}
 use Rattle.lr_fields.specs.Fields.{fields_of, last_set}
 use Rattle.lr_fields.specs.Rules.{rule_of}
 use Rattle.lr_fields.specs.Scripts.{script_fault}
-use Rattle.lr_conf.specs.Meaning.{Line, Read, Spoiled, End, Cut, Past, stands, spoiled, file_ends, breaks_off, Meaning, nothing, told, set_of, set_past, settings, names_past, settles, pending, first_line, words_pending, first_pending, words_with, opened, opens, past, before, behind, ends, scripts_in, script_says, said_behind, within, body_of, drops, set_in, broken_fault, of_end, of_body, of_opening, meaning}
+use Rattle.lr_conf.specs.Meaning.{Line, Read, Spoiled, End, Cut, OutsideLine, stands, spoiled, file_ends, breaks_off, Meaning, nothing, told, set_of, set_past, settings, names_past, settles, pending, first_line, words_pending, first_pending, words_with, opened, opens, past, before, behind, ends, scripts_in, script_says, said_behind, within, body_of, drops, set_in, broken_fault, of_end, of_body, of_opening, meaning}
 use Rattle.lr_conf.proofs.Each.{append, backwards, front, Given, one_more, mapped, last}
 
 -- what a line sets, and the names that it has, are such
@@ -31,7 +31,7 @@ pub record Walk (S : Set → Type 0) (N : List (List ℕ) → Type 0) (R : Rule 
 
 -- ---- lines
 
-abbrev OkPast : (Set → Type 0) → (List (List ℕ) → Type 0) → Past → Type 0
+abbrev OkPast : (Set → Type 0) → (List (List ℕ) → Type 0) → OutsideLine → Type 0
 OkPast S N (stands at brace v) = OkSaid S N v
 OkPast S N p = Unit {0}
 
@@ -46,7 +46,7 @@ set_ok S N (says.Sets v) ok = ok
 set_ok S N (says.OwnerPassed v) ok = ok
 set_ok S N v ok = tt
 
-set_past_ok : (S : Set → Type 0) (N : List (List ℕ) → Type 0) (p : Past) → OkPast S N p → Given S (set_past p)
+set_past_ok : (S : Set → Type 0) (N : List (List ℕ) → Type 0) (p : OutsideLine) → OkPast S N p → Given S (set_past p)
 set_past_ok S N (stands at brace v) ok = set_ok S N v ok
 set_past_ok S N (spoiled f) ok = tt
 set_past_ok S N file_ends ok = tt
@@ -71,11 +71,11 @@ body_ok {S} w earlier (e ∷ es) = one_more S (set_in (within earlier e)) (filte
 abbrev OkNames : (List (List ℕ) → Type 0) → (ℕ × List (List ℕ)) → Type 0
 OkNames N n = N n.1
 
-names_past_ok : (S : Set → Type 0) (N : List (List ℕ) → Type 0) (p : Past) → OkPast S N p → Given (OkNames N) (names_past p)
+names_past_ok : (S : Set → Type 0) (N : List (List ℕ) → Type 0) (p : OutsideLine) → OkPast S N p → Given (OkNames N) (names_past p)
 names_past_ok S N (stands at brace (says.Names ws)) ok = ok
 names_past_ok S N p ok = tt
 
-pending_ok : (S : Set → Type 0) (N : List (List ℕ) → Type 0) (out : List Past) → Each (OkPast S N) out → Each (OkNames N) (pending out)
+pending_ok : (S : Set → Type 0) (N : List (List ℕ) → Type 0) (out : List OutsideLine) → Each (OkPast S N) out → Each (OkNames N) (pending out)
 pending_ok S N out ok =
     mapped (OkPast S N) (OkNames N) names_past (names_past_ok S N) (reverse (before settles (reverse out)))
     (backwards (OkPast S N) (before settles (reverse out)) (front (OkPast S N) settles (reverse out) (backwards (OkPast S N) out ok)))
@@ -101,7 +101,7 @@ joined_ok {S} {N} w (n ∷ ns) ok = by (first_line ns) (flat_map (λ m. m.1) ns)
     by None ws none = subst (λ rest. N (n.1 ++ rest)) (sym none) (subst N (sym (nil n.1)) ok.0)
     by (Some at) ws some = w.more n.1 ws ok.0 some
 
-opened_ok : {S : Set → Type 0} {N : List (List ℕ) → Type 0} {R : Rule → Type 0} (w : Walk S N R) (first : Option ℕ) (words : List (List ℕ)) (p : Past) → HasWords N first words → OkPast S N p → Opened N (opened first p) (words_with words p)
+opened_ok : {S : Set → Type 0} {N : List (List ℕ) → Type 0} {R : Rule → Type 0} (w : Walk S N R) (first : Option ℕ) (words : List (List ℕ)) (p : OutsideLine) → HasWords N first words → OkPast S N p → Opened N (opened first p) (words_with words p)
 opened_ok {S} {N} w None words (stands at brace (says.Names ws)) h ok = subst (λ front. N (front ++ ws)) (sym h) ok
 opened_ok w (Some n) words (stands at brace (says.Names ws)) h ok = w.more words ws h ok
 opened_ok w None words (stands at brace says.Open) h ok = tt
@@ -132,7 +132,7 @@ body_means_ok {S} {N} {R} w (Some at) words vs es n ok =
     either R (list_any drops body) (told (filter_map broken_fault (behind drops body))) (of_end at words (fields_of all) (find ends es)) tt
     (end_ok w at words all (find ends es) n (append S vs (filter_map set_in body) ok (body_ok w [] (before ends es))))
 
-opening_ok : {S : Set → Type 0} {N : List (List ℕ) → Type 0} {R : Rule → Type 0} (w : Walk S N R) (out : List Past) (p : Past) (es : List Line) → Each (OkPast S N) out → OkPast S N p → Rules R (of_opening out p es)
+opening_ok : {S : Set → Type 0} {N : List (List ℕ) → Type 0} {R : Rule → Type 0} (w : Walk S N R) (out : List OutsideLine) (p : OutsideLine) (es : List Line) → Each (OkPast S N) out → OkPast S N p → Rules R (of_opening out p es)
 opening_ok {S} {N} {R} w out p es ok here =
     either R (opens p) (of_body (opened (first_pending out) p) (words_with (words_pending out) p) (settings (out ++ p ∷ [])) es) nothing
     (body_means_ok w (opened (first_pending out) p) (words_with (words_pending out) p) (settings (out ++ p ∷ [])) es
@@ -140,7 +140,7 @@ opening_ok {S} {N} {R} w out p es ok here =
     (mapped (OkPast S N) S set_past (set_past_ok S N) (out ++ p ∷ []) (append (OkPast S N) out (p ∷ []) ok (here, tt))))
     tt
 
-meaning_ok : {S : Set → Type 0} {N : List (List ℕ) → Type 0} {R : Rule → Type 0} (w : Walk S N R) (es : List Line) (inside : Bool) (out : List Past) → Each (OkPast S N) out → Rules R (meaning inside out es)
+meaning_ok : {S : Set → Type 0} {N : List (List ℕ) → Type 0} {R : Rule → Type 0} (w : Walk S N R) (es : List Line) (inside : Bool) (out : List OutsideLine) → Each (OkPast S N) out → Rules R (meaning inside out es)
 meaning_ok w [] true out ok = tt
 meaning_ok w [] false out ok = tt
 meaning_ok {S} {N} {R} w (e ∷ es) true out ok =

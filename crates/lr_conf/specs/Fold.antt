@@ -22,8 +22,8 @@ abbrev pub banning : Layer → List Line → Taboo
 banning k lines = banning_from k.draft lines
 
 -- What a call answered that took a line, and how lines go on behind it.
-abbrev pub Took : Layer → Layer → Path → Line → Result (Option Include) LayerStop → Type 0
-Took old new file e r = TookIn old.draft new.draft file e r
+abbrev pub LayerTook : Layer → Layer → Path → Line → Result (Option Include) LayerStop → Type 0
+LayerTook old new file e r = TookIn old.draft new.draft file e r
 
 -- The file for which the answer asks is the one of the line.
 abbrev pub Asks : Layer → Layer → Line → Result (Option Include) LayerStop → Type 0
@@ -38,8 +38,8 @@ abbrev pub Alike : Layer → Layer → Type 0
 Alike old new = AlikeIn old.draft new.draft
 
 -- The line asks for nothing and makes nothing taboo.
-abbrev pub Passes : Layer → Layer → Line → Type 0
-Passes old new e = PassesIn old.draft new.draft e
+abbrev pub LayerPasses : Layer → Layer → Line → Type 0
+LayerPasses old new e = PassesIn old.draft new.draft e
 
 -- the files that were entered and not left, and the last of them, which is read
 abbrev pub entered : Layer → List Path

@@ -35,19 +35,19 @@ pub data Line : Type 0 where
   End : Path → Line
   Cut : Line
 
-abbrev pub file_of : Line → Path
-file_of (Read file i) = file
-file_of (Spoiled f) = []
-file_of (End file) = file
-file_of Cut = []
+abbrev pub line_file : Line → Path
+line_file (Read file i) = file
+line_file (Spoiled f) = []
+line_file (End file) = file
+line_file Cut = []
 
 -- A line outside definitions, as it was read there: its number, whether it ends with a brace, and what it says; or the
 -- fault that its reading told.
-pub data Past : Type 0 where
-  stands : ℕ → Bool → Said → Past
-  spoiled : Fault → Past
-  file_ends : Past
-  breaks_off : Past
+pub data OutsideLine : Type 0 where
+  stands : ℕ → Bool → Said → OutsideLine
+  spoiled : Fault → OutsideLine
+  file_ends : OutsideLine
+  breaks_off : OutsideLine
 
 -- ---- parts of a list
 
@@ -77,25 +77,25 @@ set_of (says.Sets v) = Some v
 set_of (says.OwnerPassed v) = Some v
 set_of s = None
 
-abbrev pub set_past : Past → Option Set
+abbrev pub set_past : OutsideLine → Option Set
 set_past (stands at brace s) = set_of s
 set_past p = None
 
 -- what lines outside definitions set
-abbrev pub settings : List Past → List Set
+abbrev pub settings : List OutsideLine → List Set
 settings out = filter_map set_past out
 
-abbrev pub names_past : Past → Option (ℕ × List (List ℕ))
+abbrev pub names_past : OutsideLine → Option (ℕ × List (List ℕ))
 names_past (stands at brace (says.Names ws)) = Some (at, ws)
 names_past p = None
 
 -- it ends with a brace, by which a definition begins
-abbrev pub opens : Past → Bool
+abbrev pub opens : OutsideLine → Bool
 opens (stands at brace s) = brace
 opens p = false
 
 -- a directive, a `}` or the end of a file: names that are pending before it have no brace
-abbrev pub leaves_names : Past → Bool
+abbrev pub leaves_names : OutsideLine → Bool
 leaves_names (stands at brace (says.Sets v)) = true
 leaves_names (stands at brace says.Quiet) = true
 leaves_names (stands at brace (says.OwnerPassed v)) = true
@@ -109,12 +109,12 @@ leaves_names file_ends = true
 leaves_names p = false
 
 -- behind it no names are pending
-abbrev pub settles : Past → Bool
+abbrev pub settles : OutsideLine → Bool
 settles breaks_off = true
 settles p = leaves_names p || opens p
 
 -- the names at the end of these lines, with the line of each
-abbrev pub pending : List Past → List (ℕ × List (List ℕ))
+abbrev pub pending : List OutsideLine → List (ℕ × List (List ℕ))
 pending out = filter_map names_past (reverse (before settles (reverse out)))
 
 abbrev pub first_line : List (ℕ × List (List ℕ)) → Option ℕ
@@ -122,10 +122,10 @@ first_line [] = None
 first_line (n ∷ ns) = Some n.0
 
 -- the line of the first of the pending names, and all their words
-abbrev pub first_pending : List Past → Option ℕ
+abbrev pub first_pending : List OutsideLine → Option ℕ
 first_pending out = first_line (pending out)
 
-abbrev pub words_pending : List Past → List (List ℕ)
+abbrev pub words_pending : List OutsideLine → List (List ℕ)
 words_pending out = flat_map (λ n. n.1) (pending out)
 
 abbrev pub or_line : Option ℕ → ℕ → ℕ
@@ -133,13 +133,13 @@ or_line None at = at
 or_line (Some first) at = first
 
 -- the line of the first name of the definition that this line opens; none where it drops it
-abbrev pub opened : Option ℕ → Past → Option ℕ
+abbrev pub opened : Option ℕ → OutsideLine → Option ℕ
 opened first (stands at brace (says.Names ws)) = Some (or_line first at)
 opened first (stands at brace says.Open) = first
 opened first p = None
 
 -- how a line is read outside definitions
-abbrev pub past : Line → Past
+abbrev pub past : Line → OutsideLine
 past (Read file i) = stands (line_of i) (has_brace i) (said false i)
 past (Spoiled f) = spoiled f
 past (End file) = file_ends
@@ -159,12 +159,12 @@ abbrev pub at_line : Path → ConfKind → Option ℕ → List Fault
 at_line file k None = []
 at_line file k (Some at) = conf file k at ∷ []
 
-abbrev pub notice_past : Path → Past → Option Notice
+abbrev pub notice_past : Path → OutsideLine → Option Notice
 notice_past file (stands at brace s) = notice_of file at s
 notice_past file p = None
 
 -- the line of the names that the line leaves without a brace
-abbrev pub left_names : Option ℕ → Past → Option ℕ
+abbrev pub left_names : Option ℕ → OutsideLine → Option ℕ
 left_names first p = if leaves_names p then first else None
 
 -- a brace that closes or opens where no names are pending
@@ -173,7 +173,7 @@ stray_at file None at = conf file kind.Stray at ∷ []
 stray_at file (Some first) at = []
 
 -- the fault of a line outside definitions, for itself, where names are pending from the line `first` on or none are
-abbrev pub own_fault : Path → Option ℕ → Past → List Fault
+abbrev pub own_fault : Path → Option ℕ → OutsideLine → List Fault
 own_fault file first (stands at brace says.Close) = stray_at file first at
 own_fault file first (stands at brace says.Open) = stray_at file first at
 own_fault file first (stands at brace says.Unknown) = conf file kind.Unknown at ∷ []
@@ -182,12 +182,12 @@ own_fault file first (stands at brace (says.BadNames k)) = conf file k at ∷ []
 own_fault file first (spoiled f) = f ∷ []
 own_fault file first p = []
 
-abbrev pub line_faults : Path → Option ℕ → Past → List Fault
+abbrev pub line_faults : Path → Option ℕ → OutsideLine → List Fault
 line_faults file first p = at_line file kind.NoBrace (left_names first p) ++ own_fault file first p
 
 -- ---- definitions
 
-abbrev pub words_with : List (List ℕ) → Past → List (List ℕ)
+abbrev pub words_with : List (List ℕ) → OutsideLine → List (List ℕ)
 words_with words (stands at brace (says.Names ws)) = words ++ ws
 words_with words p = words
 
@@ -199,22 +199,22 @@ ends (End file) = true
 ends Cut = true
 
 -- A line in a definition, as it is read there: its file and number, and what it says; or the fault that its reading told.
-pub data Within : Type 0 where
-  states : Path → ℕ → Said → Within
-  broken : Fault → Within
-  left_open : Within
+pub data InsideLine : Type 0 where
+  states : Path → ℕ → Said → InsideLine
+  broken : Fault → InsideLine
+  left_open : InsideLine
 
 abbrev pub script_of : Said → Option Phase
 script_of (says.Script phase text stray) = Some phase
 script_of s = None
 
-abbrev pub script_in : Line → Option Phase
-script_in (Read file i) = script_of (said true i)
-script_in e = None
+abbrev pub line_script : Line → Option Phase
+line_script (Read file i) = script_of (said true i)
+line_script e = None
 
 -- the scripts that stand among the lines of a definition
 abbrev pub scripts_in : List Line → List Phase
-scripts_in lines = filter_map (script_in) lines
+scripts_in lines = filter_map (line_script) lines
 
 abbrev pub script_says : Option ConfKind → Phase → List ℕ → Said
 script_says None p text = says.Sets (set.Script p text)
@@ -226,47 +226,47 @@ said_behind earlier (says.Script p text stray) = script_says (script_fault earli
 said_behind earlier s = s
 
 -- how a line is read in a definition, behind those of its lines that stand before it
-abbrev pub within : List Line → Line → Within
+abbrev pub within : List Line → Line → InsideLine
 within earlier (Read file i) = states file (line_of i) (said_behind (scripts_in earlier) (said true i))
 within earlier (Spoiled f) = broken f
 within earlier (End file) = left_open
 within earlier Cut = left_open
 
 -- the lines of a definition, each as it is read behind those before it
-abbrev pub body_of : List Line → List Line → List Within
+abbrev pub body_of : List Line → List Line → List InsideLine
 body_of earlier [] = []
 body_of earlier (e ∷ es) = within earlier e ∷ body_of (earlier ++ e ∷ []) es
 
-abbrev pub is_bad : Said → Bool
-is_bad (says.Bad k) = true
-is_bad s = false
+abbrev pub is_bad_line : Said → Bool
+is_bad_line (says.Bad k) = true
+is_bad_line s = false
 
 -- it drops the definition that it stands in
-abbrev pub drops : Within → Bool
-drops (states file at s) = is_bad s
+abbrev pub drops : InsideLine → Bool
+drops (states file at s) = is_bad_line s
 drops (broken f) = true
 drops left_open = false
 
-abbrev pub set_in : Within → Option Set
+abbrev pub set_in : InsideLine → Option Set
 set_in (states file at s) = set_of s
 set_in w = None
 
-abbrev pub notice_in : Within → Option Notice
+abbrev pub notice_in : InsideLine → Option Notice
 notice_in (states file at s) = notice_of file at s
 notice_in w = None
 
-abbrev pub fault_of : Path → ℕ → Said → Option Fault
-fault_of file at says.Unknown = Some (conf file kind.Unknown at)
-fault_of file at (says.Bad k) = Some (conf file k at)
-fault_of file at s = None
+abbrev pub line_fault : Path → ℕ → Said → Option Fault
+line_fault file at says.Unknown = Some (conf file kind.Unknown at)
+line_fault file at (says.Bad k) = Some (conf file k at)
+line_fault file at s = None
 
-abbrev pub fault_in : Within → Option Fault
-fault_in (states file at s) = fault_of file at s
+abbrev pub fault_in : InsideLine → Option Fault
+fault_in (states file at s) = line_fault file at s
 fault_in (broken f) = Some f
 fault_in w = None
 
 -- the fault that the line's reading told
-abbrev pub broken_fault : Within → Option Fault
+abbrev pub broken_fault : InsideLine → Option Fault
 broken_fault (broken f) = Some f
 broken_fault w = None
 
@@ -321,34 +321,34 @@ of_body None words before_it es = of_spoilt (before ends es)
 of_body (Some at) words before_it es = of_definition at words before_it es
 
 -- what begins at a line that opens a definition
-abbrev pub of_opening : List Past → Past → List Line → Meaning
+abbrev pub of_opening : List OutsideLine → OutsideLine → List Line → Meaning
 of_opening out p es =
     if opens p then of_body (opened (first_pending out) p) (words_with (words_pending out) p) (settings (out ++ p ∷ [])) es
     else nothing
 
 -- a line outside definitions, for itself
-abbrev pub of_line : Path → Option ℕ → Past → Meaning
+abbrev pub of_line : Path → Option ℕ → OutsideLine → Meaning
 of_line file first p = record { rules = []; notices = list_of (notice_past file p); faults = line_faults file first p }
 
 -- What lines mean: in a definition or not, the lines before them that stand outside definitions, and
 -- the lines. Those of an included file stand in the place of the line that asks for it.
-abbrev pub meaning : Bool → List Past → List Line → Meaning
+abbrev pub meaning : Bool → List OutsideLine → List Line → Meaning
 meaning inside out [] = nothing
 meaning true out (e ∷ es) = if ends e then meaning false (out ++ past e ∷ []) es else meaning true out es
 meaning false out (e ∷ es) =
-    of_line (file_of e) (first_pending out) (past e)
+    of_line (line_file e) (first_pending out) (past e)
     and (of_opening out (past e) es and meaning (opens (past e)) (out ++ past e ∷ []) es)
 
 -- ---- other files
 
 -- the lines that stand outside definitions, as they are read there
-abbrev pub outsiders : Bool → List Line → List Past
+abbrev pub outsiders : Bool → List Line → List OutsideLine
 outsiders inside [] = []
 outsiders true (e ∷ es) = outsiders (not (ends e)) es
 outsiders false (e ∷ es) = past e ∷ outsiders (opens (past e)) es
 
 -- the file that a line asks for
-abbrev pub asks : Past → Option Include
+abbrev pub asks : OutsideLine → Option Include
 asks (stands at brace (says.Include path)) = Some (record { path = path; line = at })
 asks p = None
 
@@ -357,7 +357,7 @@ abbrev pub asked : Bool → List Line → List Include
 asked inside lines = filter_map asks (outsiders inside lines)
 
 -- what a line makes taboo: items, and whether they are patterns
-abbrev pub bans : Past → Option (Bool × TabooItems)
+abbrev pub bans : OutsideLine → Option (Bool × TabooItems)
 bans (stands at brace (says.Taboo patterns items)) = Some (patterns, items)
 bans p = None
 

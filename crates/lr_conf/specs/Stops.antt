@@ -9,11 +9,11 @@ use Rattle.lr_conf.specs.declared.stop.LayerStop.TheVariants as stop
 use Rattle.lr_conf.specs.Meaning.{conf}
 
 -- its faults
-abbrev pub faults_of : Path → LayerStop → List Fault
-faults_of file (stop.Conf at k) = conf file k at ∷ []
-faults_of file (stop.NoBraceAnd first at k) = conf file kind.NoBrace first ∷ conf file k at ∷ []
-faults_of file (stop.NoBraceThen first include) = conf file kind.NoBrace first ∷ []
-faults_of file stop.Memory = []
+abbrev pub layer_faults : Path → LayerStop → List Fault
+layer_faults file (stop.Conf at k) = conf file k at ∷ []
+layer_faults file (stop.NoBraceAnd first at k) = conf file kind.NoBrace first ∷ conf file k at ∷ []
+layer_faults file (stop.NoBraceThen first include) = conf file kind.NoBrace first ∷ []
+layer_faults file stop.Memory = []
 
 -- the file for which it asks
 abbrev pub include_of : LayerStop → List Include

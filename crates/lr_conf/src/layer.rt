@@ -25,7 +25,8 @@ impl Layer {
     ghost use Rattle.lr_rules.specs.declared.fault.Fault.{Fault};
     ghost use Rattle.lr_match.specs.Taboos.{first_taboo};
     ghost use Rattle.lr_conf.specs.Meaning.{Read, Spoiled, End, Cut, meaning, asked, banned, told, conf, ◌and◌};
-    ghost use Rattle.lr_conf.specs.Fold.{coming, asking, banning, Took, Asks, Bans, Alike, Passes, file_of_layer, entered};
+    ghost use Rattle.lr_conf.specs.Fold.{coming, asking, banning, LayerTook, Asks, Bans, Alike, LayerPasses};
+    ghost use Rattle.lr_conf.specs.Fold.{file_of_layer, entered};
 
     /// A layer that took no line, with room for 8 entered files.
     pub fn new(alloc: Global) -> Result<Layer, Memory>
@@ -79,7 +80,7 @@ impl Layer {
     pub fn take(&mut self, item: Item) -> Result<Option<Include>, LayerStop>
         requires { 0 < length (entered self.old) }
         ensures files { entered self.new ≡ entered self.old }
-        ensures means { Took self.old self.new (file_of_layer self.old) (Read (file_of_layer self.old) item) result }
+        ensures means { LayerTook self.old self.new (file_of_layer self.old) (Read (file_of_layer self.old) item) result }
         ensures asks { Asks self.old self.new (Read (file_of_layer self.old) item) result }
         ensures bans { Bans self.old self.new (Read (file_of_layer self.old) item) result }
     {
@@ -92,7 +93,7 @@ impl Layer {
         ensures files { entered self.new ≡ entered self.old }
         ensures means { (f : Fault) (lines : List Line) → coming self.old (Spoiled f ∷ lines)
             ≡ (told (f ∷ []) and coming self.new lines) }
-        ensures passes { (f : Fault) → Passes self.old self.new (Spoiled f) }
+        ensures passes { (f : Fault) → LayerPasses self.old self.new (Spoiled f) }
     {
         self.draft.spoil(line);
     }
@@ -106,7 +107,7 @@ impl Layer {
             ((lines : List Line) → coming self.old (End (file_of_layer self.old) ∷ lines) ≡ coming self.new lines)
             (λ r. (lines : List Line) → coming self.old (End (file_of_layer self.old) ∷ lines)
             ≡ (told (conf (file_of_layer self.old) r.1 r.0 ∷ []) and coming self.new lines)) }
-        ensures passes { Passes self.old self.new (End (file_of_layer self.old)) }
+        ensures passes { LayerPasses self.old self.new (End (file_of_layer self.old)) }
     {
         self.draft.close_file()
     }
@@ -115,7 +116,7 @@ impl Layer {
     pub fn cut_file(&mut self)
         ensures files { entered self.new ≡ entered self.old }
         ensures means { (lines : List Line) → coming self.old (Cut ∷ lines) ≡ coming self.new lines }
-        ensures passes { Passes self.old self.new Cut }
+        ensures passes { LayerPasses self.old self.new Cut }
     {
         self.draft.cut_file();
     }

@@ -16,7 +16,7 @@ use Rattle.lr_copy.specs.Fits.{ArePaths}
 use Rattle.lr_copy.specs.Stops.{EmptiesNone}
 use Rattle.lr_copy.proofs.EachOfBytes.{each_all}
 use Rattle.lr_durable.proofs.Lists.{IsOnWay, on_way}
-use Rattle.lr_copied.specs.Whole.{Named, WritersSpare, IsWhole}
+use Rattle.lr_copied.specs.Whole.{Named, WritersSpareCopy, IsCopyWhole}
 use Rattle.lr_copied.proofs.Moments.{IsLast, is_last}
 use Rattle.lr_copied.proofs.Named.{whole}
 
@@ -56,8 +56,8 @@ ends_there b e (n ∷ ns) (x ∷ xs) ys cut a is = ap (λ z. z ∷ xs) (sym head
 
 -- ---- the law
 
-pub whole_before_cut : (job : Job) (count : ℕ) (p q : Past) (es : List Entry) → Made p es q → IsJournal p → ArePaths job → WritersSpare job p q → Copied job count (reverse es)
-    → (u : Past) → IsPrefix p u → IsPrefix (u ▸ entry.Truncates job.from) q → IsWhole job.from job.to p u
+pub whole_before_cut : (job : Job) (count : ℕ) (p q : Past) (es : List Entry) → Made p es q → IsJournal p → ArePaths job → WritersSpareCopy job p q → Copied job count (reverse es)
+    → (u : Past) → IsPrefix p u → IsPrefix (u ▸ entry.Truncates job.from) q → IsCopyWhole job.from job.to p u
 whole_before_cut job count p q es m j paths only n u since until = behind (on_way p (u ▸ e) q es m (shorter since) until)
   where
     e : Entry
@@ -76,12 +76,12 @@ whole_before_cut job count p q es m j paths only n u since until = behind (on_wa
     all_are : reverse es ≡ named ++ cutting job
     all_are = n.joined ∙ (ap (λ us. n.front ++ us) (n.second.joined ∙ (ap (λ us. n.second.front ++ us) n.second.second ∙ sym (append_assoc n.second.front (naming job) (cutting job)))) ∙ sym (append_assoc n.front (n.second.front ++ naming job) (cutting job)))
 
-    just : (w : IsOnWay p (u ▸ e) q es) → IsLast p u e w.old → IsWhole job.from job.to p u
+    just : (w : IsOnWay p (u ▸ e) q es) → IsLast p u e w.old → IsCopyWhole job.from job.to p u
     just w k =
         let whole_list : reverse es ≡ reverse k.front ++ (e ∷ reverse w.new) = ap reverse (w.es_are ∙ ap (λ us. w.new ++ us) k.es_are) ∙ (reverse-append w.new (e ∷ k.front) ∙ (ap (λ us. us ++ reverse w.new) (reverse-append (e ∷ []) k.front) ∙ append_assoc (reverse k.front) (e ∷ []) (reverse w.new))) in
         let same : reverse k.front ≡ named = ends_there job.cut e named (reverse k.front) (reverse w.new) (λ i. i) no_cut (sym all_are ∙ whole_list) in
         let one : Made u (e ∷ []) (u ▸ e) = by_tool at_first tt k.fits in
         whole job count p u k.front k.made j paths (since_before _ p u q k.front (w.new ++ e ∷ []) k.made (made_on u (u ▸ e) q (e ∷ []) w.new one w.behind) only) (subst (Named job count) (sym same) is_named)
 
-    behind : IsOnWay p (u ▸ e) q es → IsWhole job.from job.to p u
+    behind : IsOnWay p (u ▸ e) q es → IsCopyWhole job.from job.to p u
     behind w = just w (is_last p u (u ▸ e) e w.old (λ i. i) since w.before refl)

@@ -17,7 +17,7 @@ use Rattle.lr_durable.proofs.Lists.{prefix_last}
 use Rattle.lr_copy.specs.Bytes.{none_read, read_more, took_more}
 use Rattle.lr_copy.specs.Copying.{opening, naming}
 use Rattle.lr_copy.specs.Fits.{ArePaths}
-use Rattle.lr_copied.specs.Whole.{Named, WritersSpare, Has, IsWhole}
+use Rattle.lr_copied.specs.Whole.{Named, WritersSpareCopy, Has, IsCopyWhole}
 use Rattle.lr_copied.specs.Worked.{part, job, filled, in_order, name_pending, bytes_pending, fed_since, read_on}
 use Rattle.lr_copied.proofs.Named.{whole}
 
@@ -52,7 +52,7 @@ entries = entry.SyncsDir (codes "/v") ∷ entry.Renames part third ∷ entry.Syn
 pub made : Made start entries in_order
 made = by_tool (by_tool (by_tool (by_tool (by_tool (by_tool (by_tool at_first tt filled_journal.0.0.0.1) tt filled_journal.0.0.1) tt filled_journal.0.1) tt filled_journal.1) tt name_journal.0.1) tt name_journal.1) tt refl
 
-spare : WritersSpare job start in_order
+spare : WritersSpareCopy job start in_order
 spare = further (further (further (further (further (further (further from_here tt) tt) tt) tt) tt) tt) tt
 
 pub named : Named job 1 (reverse entries)
@@ -87,18 +87,18 @@ named = record {
   };
 }
 
-pub in_order_whole : IsWhole log third start in_order
+pub in_order_whole : IsCopyWhole log third start in_order
 in_order_whole = whole job 1 start in_order entries made found_valid paths spare named
 
 -- ---- the other two
 
-pub name_lost : IsWhole log third start name_pending → ⊥
+pub name_lost : IsCopyWhole log third start name_pending → ⊥
 name_lost h = let is : thing.Nothing ≡ thing.File h.copy = (h.cut (entry.Cut [] []) tt fits).named in cc
   where
     fits : Fits (world name_pending) (entry.Cut [] [])
     fits = record { places = omega arith; closed = ((tt, λ l. absurd (cc)), λ l. absurd (cc)); apart = tt; within = tt }
 
-pub bytes_lost : IsWhole log third start bytes_pending → ⊥
+pub bytes_lost : IsCopyWhole log third start bytes_pending → ⊥
 bytes_lost h = go h.copy h.bytes h.copied (h.cut (entry.Cut [] ((3, 0) ∷ [])) tt fits)
   where
     fits : Fits (world bytes_pending) (entry.Cut [] ((3, 0) ∷ []))
@@ -117,7 +117,7 @@ bytes_lost h = go h.copy h.bytes h.copied (h.cut (entry.Cut [] ((3, 0) ∷ [])) 
 pub read_on_journal : IsJournal read_on
 read_on_journal = ((((name_journal, refl), (inl (0, refl), refl)), (0, refl)), record { part = refl; ended = λ e. absurd (cc) })
 
-pub read_on_lost : IsWhole log third start read_on → ⊥
+pub read_on_lost : IsCopyWhole log third start read_on → ⊥
 read_on_lost h = ⊎_elim last_one (λ i. h.unread fed_since 1 (codes "D") i all_of) (prefix_last (h.last ▸ entry.Reads log (length h.bytes) []) read_on fed_since (entry.Reads log 1 (codes "D")) h.read refl)
   where
     last_one : h.last ▸ entry.Reads log (length h.bytes) [] ≡ fed_since ▸ entry.Reads log 1 (codes "D") → ⊥

@@ -7,7 +7,7 @@ use Rattle.lr_host.specs.declared.thing.Thing.{Thing}
 use Rattle.lr_host.specs.declared.thing.Thing.TheVariants as thing
 use Rattle.lr_host.specs.declared.entry.Entry.{Entry}
 use Rattle.lr_host.specs.declared.entry.Entry.TheVariants as entry
-use Rattle.lr_host.specs.Fits.{Fits, Gives, IsFileAt, IsPiece}
+use Rattle.lr_host.specs.Fits.{Fits, GivesPiece, IsFileAt, IsPiece}
 use Rattle.lr_host.specs.Opening.{IsJournal}
 use Rattle.lr_host.specs.Quiet.{AttachedOnlySince, from_here, further}
 use Rattle.lr_host.specs.Steady.{AttachesOnly}
@@ -87,7 +87,7 @@ module _ (P : Path → Type 0) (from part : Path) (g h : ℕ) (far : (y : Path) 
   -- a read
   so_read : (bytes piece : List ℕ) (p : Past) → Fits (world p) (entry.Reads from (length bytes) piece) → SoFar bytes [] p → SoFar (bytes ++ piece) piece (p ▸ entry.Reads from (length bytes) piece)
   so_read bytes piece p fits s =
-      let gives : Gives (world p) (thing.File g) (length bytes) piece = subst (λ (t : Thing). Gives (world p) t (length bytes) piece) s.log.named fits in
+      let gives : GivesPiece (world p) (thing.File g) (length bytes) piece = subst (λ (t : Thing). GivesPiece (world p) t (length bytes) piece) s.log.named fits in
       let is : s.rest ≡ piece ++ drop (length piece) s.rest = read_rest bytes s.rest piece ((world p).files g).bytes s.log.bytes_are gives in record {
         rest = drop (length piece) s.rest;
         log = record { named = s.log.named; bytes_are = s.log.bytes_are ∙ (ap (λ xs. bytes ++ xs) is ∙ sym (append_assoc bytes piece (drop (length piece) s.rest))) };
@@ -118,7 +118,7 @@ pub data IsUnderWay (from part : Path) (h : ℕ) (bytes owed : List ℕ) (p : Pa
 pub read_file : (p : Past) (x : Path) (k : ℕ) (piece : List ℕ) → Fits (world p) (entry.Reads x k piece) → IsFileAt (names (world p)) x
 read_file p x k piece fits = go (names (world p) x) fits
   where
-    go : (t : Thing) → Gives (world p) t k piece → (g : ℕ) × (t ≡ thing.File g)
+    go : (t : Thing) → GivesPiece (world p) t k piece → (g : ℕ) × (t ≡ thing.File g)
     go thing.Nothing fits = absurd fits
     go (thing.File g) fits = (g, refl)
     go thing.Directory fits = absurd fits

@@ -6,7 +6,7 @@ use Rattle.lr_host.specs.declared.thing.Thing.{Thing}
 use Rattle.lr_host.specs.declared.thing.Thing.TheVariants as thing
 use Rattle.lr_host.specs.declared.entry.Entry.{Entry}
 use Rattle.lr_host.specs.declared.entry.Entry.TheVariants as entry
-use Rattle.lr_host.specs.Fits.{Fits, Gives}
+use Rattle.lr_host.specs.Fits.{Fits, GivesPiece}
 use Rattle.lr_host.specs.Opening.{IsJournal}
 use Rattle.lr_host.specs.Quiet.{AttachedOnlySince, from_here, further}
 use Rattle.lr_host.specs.Safe.{IsMachines, IsPrefix}
@@ -26,7 +26,7 @@ use Rattle.lr_durable.proofs.Lists.{At, at, made_prefix, prefix_on}
 use Rattle.lr_durable.proofs.Parts.{IsOwn, own_waits, own_sync, own_walk}
 use Rattle.lr_durable.proofs.Syncs.{synced_durable}
 use Rattle.lr_durable.proofs.Walks.{IsSafeFile, named_walk, safe_walk}
-use Rattle.lr_copied.specs.Whole.{Named, WritersSpare, Has, IsWhole}
+use Rattle.lr_copied.specs.Whole.{Named, WritersSpareCopy, Has, IsCopyWhole}
 use Rattle.lr_copied.proofs.Logs.{LeavesLog, HasMore, log_walk}
 use Rattle.lr_copied.proofs.Moments.{is_unread}
 use Rattle.lr_copied.proofs.Filled.{IsSoFar, made_own, read_none, read_file, so_far, under_copies}
@@ -120,7 +120,7 @@ module _ (P : Path → Type 0) (job : Job) (paths : ArePaths job) (far_part : (y
 
     -- just before the last read
     whole_behind : (g : ℕ) (b : Past) → IsPrefix p b → IsJournal b → Fits (world b) (entry.Reads job.from (length f.bytes) []) → (h : ℕ) → IsSoFar job.from job.part g h f.bytes [] b → Made (b ▸ entry.Reads job.from (length f.bytes) []) (reverse behind) q
-        → AttachedOnlySince P (b ▸ entry.Reads job.from (length f.bytes) []) q → IsWhole job.from job.to p q
+        → AttachedOnlySince P (b ▸ entry.Reads job.from (length f.bytes) []) q → IsCopyWhole job.from job.to p q
     whole_behind g b since k fits h s m only = record {
       log = g;
       copy = h;
@@ -140,8 +140,8 @@ module _ (P : Path → Type 0) (job : Job) (paths : ArePaths job) (far_part : (y
         e : Entry
         e = entry.Reads job.from (length f.bytes) []
 
-        gives : Gives (world b) (thing.File g) (length f.bytes) []
-        gives = subst (λ (t : Thing). Gives (world b) t (length f.bytes) []) s.log.named fits
+        gives : GivesPiece (world b) (thing.File g) (length f.bytes) []
+        gives = subst (λ (t : Thing). GivesPiece (world b) t (length f.bytes) []) s.log.named fits
 
         has : Has job.from g f.bytes b
         has = record { named = s.log.named; bytes_are = read_none f.bytes s.rest ((world b).files g).bytes s.log.bytes_are gives }
@@ -164,10 +164,10 @@ module _ (P : Path → Type 0) (job : Job) (paths : ArePaths job) (far_part : (y
         c : IsNamed h f.bytes q
         c = is_named h f.bytes (b ▸ e) q m only own
 
-    whole_at : Made p (reverse (clearing job ++ (entry.Makes job.part job.mode ∷ (f.copying ++ ends)))) q → IsWhole job.from job.to p q
+    whole_at : Made p (reverse (clearing job ++ (entry.Makes job.part job.mode ∷ (f.copying ++ ends)))) q → IsCopyWhole job.from job.to p q
     whole_at m = made (at P p q (clearing job) (entry.Makes job.part job.mode) (f.copying ++ ends) tt m only)
       where
-        made : At P p q (clearing job) (entry.Makes job.part job.mode) (f.copying ++ ends) → IsWhole job.from job.to p q
+        made : At P p q (clearing job) (entry.Makes job.part job.mode) (f.copying ++ ends) → IsCopyWhole job.from job.to p q
         made a = read (at P r q f.copying (entry.Reads job.from (length f.bytes) []) behind tt a.second a.only_second)
           where
             e : Entry
@@ -182,18 +182,18 @@ module _ (P : Path → Type 0) (job : Job) (paths : ArePaths job) (far_part : (y
             one : Made a.mid (e ∷ []) r
             one = by_tool at_first tt a.fits
 
-            read : At P r q f.copying (entry.Reads job.from (length f.bytes) []) behind → IsWhole job.from job.to p q
+            read : At P r q f.copying (entry.Reads job.from (length f.bytes) []) behind → IsCopyWhole job.from job.to p q
             read b = behind_it (so_far job.from job.part (world a.mid).drawn f.bytes b.mid (read_file b.mid job.from (length f.bytes) [] b.fits)
                 (under_copies P job.from job.part (world a.mid).drawn far_part paths.part_apart f.bytes [] f.copying f.copies r b.mid k_next b.first b.only_first (made_own a.mid job.part job.mode k)))
               where
                 k_next : IsJournal r
                 k_next = made_journal a.mid r (e ∷ []) one k
 
-                behind_it : (g : ℕ) × IsSoFar job.from job.part g (world a.mid).drawn f.bytes [] b.mid → IsWhole job.from job.to p q
+                behind_it : (g : ℕ) × IsSoFar job.from job.part g (world a.mid).drawn f.bytes [] b.mid → IsCopyWhole job.from job.to p q
                 behind_it l = whole_behind l.0 b.mid (prefix_on p r b.mid (made_prefix p r (e ∷ reverse (clearing job)) (by_tool a.first tt a.fits)) (made_prefix r b.mid (reverse f.copying) b.first))
                     (made_journal r b.mid (reverse f.copying) b.first k_next) b.fits (world a.mid).drawn l.1 b.second b.only_second
 
-pub whole : (job : Job) (count : ℕ) (p q : Past) (es : List Entry) → Made p es q → IsJournal p → ArePaths job → WritersSpare job p q → Named job count (reverse es) → IsWhole job.from job.to p q
+pub whole : (job : Job) (count : ℕ) (p q : Past) (es : List Entry) → Made p es q → IsJournal p → ArePaths job → WritersSpareCopy job p q → Named job count (reverse es) → IsCopyWhole job.from job.to p q
 whole job count p q es m j paths only n = go (flat P job paths far_part far_to count (reverse es) n)
   where
     P : Path → Type 0
@@ -205,5 +205,5 @@ whole job count p q es m j paths only n = go (flat P job paths far_part far_to c
     far_to : (y : Path) → P y → y ≢ job.to
     far_to y s = s.1
 
-    go : IsFlat P job paths far_part far_to count (reverse es) → IsWhole job.from job.to p q
+    go : IsFlat P job paths far_part far_to count (reverse es) → IsCopyWhole job.from job.to p q
     go f = whole_at P job paths far_part far_to count p q (reverse es) j only f (subst (λ (xs : List Entry). Made p xs q) (sym (reverse-reverse es) ∙ ap reverse f.ts_are) m)

@@ -17,8 +17,8 @@ abbrev pub Named : Job → ℕ → List Entry → Type 0
 Named job count ts = Then (Are (opening job)) (Then (Fills job count) (Are (naming job))) ts
 
 -- No writer is attached to the part file's path, nor to the final one.
-abbrev pub WritersSpare : Job → Past → Past → Type 0
-WritersSpare job p q = AttachedOnlySince (λ x. (x ≢ job.part) × (x ≢ job.to)) p q
+abbrev pub WritersSpareCopy : Job → Past → Past → Type 0
+WritersSpareCopy job p q = AttachedOnlySince (λ x. (x ≢ job.part) × (x ≢ job.to)) p q
 
 -- the entry is no feed by a writer that holds the file
 abbrev pub IsNoFeed : ℕ → Past → Entry → Type 0
@@ -44,7 +44,7 @@ IsUnread x p q = (r : Past) (place : ℕ) (piece : List ℕ) → IsPrefix p r �
 -- The final path names a file that has, now and after each cut that is allowed now, just the bytes that the log's file had at its
 -- last read, which was made at the end of them and gave nothing. The log's path names the same file still; that has these bytes
 -- first, and then what writers fed it since.
-pub record IsWhole (from to : Path) (before now : Past) : Type 0 where
+pub record IsCopyWhole (from to : Path) (before now : Past) : Type 0 where
   -- the log's file, and that of the copy
   pub log : ℕ
   pub copy : ℕ

@@ -9,11 +9,11 @@ ghost use Rattle.lr_host.specs.World.{Past, ◌▸◌};
 ghost use Rattle.lr_copy.specs.declared.job.Job.{Job};
 ghost use Rattle.lr_copy.specs.Copying.{Copied};
 ghost use Rattle.lr_copy.specs.Fits.{ArePaths};
-ghost use Rattle.lr_copied.specs.Whole.{WritersSpare, IsWhole};
+ghost use Rattle.lr_copied.specs.Whole.{WritersSpareCopy, IsCopyWhole};
 
 /// So it is just before the log is emptied; what is lost then is what was fed to the log since that read, and no more.
 pub fn copy_is_whole_before_cut()
     ensures { (job : Job) (count : ℕ) (p q : Past) (es : List Entry) → Made p es q → IsJournal p → ArePaths job
-        → WritersSpare job p q → Copied job count (reverse es)
-        → (u : Past) → IsPrefix p u → IsPrefix (u ▸ entry.Truncates job.from) q → IsWhole job.from job.to p u }
+        → WritersSpareCopy job p q → Copied job count (reverse es)
+        → (u : Past) → IsPrefix p u → IsPrefix (u ▸ entry.Truncates job.from) q → IsCopyWhole job.from job.to p u }
 {}

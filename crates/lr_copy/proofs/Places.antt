@@ -19,7 +19,7 @@ use Rattle.lr_host.proofs.More.{IsMore, more_on, made_more, wrote_names, file_sa
 use Rattle.lr_host.proofs.Names.{put_here, put_other}
 use Rattle.lr_host.proofs.Stays.{Stays, left_still, left_one, told_as, dir_more, file_more, dir_put, file_put, no_dir}
 use Rattle.lr_copy.specs.declared.job.Job.{Job}
-use Rattle.lr_copy.specs.Fits.{ArePaths, HasPlace, CanCopy, CanOpen, CanName, CanCut}
+use Rattle.lr_copy.specs.Fits.{ArePaths, CopyHasPlace, CanCopy, CanOpen, CanName, CanCut}
 
 -- ---- what entries do to facts of names
 
@@ -32,7 +32,7 @@ can_by Q e o f h = record { can = go o h }
 
 -- ---- the place of a copy
 
-place_more : (job : Job) → Stays (HasPlace job)
+place_more : (job : Job) → Stays (CopyHasPlace job)
 place_more job n n' more h = record {
   log = file_more job.from n n' more h.log;
   directory = dir_more job.dir n n' more h.directory;
@@ -42,7 +42,7 @@ place_more job n n' more h = record {
 
 -- with the part file
 abbrev Full : Job → Names → Type 0
-Full job n = HasPlace job n × IsFileAt n job.part
+Full job n = CopyHasPlace job n × IsFileAt n job.part
 
 full_more : (job : Job) → Stays (Full job)
 full_more job n n' more h = (place_more job n n' more h.0, file_more job.part n n' more h.1)
@@ -55,7 +55,7 @@ near_more : (job : Job) → Stays (Near job)
 near_more job n n' more h = (file_more job.from n n' more h.0, dir_more job.dir n n' more h.1)
 
 -- an old part file goes
-place_dropped : (job : Job) (n : Names) → ArePaths job → IsFileAt n job.part → HasPlace job n → HasPlace job (put n job.part thing.Nothing)
+place_dropped : (job : Job) (n : Names) → ArePaths job → IsFileAt n job.part → CopyHasPlace job n → CopyHasPlace job (put n job.part thing.Nothing)
 place_dropped job n paths f h =
     let other : put n job.part thing.Nothing job.to ≡ n job.to = put_other n job.part job.to thing.Nothing (λ e. paths.part_not_to (sym e)) in record {
       log = file_put n job.part job.from thing.Nothing paths.part_apart h.log;
@@ -67,24 +67,24 @@ place_dropped job n paths f h =
 -- ---- the calls, in order
 
 pub can_unlink : (job : Job) {o : Option Journal} → job.stale ≡ true → CanCopy o job → Can o (entry.Unlinks job.part)
-can_unlink job {o = o} stale can = can_by (λ n. HasPlace job n × (job.stale ≡ true → IsFileAt n job.part)) (entry.Unlinks job.part) o (λ n f. f.1 stale) can.place
+can_unlink job {o = o} stale can = can_by (λ n. CopyHasPlace job n × (job.stale ≡ true → IsFileAt n job.part)) (entry.Unlinks job.part) o (λ n f. f.1 stale) can.place
 
 pub not_cleared : (job : Job) {o : Option Journal} → CanCopy o job → CanOpen o job
-not_cleared job {o = o} can = record { place = told_as (λ n. HasPlace job n × (job.stale ≡ true → IsFileAt n job.part)) (HasPlace job) o (λ n f. f.0) can.place }
+not_cleared job {o = o} can = record { place = told_as (λ n. CopyHasPlace job n × (job.stale ≡ true → IsFileAt n job.part)) (CopyHasPlace job) o (λ n f. f.0) can.place }
 
 pub is_cleared : (job : Job) {o m : Option Journal} → ArePaths job → job.stale ≡ true → CanCopy o job → Left (λ ts. ts ≡ entry.Unlinks job.part ∷ []) o m → CanOpen m job
 is_cleared job {o = o} paths stale can l = record {
-  place = left_one (Full job) (HasPlace job) (full_more job) (place_more job) (entry.Unlinks job.part) (λ r h fits. place_dropped job (names (world r)) paths h.1 h.0) l
-      (told_as (λ n. HasPlace job n × (job.stale ≡ true → IsFileAt n job.part)) (Full job) o (λ n f. (f.0, f.1 stale)) can.place);
+  place = left_one (Full job) (CopyHasPlace job) (full_more job) (place_more job) (entry.Unlinks job.part) (λ r h fits. place_dropped job (names (world r)) paths h.1 h.0) l
+      (told_as (λ n. CopyHasPlace job n × (job.stale ≡ true → IsFileAt n job.part)) (Full job) o (λ n f. (f.0, f.1 stale)) can.place);
 }
 
 pub can_make : (job : Job) {o : Option Journal} → ArePaths job → CanOpen o job → Can o (entry.Makes job.part job.mode)
-can_make job {o = o} paths can = can_by (HasPlace job) (entry.Makes job.part job.mode) o (λ n f. subst (λ d. IsDirectoryAt n d) (sym paths.part_in) f.directory) can.place
+can_make job {o = o} paths can = can_by (CopyHasPlace job) (entry.Makes job.part job.mode) o (λ n f. subst (λ d. IsDirectoryAt n d) (sym paths.part_in) f.directory) can.place
 
 pub is_made : (job : Job) {o m : Option Journal} → CanOpen o job → Left (λ ts. ts ≡ entry.Makes job.part job.mode ∷ []) o m → CanName m job
-is_made job can l = record { place = left_one (HasPlace job) (Full job) (place_more job) (full_more job) (entry.Makes job.part job.mode) made l can.place }
+is_made job can l = record { place = left_one (CopyHasPlace job) (Full job) (place_more job) (full_more job) (entry.Makes job.part job.mode) made l can.place }
   where
-    made : (r : Past) → HasPlace job (names (world r)) → Fits (world r) (entry.Makes job.part job.mode) → Full job (names (world (r ▸ entry.Makes job.part job.mode)))
+    made : (r : Past) → CopyHasPlace job (names (world r)) → Fits (world r) (entry.Makes job.part job.mode) → Full job (names (world (r ▸ entry.Makes job.part job.mode)))
     made r h fits =
         let n = names (world r) in (
           place_more job n (names (world (r ▸ entry.Makes job.part job.mode))) (made_more n job.part (world r).drawn fits.1) h,

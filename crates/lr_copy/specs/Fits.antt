@@ -17,7 +17,7 @@ pub record ArePaths (job : Job) : Type 0 where
   pub part_in : parent_of job.part ≡ job.dir
 
 -- There is a place for the copy: the log stands, the directory does, and the final path is that of a file, or free.
-pub record HasPlace (job : Job) (n : Names) : Type 0 where
+pub record CopyHasPlace (job : Job) (n : Names) : Type 0 where
   pub log : IsFileAt n job.from
   pub directory : IsDirectoryAt n job.dir
   pub no_directory : n job.to ≢ thing.Directory
@@ -29,15 +29,15 @@ IsStale job n = job.stale ≡ true → IsFileAt n job.part
 
 -- Where the journal is told: there is a place for the copy, and the old part file that was seen stands.
 pub record CanCopy (told : Option Journal) (job : Job) : Type 0 where
-  pub place : WhereTold told (λ p. HasPlace job (names (world p)) × IsStale job (names (world p)))
+  pub place : WhereTold told (λ p. CopyHasPlace job (names (world p)) × IsStale job (names (world p)))
 
 -- Where it is told: there is a place for the copy.
 pub record CanOpen (told : Option Journal) (job : Job) : Type 0 where
-  pub place : WhereTold told (λ p. HasPlace job (names (world p)))
+  pub place : WhereTold told (λ p. CopyHasPlace job (names (world p)))
 
 -- And the part file stands.
 pub record CanName (told : Option Journal) (job : Job) : Type 0 where
-  pub place : WhereTold told (λ p. HasPlace job (names (world p)) × IsFileAt (names (world p)) job.part)
+  pub place : WhereTold told (λ p. CopyHasPlace job (names (world p)) × IsFileAt (names (world p)) job.part)
 
 -- Where it is told: the log stands.
 pub record CanCut (told : Option Journal) (job : Job) : Type 0 where

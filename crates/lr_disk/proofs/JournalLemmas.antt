@@ -8,7 +8,7 @@ use Rattle.lr_host.specs.declared.entry.Entry.TheVariants as entry
 use Rattle.lr_host.specs.Fits.{Fits}
 use Rattle.lr_host.specs.Opening.{IsJournal}
 use Rattle.lr_disk.specs.declared.state.State.{State}
-use Rattle.lr_disk.specs.State.{Shows, IsDisk, with_entry}
+use Rattle.lr_disk.specs.State.{ShowsWorld, IsDisk, with_entry}
 use Rattle.lr_disk.proofs.StateLemmas.{shows_still}
 
 then_append : (p : Past) (xs ys : List Entry) → then p (xs ++ ys) ≡ then (then p xs) ys
@@ -26,14 +26,14 @@ pub ended : (s : State) (j : Journal) (es : List Entry) (n c m d : ℕ) → IsDi
 ended s j es n c m d i runs is empty =
     let more = past_more j es entry.Ends is in
     record {
-      shows = subst (λ p. Shows s (world p)) (sym more) (shows_still s (world (past j)) (effect (world (past j)) entry.Ends) i.shows refl (λ id. refl) (λ u. refl) refl refl refl);
+      shows = subst (λ p. ShowsWorld s (world p)) (sym more) (shows_still s (world (past j)) (effect (world (past j)) entry.Ends) i.shows refl (λ id. refl) (λ u. refl) refl refl refl);
       journal = subst IsJournal (sym more) (i.journal, runs);
       empty = empty;
       room = λ t. absurd (let f : (world (past j ▸ entry.Ends)).running ≡ true = subst (λ p. (world p).running ≡ true) more t in cc);
     }
 
 -- room was made
-pub readied : (s t : State) (j : Journal) (es : List Entry) (n c m d : ℕ) → IsDisk s n c j → es ≡ j.entries → ((w : World) → Shows s w → Shows t w) → m ≡ n → c ≤ d → IsDisk t m d (record { opening = j.opening; entries = es })
+pub readied : (s t : State) (j : Journal) (es : List Entry) (n c m d : ℕ) → IsDisk s n c j → es ≡ j.entries → ((w : World) → ShowsWorld s w → ShowsWorld t w) → m ≡ n → c ≤ d → IsDisk t m d (record { opening = j.opening; entries = es })
 readied s t j es n c m d i is same size wider = subst (λ l. IsDisk t m d (record { opening = j.opening; entries = l })) (sym is) (record {
   shows = same (world (past j)) i.shows;
   journal = i.journal;
@@ -45,11 +45,11 @@ readied s t j es n c m d i is same size wider = subst (λ l. IsDisk t m d (recor
     more k lt = omega arith
 
 -- an entry came
-pub entered_disk : (s t : State) (j : Journal) (es : List Entry) (e : Entry) (n c m d more : ℕ) → IsDisk s n c j → Fits (world (past j)) e → es ≡ j.entries ++ e ∷ [] → Shows t (effect (world (past j)) e) → m ≡ n → more ≡ length j.entries + 2 → m + more ≤ d → IsDisk t m d (record { opening = j.opening; entries = es })
+pub entered_disk : (s t : State) (j : Journal) (es : List Entry) (e : Entry) (n c m d more : ℕ) → IsDisk s n c j → Fits (world (past j)) e → es ≡ j.entries ++ e ∷ [] → ShowsWorld t (effect (world (past j)) e) → m ≡ n → more ≡ length j.entries + 2 → m + more ≤ d → IsDisk t m d (record { opening = j.opening; entries = es })
 entered_disk s t j es e n c m d more i fits is shows same size room =
     let grown = past_more j es e is in
     record {
-      shows = subst (λ p. Shows t (world p)) (sym grown) shows;
+      shows = subst (λ p. ShowsWorld t (world p)) (sym grown) shows;
       journal = subst IsJournal (sym grown) (i.journal, fits);
       empty = same ∙ i.empty;
       room = λ r. let l : length es ≡ length j.entries + 1 = ap length is ∙ length-append j.entries (e ∷ []) in let k = i.empty in omega arith;

@@ -6,12 +6,12 @@ use Rattle.lr_host.specs.declared.thing.Thing.TheVariants as thing
 use Rattle.lr_host.specs.Lists.{AreDistinct}
 use Rattle.lr_host.specs.World.{World, Names, names_kept, is_file, IsClosed}
 use Rattle.lr_host.specs.Below.{NamesBelow}
-use Rattle.lr_host.specs.Fits.{IsNamed, AreLengths, AreApart, AreRising, IsCut}
+use Rattle.lr_host.specs.Fits.{IsNamed, AreLengths, LengthsDiffer, AreRising, IsCut}
 use Rattle.lr_disk.specs.declared.state.State.{State}
 use Rattle.lr_disk.specs.declared.file.MemFile.{MemFile}
 use Rattle.lr_disk.specs.Pairs.{keys}
 use Rattle.lr_disk.specs.Names.{named_in}
-use Rattle.lr_disk.specs.State.{Shows}
+use Rattle.lr_disk.specs.State.{ShowsWorld}
 use Rattle.lr_disk.specs.Lengths.{has_file, names_left, MayKeep, AreWithin}
 use Rattle.lr_disk.proofs.StateLemmas.{left_names, left_below}
 use Rattle.lr_disk.proofs.PairLemmas.{numbers_tell, valued_has}
@@ -67,24 +67,24 @@ within_alike fs n m [] same a = tt
 within_alike fs n m (l ∷ ls) same a = ((named_agree n m l.0 same a.0.0, a.0.1, a.0.2), within_alike fs n m ls same a.1)
 
 -- what the state has of lengths is what its world has
-pub within_lengths : (s : State) (w : World) (n m : Names) (ls : List (ℕ × ℕ)) → Shows s w → NamesBelow w.drawn m → Agree n m → AreWithin s.files.items n ls → AreLengths w m ls
+pub within_lengths : (s : State) (w : World) (n m : Names) (ls : List (ℕ × ℕ)) → ShowsWorld s w → NamesBelow w.drawn m → Agree n m → AreWithin s.files.items n ls → AreLengths w m ls
 within_lengths s w n m [] shows below same a = tt
 within_lengths s w n m (l ∷ ls) shows below same a =
     let named = named_agree n m l.0 same a.0.0 in
     let is = shows.files l.0 (below named.0 l.0 named.1) in
     (named, subst (λ f. f.synced ≤ l.1) is a.0.1, subst (λ f. l.1 ≤ length f.bytes) is a.0.2, within_lengths s w n m ls shows below same a.1)
 
-pub lengths_within : (s : State) (w : World) (n m : Names) (ls : List (ℕ × ℕ)) → Shows s w → NamesBelow w.drawn m → Agree n m → AreLengths w m ls → AreWithin s.files.items n ls
+pub lengths_within : (s : State) (w : World) (n m : Names) (ls : List (ℕ × ℕ)) → ShowsWorld s w → NamesBelow w.drawn m → Agree n m → AreLengths w m ls → AreWithin s.files.items n ls
 lengths_within s w n m [] shows below same a = tt
 lengths_within s w n m (l ∷ ls) shows below same a =
     let is = shows.files l.0 (below a.0.0 l.0 a.0.1) in
     ((named_agree m n l.0 (λ x. sym (same x)) a.0, subst (λ f. f.synced ≤ l.1) (sym is) a.1, subst (λ f. l.1 ≤ length f.bytes) (sym is) a.2), lengths_within s w n m ls shows below same a.3)
 
 -- which cuts are allowed, by the state
-pub left_in : (s : State) (w : World) (kept : List ℕ) → Shows s w → NamesBelow (length s.files.items) (names_left s kept)
+pub left_in : (s : State) (w : World) (kept : List ℕ) → ShowsWorld s w → NamesBelow (length s.files.items) (names_left s kept)
 left_in s w kept shows x g e = subst (λ n. g < n) (sym shows.drawn) (left_below w kept shows.below_durable shows.below_pending x g (sym (left_names s w kept shows x) ∙ e))
 
-pub cut_allowed : (s : State) (w : World) (kept : List ℕ) (ls : List (ℕ × ℕ)) → Shows s w → MayKeep kept s.tree.changes.items → AreApart ls → AreWithin s.files.items (names_left s kept) ls → IsCut w kept ls
+pub cut_allowed : (s : State) (w : World) (kept : List ℕ) (ls : List (ℕ × ℕ)) → ShowsWorld s w → MayKeep kept s.tree.changes.items → LengthsDiffer ls → AreWithin s.files.items (names_left s kept) ls → IsCut w kept ls
 cut_allowed s w kept ls shows keeps apart within = record {
   places = subst (λ cs. AreRising 0 kept (length cs)) shows.changes keeps.0;
   closed = subst (IsClosed kept) shows.changes keeps.1;
@@ -92,8 +92,8 @@ cut_allowed s w kept ls shows keeps apart within = record {
   within = within_lengths s w (names_left s kept) (names_kept w kept) ls shows (left_below w kept shows.below_durable shows.below_pending) (left_names s w kept shows) within;
 }
 
-pub cut_keeps : (s : State) (w : World) (kept : List ℕ) (ls : List (ℕ × ℕ)) → Shows s w → IsCut w kept ls → MayKeep kept s.tree.changes.items
+pub cut_keeps : (s : State) (w : World) (kept : List ℕ) (ls : List (ℕ × ℕ)) → ShowsWorld s w → IsCut w kept ls → MayKeep kept s.tree.changes.items
 cut_keeps s w kept ls shows cut = (subst (λ cs. AreRising 0 kept (length cs)) (sym shows.changes) cut.places, subst (IsClosed kept) (sym shows.changes) cut.closed)
 
-pub cut_within : (s : State) (w : World) (kept : List ℕ) (ls : List (ℕ × ℕ)) → Shows s w → IsCut w kept ls → AreWithin s.files.items (names_left s kept) ls
+pub cut_within : (s : State) (w : World) (kept : List ℕ) (ls : List (ℕ × ℕ)) → ShowsWorld s w → IsCut w kept ls → AreWithin s.files.items (names_left s kept) ls
 cut_within s w kept ls shows cut = lengths_within s w (names_left s kept) (names_kept w kept) ls shows (left_below w kept shows.below_durable shows.below_pending) (left_names s w kept shows) cut.within

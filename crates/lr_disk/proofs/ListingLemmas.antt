@@ -14,7 +14,7 @@ use Rattle.lr_host.specs.declared.thing.Thing.TheVariants as thing
 use Rattle.lr_host.specs.Fits.{IsPart, AreNamesIn}
 use Rattle.lr_host.specs.Lists.{AreDistinct, IsNotIn}
 use Rattle.lr_disk.specs.Pairs.{keys}
-use Rattle.lr_disk.specs.Names.{named_in, has_path, is_nothing, is_in, name_of, listed_in}
+use Rattle.lr_disk.specs.Names.{named_in, has_path, is_nothing, stands_right_in, name_of, listed_in}
 use Rattle.lr_disk.proofs.PairLemmas.{bytes_tell}
 
 abbrev Pair : Type 0
@@ -57,14 +57,14 @@ record Inside (dir : Path) (n : Pair) : Type 0 where
   parent : parent_of n.0 ≡ dir
   some : is_empty (last_of n.0) ≡ false
 
-inside : (dir : Path) (n : Pair) → is_in dir n ≡ true → Inside dir n
+inside : (dir : Path) (n : Pair) → stands_right_in dir n ≡ true → Inside dir n
 inside dir n h =
     let a = both (not (is_nothing n.1)) (bytes_eq (parent_of n.0) dir && not (is_empty (last_of n.0))) h in
     let b = both (bytes_eq (parent_of n.0) dir) (not (is_empty (last_of n.0))) a.1 in
     record { named = nothing n.1 (not_true _ a.0); parent = same (parent_of n.0) dir b.0; some = not_true _ b.1 }
 
 -- what one pair lists
-one_listed : (dir : Path) (name : List ℕ) (n : Pair) (b : Bool) → is_in dir n ≡ b → list_any (bytes_eq name) (cond b (last_of n.0 ∷ []) []) ≡ true → Inside dir n × (name ≡ last_of n.0)
+one_listed : (dir : Path) (name : List ℕ) (n : Pair) (b : Bool) → stands_right_in dir n ≡ b → list_any (bytes_eq name) (cond b (last_of n.0 ∷ []) []) ≡ true → Inside dir n × (name ≡ last_of n.0)
 one_listed dir name n true h l = (inside dir n h, or_cases (bytes_eq name (last_of n.0)) false (name ≡ last_of n.0) l (λ t. same name (last_of n.0) t) (λ f. absurd (cc)))
 one_listed dir name n false h l = absurd (cc)
 
@@ -89,7 +89,7 @@ listed_stands dir name [] paths once h = absurd (cc)
 listed_stands dir name (n ∷ ns) paths once h =
     or_cases (list_any (bytes_eq name) (name_of dir n)) (list_any (bytes_eq name) (listed_in dir ns)) (IsPart name × (named_in (n ∷ ns) (joined dir name) ≢ thing.Nothing) × (has_path (n ∷ ns) (joined dir name) ≡ true))
     (sym (list_any-append (bytes_eq name) (name_of dir n) (listed_in dir ns)) ∙ h)
-    (λ t. here (one_listed dir name n (is_in dir n) refl t))
+    (λ t. here (one_listed dir name n (stands_right_in dir n) refl t))
     (λ t. there (listed_stands dir name ns paths.1 once.1 t))
   where
     here : Inside dir n × (name ≡ last_of n.0) → IsPart name × (named_in (n ∷ ns) (joined dir name) ≢ thing.Nothing) × (has_path (n ∷ ns) (joined dir name) ≡ true)
@@ -117,7 +117,7 @@ stands_listed dir name (n ∷ ns) path part s =
     listed_here is named =
         let last : last_of n.0 ≡ name = ap last_of is ∙ last_joined dir name part.1 in
         let parent : parent_of n.0 ≡ dir = ap parent_of is ∙ parent_joined dir name path part.1 in
-        let t : is_in dir n ≡ true =
+        let t : stands_right_in dir n ≡ true =
         ap (λ b. not b && (bytes_eq (parent_of n.0) dir && not (is_empty (last_of n.0)))) (something n.1 named)
         ∙ (ap (λ b. b && not (is_empty (last_of n.0))) (itself (parent_of n.0) dir parent) ∙ ap not (ap is_empty last ∙ part.0)) in
         ap (λ b. list_any (bytes_eq name) (cond b (last_of n.0 ∷ []) [])) t ∙ ap (λ b. b || false) (itself name (last_of n.0) (sym last))
@@ -137,17 +137,17 @@ stands_listed dir name (n ∷ ns) path part s =
 -- each once
 not_listed : (dir : Path) (n : Pair) (ns : List Pair) → path_fault n.0 ≡ None → Inside dir n → ArePaths ns → IsNotIn n.0 (keys ns) → IsNotIn (last_of n.0) (listed_in dir ns)
 not_listed dir n [] path i paths new = tt
-not_listed dir n (m ∷ ns) path i paths new = go (is_in dir m) refl (not_listed dir n ns path i paths.1 new.1)
+not_listed dir n (m ∷ ns) path i paths new = go (stands_right_in dir m) refl (not_listed dir n ns path i paths.1 new.1)
   where
-    go : (b : Bool) → is_in dir m ≡ b → IsNotIn (last_of n.0) (listed_in dir ns) → IsNotIn (last_of n.0) (cond b (last_of m.0 ∷ []) [] ++ listed_in dir ns)
+    go : (b : Bool) → stands_right_in dir m ≡ b → IsNotIn (last_of n.0) (listed_in dir ns) → IsNotIn (last_of n.0) (cond b (last_of m.0 ∷ []) [] ++ listed_in dir ns)
     go true e rest = ((λ l. new.0 (sym (whole dir n path i) ∙ (ap (joined dir) l ∙ whole dir m paths.0 (inside dir m e)))), rest)
     go false e rest = rest
 
 pub listed_once : (dir : Path) (ns : List Pair) → ArePaths ns → AreDistinct (keys ns) → AreDistinct (listed_in dir ns)
 listed_once dir [] paths once = tt
-listed_once dir (n ∷ ns) paths once = go (is_in dir n) refl (listed_once dir ns paths.1 once.1)
+listed_once dir (n ∷ ns) paths once = go (stands_right_in dir n) refl (listed_once dir ns paths.1 once.1)
   where
-    go : (b : Bool) → is_in dir n ≡ b → AreDistinct (listed_in dir ns) → AreDistinct (cond b (last_of n.0 ∷ []) [] ++ listed_in dir ns)
+    go : (b : Bool) → stands_right_in dir n ≡ b → AreDistinct (listed_in dir ns) → AreDistinct (cond b (last_of n.0 ∷ []) [] ++ listed_in dir ns)
     go true e rest = (not_listed dir n ns paths.0 (inside dir n e) paths.1 once.0, rest)
     go false e rest = rest
 

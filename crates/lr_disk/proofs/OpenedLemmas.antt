@@ -8,16 +8,16 @@ use Rattle.lr_host.specs.declared.thing.Thing.TheVariants as thing
 use Rattle.lr_host.specs.declared.journal.Opening.{Opening}
 use Rattle.lr_host.specs.declared.journal.OpenFile.{OpenFile}
 use Rattle.lr_host.specs.Lists.{AreDistinct, IsNotIn}
-use Rattle.lr_host.specs.Opening.{IsValid, paths_of}
+use Rattle.lr_host.specs.Opening.{IsValid, opening_paths}
 use Rattle.lr_host.specs.World.{opened, opening_names, opening_file, opening_hold, named_at_first, in_list}
 use Rattle.lr_disk.specs.declared.state.State.{State}
 use Rattle.lr_disk.specs.declared.file.MemFile.{MemFile}
 use Rattle.lr_disk.specs.Pairs.{keys}
 use Rattle.lr_disk.specs.declared.tree.Tree.{Tree}
-use Rattle.lr_disk.specs.Names.{named_in, names_of, has_path}
+use Rattle.lr_disk.specs.Names.{named_in, opening_pairs, has_path}
 use Rattle.lr_disk.specs.Pending.{pending_of, AreKnown}
-use Rattle.lr_disk.specs.Tree.{IsTree, IsOpened}
-use Rattle.lr_disk.specs.State.{Shows, as_open, file_at, hold_in}
+use Rattle.lr_disk.specs.Tree.{IsTree, IsTreeOpened}
+use Rattle.lr_disk.specs.State.{ShowsWorld, as_open, file_with, hold_in}
 use Rattle.lr_disk.proofs.PairLemmas.{bytes_tell}
 
 -- the paths of an opening, in their order
@@ -33,7 +33,7 @@ keys_files : (fs : List (Path × ℕ)) (ns : List (Path × Thing)) (qs : List Pa
 keys_files [] ns qs e = e
 keys_files (f ∷ fs) ns qs e = ap (λ l. f.0 ∷ l) (keys_files fs ns qs e)
 
-pub keys_names : (o : Opening) → keys (names_of o) ≡ paths_of o
+pub keys_names : (o : Opening) → keys (opening_pairs o) ≡ opening_paths o
 keys_names o = keys_files o.names _ (o.dirs ++ o.others) (keys_both thing.Directory o.dirs _ o.others (keys_paths thing.Other o.others))
 
 -- what the paths name
@@ -87,10 +87,10 @@ named (f ∷ fs) ds es x once = go (bytes_eq f.0 x) refl (named fs ds es x once.
     go false e h = h
 
 -- files and holds
-files : (fs : List MemFile) (os : List OpenFile) → map as_open fs ≡ os → (id : ℕ) → file_at fs id ≡ opening_file os id
-files fs os e id = subst (λ l. file_at fs id ≡ opening_file l id) e (go fs id)
+files : (fs : List MemFile) (os : List OpenFile) → map as_open fs ≡ os → (id : ℕ) → file_with fs id ≡ opening_file os id
+files fs os e id = subst (λ l. file_with fs id ≡ opening_file l id) e (go fs id)
   where
-    go : (fs : List MemFile) (id : ℕ) → file_at fs id ≡ opening_file (map as_open fs) id
+    go : (fs : List MemFile) (id : ℕ) → file_with fs id ≡ opening_file (map as_open fs) id
     go [] zero = refl
     go [] (suc id) = refl
     go (f ∷ fs) zero = refl
@@ -122,7 +122,7 @@ unmade (f ∷ os) zero le = absurd (omega arith)
 unmade (f ∷ os) (suc id) le = unmade os id (omega arith)
 
 -- the names of an opening
-pub tree_opened : (o : Opening) (t : Tree) → IsOpened o t → IsValid o → IsTree t
+pub tree_opened : (o : Opening) (t : Tree) → IsTreeOpened o t → IsValid o → IsTree t
 tree_opened o t i v = record {
   once = subst AreDistinct (sym (ap keys i.named ∙ keys_names o)) v.once;
   durable_once = subst AreDistinct (sym (ap keys i.durable ∙ keys_names o)) v.once;
@@ -137,7 +137,7 @@ tree_opened o t i v = record {
     none : (n : ℕ) → t.changes.items ≡ [] → length t.changes.items ≤ n
     none n e = let l : length t.changes.items ≡ 0 = ap length e in omega arith
 
-pub shows_opened : (s : State) (o : Opening) → IsOpened o s.tree → map as_open s.files.items ≡ o.files → s.holds.items ≡ map (λ h. (h.0, Some h.1)) o.holds → s.moment ≡ pos 0 → IsValid o → Shows s (opened o)
+pub shows_opened : (s : State) (o : Opening) → IsTreeOpened o s.tree → map as_open s.files.items ≡ o.files → s.holds.items ≡ map (λ h. (h.0, Some h.1)) o.holds → s.moment ≡ pos 0 → IsValid o → ShowsWorld s (opened o)
 shows_opened s o i same_files same_holds now v = record {
   tree = tree_opened o s.tree i v;
   named = λ x. ap (λ ns. named_in ns x) i.named ∙ named o.names o.dirs o.others x v.once;

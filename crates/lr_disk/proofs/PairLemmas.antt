@@ -4,7 +4,7 @@ use Rattle.std.specs.Prelude.{slice_set}
 use Rattle.std.proofs.lemmas.Bool.Decides.{Decides-eqb}
 use Rattle.std.proofs.lemmas.Slice.Eq.{bytes_eq-Decides}
 use Rattle.lr_host.specs.Lists.{AreDistinct, IsNotIn}
-use Rattle.lr_disk.specs.Pairs.{value_of, keys, has, with_value}
+use Rattle.lr_disk.specs.Pairs.{pair_value, keys, has, with_value}
 
 -- the test tells whether two keys are the same
 abbrev pub Tells : {K : Type 0} → (K → K → Bool) → Type 0
@@ -32,17 +32,17 @@ swapped false t v a b h = refl
 -- the first pair with the key changed
 pub set_is : {K V : Type 0} (eq : K → K → Bool) → Tells eq → (none : V) (ps : List (K × V)) (i : ℕ) (d : K × V) (x : K) (v : V) (y : K) → i < length ps
     → has eq (take i ps) x ≡ false → eq (get_or ps i d).0 x ≡ true
-    → value_of eq none (slice_set ps i ((get_or ps i d).0, v)) y ≡ with_value eq (value_of eq none ps) x v y
+    → pair_value eq none (slice_set ps i ((get_or ps i d).0, v)) y ≡ with_value eq (pair_value eq none ps) x v y
 set_is eq tells none [] i d x v y lt new hit = absurd (omega arith)
 set_is eq tells none (p ∷ ps) zero d x v y lt new hit =
-    subst (λ z. cond (eq p.0 y) v (value_of eq none ps y) ≡ cond (eq z y) v (cond (eq p.0 y) p.1 (value_of eq none ps y)))
-    ((tells p.0 x).0 hit) (twice (eq p.0 y) v p.1 (value_of eq none ps y))
+    subst (λ z. cond (eq p.0 y) v (pair_value eq none ps y) ≡ cond (eq z y) v (cond (eq p.0 y) p.1 (pair_value eq none ps y)))
+    ((tells p.0 x).0 hit) (twice (eq p.0 y) v p.1 (pair_value eq none ps y))
 set_is eq tells none (p ∷ ps) (suc i) d x v y lt new hit =
     let o = or_false (eq p.0 x) (has eq (take i ps) x) new in
-    let later : value_of eq none (slice_set ps i ((get_or ps i d).0, v)) y ≡ cond (eq x y) v (value_of eq none ps y) =
+    let later : pair_value eq none (slice_set ps i ((get_or ps i d).0, v)) y ≡ cond (eq x y) v (pair_value eq none ps y) =
     set_is eq tells none ps i d x v y (omega arith) o.1 hit in
     ap (λ r. cond (eq p.0 y) p.1 r) later
-    ∙ swapped (eq x y) (eq p.0 y) v p.1 (value_of eq none ps y)
+    ∙ swapped (eq x y) (eq p.0 y) v p.1 (pair_value eq none ps y)
     (λ s. subst (λ z. eq p.0 z ≡ false) ((tells x y).0 s) o.0)
 
 pub keys_set : {K V : Type 0} (ps : List (K × V)) (i : ℕ) (d : K × V) (v : V) → i < length ps → keys (slice_set ps i ((get_or ps i d).0, v)) ≡ keys ps
@@ -55,7 +55,7 @@ either true v = refl
 either false v = refl
 
 -- a pair without a value, behind all others
-pub value_of_last : {K V : Type 0} (eq : K → K → Bool) (none : V) (ps : List (K × V)) (x y : K) → value_of eq none (ps ++ (x, none) ∷ []) y ≡ value_of eq none ps y
+pub value_of_last : {K V : Type 0} (eq : K → K → Bool) (none : V) (ps : List (K × V)) (x y : K) → pair_value eq none (ps ++ (x, none) ∷ []) y ≡ pair_value eq none ps y
 value_of_last eq none [] x y = either (eq x y) none
 value_of_last eq none (p ∷ ps) x y = ap (λ v. cond (eq p.0 y) p.1 v) (value_of_last eq none ps x y)
 
@@ -88,11 +88,11 @@ has_only eq tells (p ∷ ps) q x h = go (eq p.0 x) h (has_only eq tells ps q x)
     go false h f = f h
 
 -- a key that no pair has has no value
-pub value_lacks : {K V : Type 0} (eq : K → K → Bool) (none : V) (ps : List (K × V)) (x : K) → has eq ps x ≡ false → value_of eq none ps x ≡ none
+pub value_lacks : {K V : Type 0} (eq : K → K → Bool) (none : V) (ps : List (K × V)) (x : K) → has eq ps x ≡ false → pair_value eq none ps x ≡ none
 value_lacks eq none [] x h = refl
 value_lacks eq none (p ∷ ps) x h = go (eq p.0 x) h (value_lacks eq none ps x)
   where
-    go : (b : Bool) → (b || has eq ps x) ≡ false → (has eq ps x ≡ false → value_of eq none ps x ≡ none) → cond b p.1 (value_of eq none ps x) ≡ none
+    go : (b : Bool) → (b || has eq ps x) ≡ false → (has eq ps x ≡ false → pair_value eq none ps x ≡ none) → cond b p.1 (pair_value eq none ps x) ≡ none
     go true h f = absurd (cc)
     go false h f = f h
 
@@ -108,11 +108,11 @@ once_last eq tells (p ∷ ps) q new once =
     (not_in_last ps q p.0 once.0 (λ same. let t : eq p.0 q.0 ≡ true = (tells p.0 q.0).1 same in let f = o.0 in cc), once_last eq tells ps q o.1 once.1)
 
 -- a key that some pair has
-pub valued_has : {K V : Type 0} (eq : K → K → Bool) (none : V) (ps : List (K × V)) (x : K) → value_of eq none ps x ≢ none → has eq ps x ≡ true
+pub valued_has : {K V : Type 0} (eq : K → K → Bool) (none : V) (ps : List (K × V)) (x : K) → pair_value eq none ps x ≢ none → has eq ps x ≡ true
 valued_has eq none [] x ne = absurd (ne refl)
 valued_has eq none (p ∷ ps) x ne = go (eq p.0 x) ne (valued_has eq none ps x)
   where
-    go : (b : Bool) → cond b p.1 (value_of eq none ps x) ≢ none → (value_of eq none ps x ≢ none → has eq ps x ≡ true) → (b || has eq ps x) ≡ true
+    go : (b : Bool) → cond b p.1 (pair_value eq none ps x) ≢ none → (pair_value eq none ps x ≢ none → has eq ps x ≡ true) → (b || has eq ps x) ≡ true
     go true ne f = refl
     go false ne f = f ne
 

@@ -17,9 +17,9 @@ use Rattle.lr_disk.specs.declared.state.State.{State}
 use Rattle.lr_disk.specs.declared.file.MemFile.{MemFile}
 use Rattle.lr_disk.specs.Names.{named_in}
 use Rattle.lr_disk.specs.Pending.{pending_of}
-use Rattle.lr_disk.specs.Tree.{IsTree, IsSame, CanChange, IsChanged, IsSynced, IsLeft}
+use Rattle.lr_disk.specs.Tree.{IsTree, IsSameTree, CanChange, IsChanged, IsSynced, IsTreeLeft}
 use Rattle.lr_disk.specs.Lengths.{names_left}
-use Rattle.lr_disk.specs.State.{Shows, IsReady, CanDraw, IsFiled, as_file, no_file, file_at, file_of, hold_in, fed_file, synced_file, emptied_file, cut_file, made_world}
+use Rattle.lr_disk.specs.State.{ShowsWorld, EntryHasRoom, CanDraw, IsFiled, as_file, no_file, file_with, file_named, hold_in, fed_file, synced_file, emptied_file, cut_file, made_world}
 use Rattle.lr_disk.proofs.PairLemmas.{numbers_tell}
 use Rattle.lr_disk.proofs.StepLemmas.{names_alike}
 use Rattle.lr_disk.proofs.TreeLemmas.{same_self}
@@ -32,7 +32,7 @@ alike_names : (w v : World) → v.durable ≡ w.durable → v.pending ≡ w.pend
 alike_names w v durable pending x = ap (λ d. names_after d v.pending x) durable ∙ ap (λ p. names_after w.durable p x) pending
 
 -- what a cut leaves of the names
-pub left_names : (s : State) (w : World) (kept : List ℕ) → Shows s w → (x : Path) → names_left s kept x ≡ names_kept w kept x
+pub left_names : (s : State) (w : World) (kept : List ℕ) → ShowsWorld s w → (x : Path) → names_left s kept x ≡ names_kept w kept x
 left_names s w kept shows x =
     ap (λ cs. names_after (named_in s.tree.durable.items) (kept_at kept cs) x) shows.changes ∙ names_alike (kept_at kept w.pending) (named_in s.tree.durable.items) w.durable x shows.durable
 
@@ -40,7 +40,7 @@ pub left_below : (w : World) (kept : List ℕ) → NamesBelow w.drawn w.durable 
 left_below w kept below pending = after_below w.drawn w.durable (kept_at kept w.pending) (kept_below w.drawn kept w.pending pending) below
 
 -- the same world
-pub shows_kept : (s t : State) (w : World) → Shows s w → IsSame s.tree t.tree → map as_file t.files.items ≡ map as_file s.files.items → ((v : ℕ) → hold_in t.holds.items v ≡ hold_in s.holds.items v) → t.moment ≡ s.moment → Shows t w
+pub shows_kept : (s t : State) (w : World) → ShowsWorld s w → IsSameTree s.tree t.tree → map as_file t.files.items ≡ map as_file s.files.items → ((v : ℕ) → hold_in t.holds.items v ≡ hold_in s.holds.items v) → t.moment ≡ s.moment → ShowsWorld t w
 shows_kept s t w shows same files holds now = record {
   tree = same.tree;
   named = λ x. same.named x ∙ shows.named x;
@@ -57,7 +57,7 @@ shows_kept s t w shows same files holds now = record {
 }
 
 -- the same names
-pub same_names : (s : State) (w : World) → Shows s w → IsSame s.tree s.tree
+pub same_names : (s : State) (w : World) → ShowsWorld s w → IsSameTree s.tree s.tree
 same_names s w shows = same_self s.tree shows.tree
 
 pub set_same : (fs : List MemFile) (k : ℕ) (x y : MemFile) → x ≡ get_or fs k x → as_file y ≡ as_file x → map as_file (slice_set fs k y) ≡ map as_file fs
@@ -66,13 +66,13 @@ set_same (f ∷ fs) zero x y is e = ap (λ a. a ∷ map as_file fs) (e ∙ ap as
 set_same (f ∷ fs) (suc k) x y is e = ap (λ rest. as_file f ∷ rest) (set_same fs k x y is e)
 
 -- the file at the place changed, and the others as they were
-pub set_here : (fs : List MemFile) (k : ℕ) (y : MemFile) → k < length fs → file_at (slice_set fs k y) k ≡ as_file y
+pub set_here : (fs : List MemFile) (k : ℕ) (y : MemFile) → k < length fs → file_with (slice_set fs k y) k ≡ as_file y
 set_here fs k y lt = ap (λ l. get_or l k no_file) (map-set as_file fs k y) ∙ get_or-set_same (map as_file fs) k (as_file y) no_file (let e = length-map fs as_file in omega arith)
 
-pub set_there : (fs : List MemFile) (k id : ℕ) (y : MemFile) → (id ≡ k → ⊥) → file_at (slice_set fs k y) id ≡ file_at fs id
+pub set_there : (fs : List MemFile) (k id : ℕ) (y : MemFile) → (id ≡ k → ⊥) → file_with (slice_set fs k y) id ≡ file_with fs id
 set_there fs k id y ne = ap (λ l. get_or l id no_file) (map-set as_file fs k y) ∙ get_or-set_other (map as_file fs) k id (as_file y) no_file ne
 
-pub file_here : (fs : List MemFile) (k : ℕ) (x : MemFile) → k < length fs → x ≡ get_or fs k x → file_at fs k ≡ as_file x
+pub file_here : (fs : List MemFile) (k : ℕ) (x : MemFile) → k < length fs → x ≡ get_or fs k x → file_with fs k ≡ as_file x
 file_here fs k x lt is = get_or-map as_file fs k x no_file lt ∙ ap as_file (sym is)
 
 pub get_set : (fs : List MemFile) (k : ℕ) (y x : MemFile) → k < length fs → slice_get (slice_set fs k y) k ≡ Some x → x ≡ y
@@ -91,22 +91,22 @@ length_set (f ∷ fs) zero y = refl
 length_set (f ∷ fs) (suc k) y = ap suc (length_set fs k y)
 
 -- A file made by a writer.
-file_last : (fs : List MemFile) (f : MemFile) → file_at (fs ++ f ∷ []) (length fs) ≡ as_file f
+file_last : (fs : List MemFile) (f : MemFile) → file_with (fs ++ f ∷ []) (length fs) ≡ as_file f
 file_last [] f = refl
 file_last (g ∷ fs) f = file_last fs f
 
-file_before : (fs : List MemFile) (f : MemFile) (id : ℕ) → id < length fs → file_at (fs ++ f ∷ []) id ≡ file_at fs id
+file_before : (fs : List MemFile) (f : MemFile) (id : ℕ) → id < length fs → file_with (fs ++ f ∷ []) id ≡ file_with fs id
 file_before [] f id lt = absurd (omega arith)
 file_before (g ∷ fs) f zero lt = refl
 file_before (g ∷ fs) f (suc id) lt = file_before fs f id (omega arith)
 
 -- one file changed
 pub set_filed : (fs gs : List MemFile) (k : ℕ) (f : File → File) (x y : MemFile) → gs ≡ slice_set fs k y → k < length fs → x ≡ get_or fs k x → as_file y ≡ f (as_file x)
-    → (id : ℕ) → id < length fs → file_at gs id ≡ cond (nat_eq k id) (f (file_at fs id)) (file_at fs id)
-set_filed fs gs k f x y set lt is made id within = ap (λ l. file_at l id) set ∙ go (nat_eq k id) refl
+    → (id : ℕ) → id < length fs → file_with gs id ≡ cond (nat_eq k id) (f (file_with fs id)) (file_with fs id)
+set_filed fs gs k f x y set lt is made id within = ap (λ l. file_with l id) set ∙ go (nat_eq k id) refl
   where
-    go : (b : Bool) → nat_eq k id ≡ b → file_at (slice_set fs k y) id ≡ cond b (f (file_at fs id)) (file_at fs id)
-    go true e = subst (λ j. file_at (slice_set fs k y) j ≡ f (file_at fs j)) ((numbers_tell k id).0 e) (set_here fs k y lt ∙ (made ∙ ap f (sym (file_here fs k x lt is))))
+    go : (b : Bool) → nat_eq k id ≡ b → file_with (slice_set fs k y) id ≡ cond b (f (file_with fs id)) (file_with fs id)
+    go true e = subst (λ j. file_with (slice_set fs k y) j ≡ f (file_with fs j)) ((numbers_tell k id).0 e) (set_here fs k y lt ∙ (made ∙ ap f (sym (file_here fs k x lt is))))
     go false e = set_there fs k id y (λ same. let t : nat_eq k id ≡ true = (numbers_tell k id).1 (sym same) in cc)
 
 pub filed_one : (s t : State) (k : ℕ) (f : File → File) (x y : MemFile) → t.tree ≡ s.tree → t.holds.items ≡ s.holds.items → t.moment ≡ s.moment
@@ -131,20 +131,20 @@ filed_none s t k f tree holds now files le = record {
   holds = holds;
   now = now;
   size = ap length files;
-  files = λ id lt. ap (λ l. file_at l id) files ∙ go id lt (nat_eq k id) refl;
+  files = λ id lt. ap (λ l. file_with l id) files ∙ go id lt (nat_eq k id) refl;
 }
   where
-    go : (id : ℕ) → id < length s.files.items → (b : Bool) → nat_eq k id ≡ b → file_at s.files.items id ≡ cond b (f (file_at s.files.items id)) (file_at s.files.items id)
+    go : (id : ℕ) → id < length s.files.items → (b : Bool) → nat_eq k id ≡ b → file_with s.files.items id ≡ cond b (f (file_with s.files.items id)) (file_with s.files.items id)
     go id lt true e = absurd (let same : k ≡ id = (numbers_tell k id).0 e in omega arith)
     go id lt false e = refl
 
 pub filed_not : (s t : State) (f : File → File) → t.tree ≡ s.tree → t.holds.items ≡ s.holds.items → t.moment ≡ s.moment → t.files.items ≡ s.files.items → IsFiled f None s t
-filed_not s t f tree holds now files = record { tree = tree; holds = holds; now = now; size = ap length files; files = λ id lt. ap (λ l. file_at l id) files }
+filed_not s t f tree holds now files = record { tree = tree; holds = holds; now = now; size = ap length files; files = λ id lt. ap (λ l. file_with l id) files }
 
 -- A file changed.
-pub shows_filed : (s t : State) (w v : World) (f : File → File) (o p : Option ℕ) → Shows s w → IsFiled f o s t → o ≡ p → v.drawn ≡ w.drawn
+pub shows_filed : (s t : State) (w v : World) (f : File → File) (o p : Option ℕ) → ShowsWorld s w → IsFiled f o s t → o ≡ p → v.drawn ≡ w.drawn
     → ((id : ℕ) → v.files id ≡ cond (holds_file p id) (f (w.files id)) (w.files id)) → ((id : ℕ) → (v.files id).mode ≡ (w.files id).mode)
-    → v.durable ≡ w.durable → v.pending ≡ w.pending → ((u : ℕ) → v.holds u ≡ w.holds u) → v.now ≡ w.now → Shows t v
+    → v.durable ≡ w.durable → v.pending ≡ w.pending → ((u : ℕ) → v.holds u ≡ w.holds u) → v.now ≡ w.now → ShowsWorld t v
 shows_filed s t w v f o p shows filed same drawn files mode durable pending holds now = record {
   tree = subst IsTree (sym filed.tree) shows.tree;
   named = λ x. ap (λ r. named_in r.names.items x) filed.tree ∙ (shows.named x ∙ sym (alike_names w v durable pending x));
@@ -160,10 +160,10 @@ shows_filed s t w v f o p shows filed same drawn files mode durable pending hold
   now = filed.now ∙ (shows.now ∙ sym now);
 }
   where
-    go : (id : ℕ) → id < w.drawn → file_at t.files.items id ≡ cond (holds_file p id) (f (w.files id)) (w.files id)
+    go : (id : ℕ) → id < w.drawn → file_with t.files.items id ≡ cond (holds_file p id) (f (w.files id)) (w.files id)
     go id lt =
         filed.files id (subst (λ n. id < n) (sym shows.drawn) lt)
-        ∙ (ap (λ q. cond (holds_file q id) (f (file_at s.files.items id)) (file_at s.files.items id)) same
+        ∙ (ap (λ q. cond (holds_file q id) (f (file_with s.files.items id)) (file_with s.files.items id)) same
         ∙ ap (λ g. cond (holds_file p id) (f g) g) (shows.files id lt))
 
 fed_is : (b : Bool) (f : File) (bytes : List ℕ) (at : ℤ) → same_file (record { bytes = cond b (f.bytes ++ bytes) f.bytes; synced = f.synced; mtime = cond b at f.mtime; mode = f.mode }) (cond b (fed_file bytes at f) f)
@@ -178,48 +178,48 @@ emptied_is : (b : Bool) (f : File) (at : ℤ) → same_file (record { bytes = co
 emptied_is true f at = refl
 emptied_is false f at = refl
 
-pub is_file_of : (t : Thing) (id : ℕ) → is_file t id ≡ holds_file (file_of t) id
+pub is_file_of : (t : Thing) (id : ℕ) → is_file t id ≡ holds_file (file_named t) id
 is_file_of thing.Nothing id = refl
 is_file_of (thing.File g) id = refl
 is_file_of thing.Directory id = refl
 is_file_of thing.Other id = refl
 
 -- the entries of files
-pub shows_fed : (s t : State) (w : World) (writer : ℕ) (bytes : List ℕ) (at : ℤ) → Shows s w → IsFiled (fed_file bytes at) (hold_in s.holds.items writer) s t → Shows t (effect w (entry.Feed writer bytes at))
+pub shows_fed : (s t : State) (w : World) (writer : ℕ) (bytes : List ℕ) (at : ℤ) → ShowsWorld s w → IsFiled (fed_file bytes at) (hold_in s.holds.items writer) s t → ShowsWorld t (effect w (entry.Feed writer bytes at))
 shows_fed s t w writer bytes at shows filed =
     shows_filed s t w (effect w (entry.Feed writer bytes at)) (fed_file bytes at) (hold_in s.holds.items writer) (w.holds writer) shows filed (shows.holds writer) refl
     (λ id. fed_is (holds_file (w.holds writer) id) (w.files id) bytes at) (λ id. refl) refl refl (λ u. refl) refl
 
-pub shows_flushed : (s t : State) (w : World) (writer : ℕ) → Shows s w → IsFiled synced_file (hold_in s.holds.items writer) s t → Shows t (effect w (entry.Flush writer))
+pub shows_flushed : (s t : State) (w : World) (writer : ℕ) → ShowsWorld s w → IsFiled synced_file (hold_in s.holds.items writer) s t → ShowsWorld t (effect w (entry.Flush writer))
 shows_flushed s t w writer shows filed =
     shows_filed s t w (effect w (entry.Flush writer)) synced_file (hold_in s.holds.items writer) (w.holds writer) shows filed (shows.holds writer) refl
     (λ id. synced_is (holds_file (w.holds writer) id) (w.files id)) (λ id. refl) refl refl (λ u. refl) refl
 
-pub shows_appended : (s t : State) (w : World) (x : Path) (bytes : List ℕ) → Shows s w → IsFiled (fed_file bytes s.moment) (file_of (named_in s.tree.names.items x)) s t → Shows t (effect w (entry.Appends x bytes))
+pub shows_appended : (s t : State) (w : World) (x : Path) (bytes : List ℕ) → ShowsWorld s w → IsFiled (fed_file bytes s.moment) (file_named (named_in s.tree.names.items x)) s t → ShowsWorld t (effect w (entry.Appends x bytes))
 shows_appended s t w x bytes shows filed =
-    shows_filed s t w (effect w (entry.Appends x bytes)) (fed_file bytes w.now) (file_of (named_in s.tree.names.items x)) (file_of (names w x)) shows
-    (subst (λ at. IsFiled (fed_file bytes at) (file_of (named_in s.tree.names.items x)) s t) shows.now filed) (ap file_of (shows.named x)) refl
-    (λ id. subst (λ b. same_file (record { bytes = cond b ((w.files id).bytes ++ bytes) (w.files id).bytes; synced = (w.files id).synced; mtime = cond b w.now (w.files id).mtime; mode = (w.files id).mode }) (cond (holds_file (file_of (names w x)) id) (fed_file bytes w.now (w.files id)) (w.files id)))
-    (sym (is_file_of (names w x) id)) (fed_is (holds_file (file_of (names w x)) id) (w.files id) bytes w.now))
+    shows_filed s t w (effect w (entry.Appends x bytes)) (fed_file bytes w.now) (file_named (named_in s.tree.names.items x)) (file_named (names w x)) shows
+    (subst (λ at. IsFiled (fed_file bytes at) (file_named (named_in s.tree.names.items x)) s t) shows.now filed) (ap file_named (shows.named x)) refl
+    (λ id. subst (λ b. same_file (record { bytes = cond b ((w.files id).bytes ++ bytes) (w.files id).bytes; synced = (w.files id).synced; mtime = cond b w.now (w.files id).mtime; mode = (w.files id).mode }) (cond (holds_file (file_named (names w x)) id) (fed_file bytes w.now (w.files id)) (w.files id)))
+    (sym (is_file_of (names w x) id)) (fed_is (holds_file (file_named (names w x)) id) (w.files id) bytes w.now))
     (λ id. refl) refl refl (λ u. refl) refl
 
-pub shows_emptied : (s t : State) (w : World) (x : Path) → Shows s w → IsFiled (emptied_file s.moment) (file_of (named_in s.tree.names.items x)) s t → Shows t (effect w (entry.Truncates x))
+pub shows_emptied : (s t : State) (w : World) (x : Path) → ShowsWorld s w → IsFiled (emptied_file s.moment) (file_named (named_in s.tree.names.items x)) s t → ShowsWorld t (effect w (entry.Truncates x))
 shows_emptied s t w x shows filed =
-    shows_filed s t w (effect w (entry.Truncates x)) (emptied_file w.now) (file_of (named_in s.tree.names.items x)) (file_of (names w x)) shows
-    (subst (λ at. IsFiled (emptied_file at) (file_of (named_in s.tree.names.items x)) s t) shows.now filed) (ap file_of (shows.named x)) refl
-    (λ id. subst (λ b. same_file (record { bytes = cond b [] (w.files id).bytes; synced = cond b 0 (w.files id).synced; mtime = cond b w.now (w.files id).mtime; mode = (w.files id).mode }) (cond (holds_file (file_of (names w x)) id) (emptied_file w.now (w.files id)) (w.files id)))
-    (sym (is_file_of (names w x) id)) (emptied_is (holds_file (file_of (names w x)) id) (w.files id) w.now))
+    shows_filed s t w (effect w (entry.Truncates x)) (emptied_file w.now) (file_named (named_in s.tree.names.items x)) (file_named (names w x)) shows
+    (subst (λ at. IsFiled (emptied_file at) (file_named (named_in s.tree.names.items x)) s t) shows.now filed) (ap file_named (shows.named x)) refl
+    (λ id. subst (λ b. same_file (record { bytes = cond b [] (w.files id).bytes; synced = cond b 0 (w.files id).synced; mtime = cond b w.now (w.files id).mtime; mode = (w.files id).mode }) (cond (holds_file (file_named (names w x)) id) (emptied_file w.now (w.files id)) (w.files id)))
+    (sym (is_file_of (names w x) id)) (emptied_is (holds_file (file_named (names w x)) id) (w.files id) w.now))
     (λ id. refl) refl refl (λ u. refl) refl
 
-pub shows_synced : (s t : State) (w : World) (x : Path) → Shows s w → IsFiled synced_file (file_of (named_in s.tree.names.items x)) s t → Shows t (effect w (entry.SyncsFile x))
+pub shows_synced : (s t : State) (w : World) (x : Path) → ShowsWorld s w → IsFiled synced_file (file_named (named_in s.tree.names.items x)) s t → ShowsWorld t (effect w (entry.SyncsFile x))
 shows_synced s t w x shows filed =
-    shows_filed s t w (effect w (entry.SyncsFile x)) synced_file (file_of (named_in s.tree.names.items x)) (file_of (names w x)) shows filed (ap file_of (shows.named x)) refl
-    (λ id. subst (λ b. same_file (record { bytes = (w.files id).bytes; synced = cond b (length (w.files id).bytes) (w.files id).synced; mtime = (w.files id).mtime; mode = (w.files id).mode }) (cond (holds_file (file_of (names w x)) id) (synced_file (w.files id)) (w.files id)))
-    (sym (is_file_of (names w x) id)) (synced_is (holds_file (file_of (names w x)) id) (w.files id)))
+    shows_filed s t w (effect w (entry.SyncsFile x)) synced_file (file_named (named_in s.tree.names.items x)) (file_named (names w x)) shows filed (ap file_named (shows.named x)) refl
+    (λ id. subst (λ b. same_file (record { bytes = (w.files id).bytes; synced = cond b (length (w.files id).bytes) (w.files id).synced; mtime = (w.files id).mtime; mode = (w.files id).mode }) (cond (holds_file (file_named (names w x)) id) (synced_file (w.files id)) (w.files id)))
+    (sym (is_file_of (names w x) id)) (synced_is (holds_file (file_named (names w x)) id) (w.files id)))
     (λ id. refl) refl refl (λ u. refl) refl
 
 -- A directory was synced.
-pub shows_settled : (s t : State) (w : World) (dir : Path) → Shows s w → IsSynced dir s.tree t.tree → t.files.items ≡ s.files.items → t.holds.items ≡ s.holds.items → t.moment ≡ s.moment → Shows t (effect w (entry.SyncsDir dir))
+pub shows_settled : (s t : State) (w : World) (dir : Path) → ShowsWorld s w → IsSynced dir s.tree t.tree → t.files.items ≡ s.files.items → t.holds.items ≡ s.holds.items → t.moment ≡ s.moment → ShowsWorld t (effect w (entry.SyncsDir dir))
 shows_settled s t w dir shows y files holds now = record {
   tree = y.tree;
   named = λ x. ap (λ ns. named_in ns x) y.named ∙ (shows.named x ∙ sym (synced_names w dir x));
@@ -227,7 +227,7 @@ shows_settled s t w dir shows y files holds now = record {
       ∙ names_alike (kept_at (settled dir [] w.pending) w.pending) (named_in s.tree.durable.items) w.durable x shows.durable);
   changes = y.changes ∙ ap (λ cs. undone_at (settled dir [] cs) cs) shows.changes;
   drawn = ap length files ∙ shows.drawn;
-  files = λ id lt. ap (λ l. file_at l id) files ∙ shows.files id lt;
+  files = λ id lt. ap (λ l. file_with l id) files ∙ shows.files id lt;
   holds = λ v. ap (λ hs. hold_in hs v) holds ∙ shows.holds v;
   below = λ x g e. shows.below x g (sym (synced_names w dir x) ∙ e);
   below_durable = left_below w (settled dir [] w.pending) shows.below_durable shows.below_pending;
@@ -237,9 +237,9 @@ shows_settled s t w dir shows y files holds now = record {
 }
 
 -- One change of names.
-pub shows_changed : (c : Change) (s t : State) (w v : World) → Shows s w → IsChanged c s.tree t.tree → v.durable ≡ w.durable → v.pending ≡ c ∷ w.pending → w.drawn ≤ v.drawn → IsBelow v.drawn c
-    → length t.files.items ≡ v.drawn → ((id : ℕ) → id < v.drawn → file_at t.files.items id ≡ v.files id) → ((u : ℕ) → hold_in t.holds.items u ≡ v.holds u) → t.moment ≡ v.now
-    → ((id : ℕ) → v.drawn ≤ id → (v.files id).mode ≡ None) → Shows t v
+pub shows_changed : (c : Change) (s t : State) (w v : World) → ShowsWorld s w → IsChanged c s.tree t.tree → v.durable ≡ w.durable → v.pending ≡ c ∷ w.pending → w.drawn ≤ v.drawn → IsBelow v.drawn c
+    → length t.files.items ≡ v.drawn → ((id : ℕ) → id < v.drawn → file_with t.files.items id ≡ v.files id) → ((u : ℕ) → hold_in t.holds.items u ≡ v.holds u) → t.moment ≡ v.now
+    → ((id : ℕ) → v.drawn ≤ id → (v.files id).mode ≡ None) → ShowsWorld t v
 shows_changed c s t w v shows i durable pending le below size files holds now unmade = record {
   tree = i.tree;
   named = λ y. i.named y ∙ (changed_alike c (named_in s.tree.names.items) (names w) y (λ x t. shows.named x) (shows.named y) ∙ sym (names_are y));
@@ -268,48 +268,48 @@ shows_changed c s t w v shows i durable pending le below size files holds now un
     below_changes = subst (AllBelow v.drawn) (sym pending) (below, all_more w.drawn v.drawn w.pending le shows.below_pending)
 
 -- a change of names alone
-shows_named : (c : Change) (s t : State) (w v : World) → Shows s w → IsChanged c s.tree t.tree → v.durable ≡ w.durable → v.pending ≡ c ∷ w.pending → v.drawn ≡ w.drawn → IsBelow w.drawn c
+shows_named : (c : Change) (s t : State) (w v : World) → ShowsWorld s w → IsChanged c s.tree t.tree → v.durable ≡ w.durable → v.pending ≡ c ∷ w.pending → v.drawn ≡ w.drawn → IsBelow w.drawn c
     → ((id : ℕ) → v.files id ≡ w.files id) → ((u : ℕ) → v.holds u ≡ w.holds u) → v.now ≡ w.now
-    → t.files.items ≡ s.files.items → t.holds.items ≡ s.holds.items → t.moment ≡ s.moment → Shows t v
+    → t.files.items ≡ s.files.items → t.holds.items ≡ s.holds.items → t.moment ≡ s.moment → ShowsWorld t v
 shows_named c s t w v shows i durable pending drawn below files holds now files_same holds_same now_same =
     shows_changed c s t w v shows i durable pending (omega arith) (subst (λ d. IsBelow d c) (sym drawn) below) (ap length files_same ∙ (shows.drawn ∙ sym drawn))
-    (λ id lt. ap (λ l. file_at l id) files_same ∙ (shows.files id (subst (λ n. id < n) drawn lt) ∙ sym (files id))) (λ u. ap (λ hs. hold_in hs u) holds_same ∙ (shows.holds u ∙ sym (holds u))) (now_same ∙ (shows.now ∙ sym now))
+    (λ id lt. ap (λ l. file_with l id) files_same ∙ (shows.files id (subst (λ n. id < n) drawn lt) ∙ sym (files id))) (λ u. ap (λ hs. hold_in hs u) holds_same ∙ (shows.holds u ∙ sym (holds u))) (now_same ∙ (shows.now ∙ sym now))
     (λ id le. ap (λ f. f.mode) (files id) ∙ shows.unmade id (subst (λ n. n ≤ id) drawn le))
 
 none_more : (n : ℕ) → n + 0 ≡ n
 none_more n = omega arith
 
-pub shows_moved : (s t : State) (w : World) (from to : Path) → Shows s w → IsChanged (Moves from to) s.tree t.tree
-    → t.files.items ≡ s.files.items → t.holds.items ≡ s.holds.items → t.moment ≡ s.moment → Shows t (effect w (entry.Renames from to))
+pub shows_moved : (s t : State) (w : World) (from to : Path) → ShowsWorld s w → IsChanged (Moves from to) s.tree t.tree
+    → t.files.items ≡ s.files.items → t.holds.items ≡ s.holds.items → t.moment ≡ s.moment → ShowsWorld t (effect w (entry.Renames from to))
 shows_moved s t w from to shows i files holds now =
     shows_named (Moves from to) s t w (effect w (entry.Renames from to)) shows i refl refl (none_more w.drawn) tt (λ id. refl) (λ u. refl) refl files holds now
 
-pub shows_unlinked : (s t : State) (w : World) (x : Path) → Shows s w → IsChanged (Drops x) s.tree t.tree
-    → t.files.items ≡ s.files.items → t.holds.items ≡ s.holds.items → t.moment ≡ s.moment → Shows t (effect w (entry.Unlinks x))
+pub shows_unlinked : (s t : State) (w : World) (x : Path) → ShowsWorld s w → IsChanged (Drops x) s.tree t.tree
+    → t.files.items ≡ s.files.items → t.holds.items ≡ s.holds.items → t.moment ≡ s.moment → ShowsWorld t (effect w (entry.Unlinks x))
 shows_unlinked s t w x shows i files holds now =
     shows_named (Drops x) s t w (effect w (entry.Unlinks x)) shows i refl refl (none_more w.drawn) tt (λ id. refl) (λ u. refl) refl files holds now
 
-pub shows_directory : (s t : State) (w : World) (x : Path) (mode : Option ℕ) → Shows s w → IsChanged (Puts x thing.Directory) s.tree t.tree
-    → t.files.items ≡ s.files.items → t.holds.items ≡ s.holds.items → t.moment ≡ s.moment → Shows t (effect w (entry.MakesDir x mode))
+pub shows_directory : (s t : State) (w : World) (x : Path) (mode : Option ℕ) → ShowsWorld s w → IsChanged (Puts x thing.Directory) s.tree t.tree
+    → t.files.items ≡ s.files.items → t.holds.items ≡ s.holds.items → t.moment ≡ s.moment → ShowsWorld t (effect w (entry.MakesDir x mode))
 shows_directory s t w x mode shows i files holds now =
     shows_named (Puts x thing.Directory) s t w (effect w (entry.MakesDir x mode)) shows i refl refl (none_more w.drawn) tt (λ id. refl) (λ u. refl) refl files holds now
 
 -- A file made.
-pub shows_made : (s t : State) (w : World) (x : Path) (at : ℤ) (mode : Option ℕ) (f : MemFile) → Shows s w → IsChanged (Puts x (thing.File (length s.files.items))) s.tree t.tree
-    → t.files.items ≡ s.files.items ++ f ∷ [] → as_file f ≡ record { bytes = []; synced = 0; mtime = at; mode = mode } → t.holds.items ≡ s.holds.items → t.moment ≡ s.moment → Shows t (made_world w x at mode)
+pub shows_made : (s t : State) (w : World) (x : Path) (at : ℤ) (mode : Option ℕ) (f : MemFile) → ShowsWorld s w → IsChanged (Puts x (thing.File (length s.files.items))) s.tree t.tree
+    → t.files.items ≡ s.files.items ++ f ∷ [] → as_file f ≡ record { bytes = []; synced = 0; mtime = at; mode = mode } → t.holds.items ≡ s.holds.items → t.moment ≡ s.moment → ShowsWorld t (made_world w x at mode)
 shows_made s t w x at mode f shows i files new holds now =
     shows_changed (Puts x (thing.File w.drawn)) s t w (made_world w x at mode) shows
     (subst (λ d. IsChanged (Puts x (thing.File d)) s.tree t.tree) shows.drawn i) refl refl (omega arith) (next w.drawn)
-    (ap length files ∙ (length-append s.files.items (f ∷ []) ∙ ap (λ n. n + 1) shows.drawn)) (λ id lt. ap (λ fs. file_at fs id) files ∙ by_test id lt (nat_eq w.drawn id) refl) (λ u. ap (λ hs. hold_in hs u) holds ∙ shows.holds u) (now ∙ shows.now)
+    (ap length files ∙ (length-append s.files.items (f ∷ []) ∙ ap (λ n. n + 1) shows.drawn)) (λ id lt. ap (λ fs. file_with fs id) files ∙ by_test id lt (nat_eq w.drawn id) refl) (λ u. ap (λ hs. hold_in hs u) holds ∙ shows.holds u) (now ∙ shows.now)
     (λ id le. not_drawn id le (nat_eq w.drawn id) refl)
   where
     next : (d : ℕ) → d < d + 1
     next d = omega arith
 
-    by_test : (id : ℕ) → id < w.drawn + 1 → (b : Bool) → nat_eq w.drawn id ≡ b → same_file (file_at (s.files.items ++ f ∷ []) id) (record { bytes = cond b [] (w.files id).bytes; synced = cond b 0 (w.files id).synced; mtime = cond b at (w.files id).mtime; mode = cond b mode (w.files id).mode })
+    by_test : (id : ℕ) → id < w.drawn + 1 → (b : Bool) → nat_eq w.drawn id ≡ b → same_file (file_with (s.files.items ++ f ∷ []) id) (record { bytes = cond b [] (w.files id).bytes; synced = cond b 0 (w.files id).synced; mtime = cond b at (w.files id).mtime; mode = cond b mode (w.files id).mode })
     by_test id lt true e =
         let drawn : id ≡ length s.files.items = sym ((numbers_tell w.drawn id).0 e) ∙ sym shows.drawn in
-        ap (λ j. file_at (s.files.items ++ f ∷ []) j) drawn ∙ (file_last s.files.items f ∙ new)
+        ap (λ j. file_with (s.files.items ++ f ∷ []) j) drawn ∙ (file_last s.files.items f ∙ new)
     by_test id lt false e =
         let ne : id ≡ w.drawn → ⊥ = λ same. (let t : nat_eq w.drawn id ≡ true = (numbers_tell w.drawn id).1 (sym same) in cc) in
         let below : id < w.drawn = less id lt ne in
@@ -323,16 +323,16 @@ shows_made s t w x at mode f shows i files new holds now =
     not_drawn id le false e = shows.unmade id (omega arith)
 
 -- a writer holds something else
-pub shows_holding : (s t : State) (w : World) (writer : ℕ) (o : Option ℕ) → Shows s w → t.tree ≡ s.tree → t.files.items ≡ s.files.items → t.moment ≡ s.moment
+pub shows_holding : (s t : State) (w : World) (writer : ℕ) (o : Option ℕ) → ShowsWorld s w → t.tree ≡ s.tree → t.files.items ≡ s.files.items → t.moment ≡ s.moment
     → ((v : ℕ) → hold_in t.holds.items v ≡ cond (nat_eq writer v) o (hold_in s.holds.items v))
-    → Shows t (record { files = w.files; drawn = w.drawn; durable = w.durable; pending = w.pending; holds = λ v. cond (nat_eq writer v) o (w.holds v); now = w.now; running = w.running })
+    → ShowsWorld t (record { files = w.files; drawn = w.drawn; durable = w.durable; pending = w.pending; holds = λ v. cond (nat_eq writer v) o (w.holds v); now = w.now; running = w.running })
 shows_holding s t w writer o shows tree files now holds = record {
   tree = subst IsTree (sym tree) shows.tree;
   named = λ x. ap (λ r. named_in r.names.items x) tree ∙ shows.named x;
   durable = λ x. ap (λ r. named_in r.durable.items x) tree ∙ shows.durable x;
   changes = ap (λ r. pending_of r.changes.items) tree ∙ shows.changes;
   drawn = ap length files ∙ shows.drawn;
-  files = λ id lt. ap (λ l. file_at l id) files ∙ shows.files id lt;
+  files = λ id lt. ap (λ l. file_with l id) files ∙ shows.files id lt;
   holds = λ v. holds v ∙ ap (λ h. cond (nat_eq writer v) o h) (shows.holds v);
   below = shows.below;
   below_durable = shows.below_durable;
@@ -353,25 +353,25 @@ attached_world w writer x at t = record {
   running = w.running;
 }
 
-pub shows_attached : (s t : State) (w : World) (writer : ℕ) (x : Path) (at : ℤ) (g : ℕ) → named_in s.tree.names.items x ≡ thing.File g → Shows s w → t.tree ≡ s.tree → t.files.items ≡ s.files.items → t.moment ≡ s.moment
-    → ((v : ℕ) → hold_in t.holds.items v ≡ cond (nat_eq writer v) (Some g) (hold_in s.holds.items v)) → Shows t (effect w (entry.Attach writer x at))
+pub shows_attached : (s t : State) (w : World) (writer : ℕ) (x : Path) (at : ℤ) (g : ℕ) → named_in s.tree.names.items x ≡ thing.File g → ShowsWorld s w → t.tree ≡ s.tree → t.files.items ≡ s.files.items → t.moment ≡ s.moment
+    → ((v : ℕ) → hold_in t.holds.items v ≡ cond (nat_eq writer v) (Some g) (hold_in s.holds.items v)) → ShowsWorld t (effect w (entry.Attach writer x at))
 shows_attached s t w writer x at g is shows tree files now holds =
-    subst (λ thing. Shows t (attached_world w writer x at thing)) (sym (sym (shows.named x) ∙ is)) (shows_holding s t w writer (Some g) shows tree files now holds)
+    subst (λ thing. ShowsWorld t (attached_world w writer x at thing)) (sym (sym (shows.named x) ∙ is)) (shows_holding s t w writer (Some g) shows tree files now holds)
 
-pub shows_unattached : (s t : State) (w : World) (writer : ℕ) (x : Path) (at : ℤ) (a : Thing) → named_in s.tree.names.items x ≡ a → (a ≡ thing.Nothing → ⊥) → ((g : ℕ) → a ≡ thing.File g → ⊥) → Shows s w → t.tree ≡ s.tree → t.files.items ≡ s.files.items → t.moment ≡ s.moment
-    → ((v : ℕ) → hold_in t.holds.items v ≡ cond (nat_eq writer v) None (hold_in s.holds.items v)) → Shows t (effect w (entry.Attach writer x at))
+pub shows_unattached : (s t : State) (w : World) (writer : ℕ) (x : Path) (at : ℤ) (a : Thing) → named_in s.tree.names.items x ≡ a → (a ≡ thing.Nothing → ⊥) → ((g : ℕ) → a ≡ thing.File g → ⊥) → ShowsWorld s w → t.tree ≡ s.tree → t.files.items ≡ s.files.items → t.moment ≡ s.moment
+    → ((v : ℕ) → hold_in t.holds.items v ≡ cond (nat_eq writer v) None (hold_in s.holds.items v)) → ShowsWorld t (effect w (entry.Attach writer x at))
 shows_unattached s t w writer x at thing.Directory is none stays shows tree files now holds =
-    subst (λ thing. Shows t (attached_world w writer x at thing)) (sym (sym (shows.named x) ∙ is)) (shows_holding s t w writer None shows tree files now holds)
+    subst (λ thing. ShowsWorld t (attached_world w writer x at thing)) (sym (sym (shows.named x) ∙ is)) (shows_holding s t w writer None shows tree files now holds)
 shows_unattached s t w writer x at thing.Other is none stays shows tree files now holds =
-    subst (λ thing. Shows t (attached_world w writer x at thing)) (sym (sym (shows.named x) ∙ is)) (shows_holding s t w writer None shows tree files now holds)
+    subst (λ thing. ShowsWorld t (attached_world w writer x at thing)) (sym (sym (shows.named x) ∙ is)) (shows_holding s t w writer None shows tree files now holds)
 shows_unattached s t w writer x at thing.Nothing is none stays shows tree files now holds = absurd (none refl)
 shows_unattached s t w writer x at (thing.File g) is none stays shows tree files now holds = absurd (stays g refl)
 
 -- a writer made a file
-pub shows_drawn : (s r t : State) (w : World) (writer : ℕ) (x : Path) (at : ℤ) → named_in s.tree.names.items x ≡ thing.Nothing → Shows s w → Shows r (made_world w x at None) → t.tree ≡ r.tree → t.files.items ≡ r.files.items → t.moment ≡ r.moment
-    → ((v : ℕ) → hold_in t.holds.items v ≡ cond (nat_eq writer v) (Some (length s.files.items)) (hold_in r.holds.items v)) → Shows t (effect w (entry.Attach writer x at))
+pub shows_drawn : (s r t : State) (w : World) (writer : ℕ) (x : Path) (at : ℤ) → named_in s.tree.names.items x ≡ thing.Nothing → ShowsWorld s w → ShowsWorld r (made_world w x at None) → t.tree ≡ r.tree → t.files.items ≡ r.files.items → t.moment ≡ r.moment
+    → ((v : ℕ) → hold_in t.holds.items v ≡ cond (nat_eq writer v) (Some (length s.files.items)) (hold_in r.holds.items v)) → ShowsWorld t (effect w (entry.Attach writer x at))
 shows_drawn s r t w writer x at is shows made tree files now holds =
-    subst (λ thing. Shows t (attached_world w writer x at thing)) (sym (sym (shows.named x) ∙ is)) (as_attached (shows_holding r t (made_world w x at None) writer (Some w.drawn) made tree files now (λ v. holds v ∙ ap (λ d. cond (nat_eq writer v) (Some d) (hold_in r.holds.items v)) shows.drawn)))
+    subst (λ thing. ShowsWorld t (attached_world w writer x at thing)) (sym (sym (shows.named x) ∙ is)) (as_attached (shows_holding r t (made_world w x at None) writer (Some w.drawn) made tree files now (λ v. holds v ∙ ap (λ d. cond (nat_eq writer v) (Some d) (hold_in r.holds.items v)) shows.drawn)))
   where
     same_mode : (id : ℕ) (b : Bool) → nat_eq w.drawn id ≡ b → same_file (record { bytes = cond b [] (w.files id).bytes; synced = cond b 0 (w.files id).synced; mtime = cond b at (w.files id).mtime; mode = cond b None (w.files id).mode }) (record { bytes = cond b [] (w.files id).bytes; synced = cond b 0 (w.files id).synced; mtime = cond b at (w.files id).mtime; mode = (w.files id).mode })
     same_mode id true e = ap (λ m. no_mode m) (sym (shows.unmade id (let same : w.drawn ≡ id = (numbers_tell w.drawn id).0 e in omega arith)))
@@ -380,7 +380,7 @@ shows_drawn s r t w writer x at is shows made tree files now holds =
         no_mode m = record { bytes = []; synced = 0; mtime = at; mode = m }
     same_mode id false e = refl
 
-    as_attached : Shows t (record { files = (made_world w x at None).files; drawn = w.drawn + 1; durable = w.durable; pending = Puts x (thing.File w.drawn) ∷ w.pending; holds = λ v. cond (nat_eq writer v) (Some w.drawn) (w.holds v); now = w.now; running = w.running }) → Shows t (attached_world w writer x at thing.Nothing)
+    as_attached : ShowsWorld t (record { files = (made_world w x at None).files; drawn = w.drawn + 1; durable = w.durable; pending = Puts x (thing.File w.drawn) ∷ w.pending; holds = λ v. cond (nat_eq writer v) (Some w.drawn) (w.holds v); now = w.now; running = w.running }) → ShowsWorld t (attached_world w writer x at thing.Nothing)
     as_attached m = record {
       tree = m.tree;
       named = m.named;
@@ -397,14 +397,14 @@ shows_drawn s r t w writer x at is shows made tree files now holds =
     }
 
 -- a run begins
-pub shows_begun : (s t : State) (w : World) (state : Path) (now : _) (rules : _) → Shows s w → t.tree ≡ s.tree → t.files.items ≡ s.files.items → t.holds.items ≡ s.holds.items → t.moment ≡ (effect w (entry.Starts state now rules)).now → Shows t (effect w (entry.Starts state now rules))
+pub shows_begun : (s t : State) (w : World) (state : Path) (now : _) (rules : _) → ShowsWorld s w → t.tree ≡ s.tree → t.files.items ≡ s.files.items → t.holds.items ≡ s.holds.items → t.moment ≡ (effect w (entry.Starts state now rules)).now → ShowsWorld t (effect w (entry.Starts state now rules))
 shows_begun s t w state now rules shows tree files holds moment = record {
   tree = subst IsTree (sym tree) shows.tree;
   named = λ x. ap (λ r. named_in r.names.items x) tree ∙ shows.named x;
   durable = λ x. ap (λ r. named_in r.durable.items x) tree ∙ shows.durable x;
   changes = ap (λ r. pending_of r.changes.items) tree ∙ shows.changes;
   drawn = ap length files ∙ shows.drawn;
-  files = λ id lt. ap (λ l. file_at l id) files ∙ shows.files id lt;
+  files = λ id lt. ap (λ l. file_with l id) files ∙ shows.files id lt;
   holds = λ v. ap (λ hs. hold_in hs v) holds ∙ shows.holds v;
   below = shows.below;
   below_durable = shows.below_durable;
@@ -414,8 +414,8 @@ shows_begun s t w state now rules shows tree files holds moment = record {
 }
 
 -- The machine stops.
-pub shows_cut : (s t : State) (w : World) (kept : List ℕ) (lengths : List (ℕ × ℕ)) → Shows s w → IsLeft kept s.tree t.tree → t.holds.items ≡ [] → length t.files.items ≡ length s.files.items
-    → ((id : ℕ) → id < length s.files.items → file_at t.files.items id ≡ cut_file (length_of lengths id) (file_at s.files.items id)) → t.moment ≡ s.moment → Shows t (effect w (entry.Cut kept lengths))
+pub shows_cut : (s t : State) (w : World) (kept : List ℕ) (lengths : List (ℕ × ℕ)) → ShowsWorld s w → IsTreeLeft kept s.tree t.tree → t.holds.items ≡ [] → length t.files.items ≡ length s.files.items
+    → ((id : ℕ) → id < length s.files.items → file_with t.files.items id ≡ cut_file (length_of lengths id) (file_with s.files.items id)) → t.moment ≡ s.moment → ShowsWorld t (effect w (entry.Cut kept lengths))
 shows_cut s t w kept lengths shows l holds size files now = record {
   tree = l.tree;
   named = λ x. l.named x ∙ (l.durable x ∙ left_names s w kept shows x);
@@ -432,7 +432,7 @@ shows_cut s t w kept lengths shows l holds size files now = record {
 }
 
 -- the entries that change nothing that is in memory
-pub shows_still : (s : State) (w v : World) → Shows s w → v.drawn ≡ w.drawn → ((id : ℕ) → v.files id ≡ w.files id) → ((u : ℕ) → v.holds u ≡ w.holds u) → v.now ≡ w.now → v.durable ≡ w.durable → v.pending ≡ w.pending → Shows s v
+pub shows_still : (s : State) (w v : World) → ShowsWorld s w → v.drawn ≡ w.drawn → ((id : ℕ) → v.files id ≡ w.files id) → ((u : ℕ) → v.holds u ≡ w.holds u) → v.now ≡ w.now → v.durable ≡ w.durable → v.pending ≡ w.pending → ShowsWorld s v
 shows_still s w v shows drawn files holds now durable pending = record {
   tree = shows.tree;
   named = λ x. shows.named x ∙ sym (alike_names w v durable pending x);
@@ -448,9 +448,9 @@ shows_still s w v shows drawn files holds now durable pending = record {
   now = shows.now ∙ sym now;
 }
 
-pub shows_rest : (s : State) (w : World) (e : Entry) → IsTools e → Shows s w
+pub shows_rest : (s : State) (w : World) (e : Entry) → IsTools e → ShowsWorld s w
     → ((x : Path) (now : _) (rules : _) → e ≡ entry.Starts x now rules → ⊥) → ((from to : Path) → e ≡ entry.Renames from to → ⊥) → ((x : Path) (mode : Option ℕ) → e ≡ entry.Makes x mode → ⊥) → ((x : Path) (bytes : List ℕ) → e ≡ entry.Appends x bytes → ⊥)
-    → ((x : Path) → e ≡ entry.Truncates x → ⊥) → ((x : Path) → e ≡ entry.Unlinks x → ⊥) → ((x : Path) → e ≡ entry.SyncsFile x → ⊥) → ((x : Path) → e ≡ entry.SyncsDir x → ⊥) → ((x : Path) (mode : Option ℕ) → e ≡ entry.MakesDir x mode → ⊥) → Shows s (effect w e)
+    → ((x : Path) → e ≡ entry.Truncates x → ⊥) → ((x : Path) → e ≡ entry.Unlinks x → ⊥) → ((x : Path) → e ≡ entry.SyncsFile x → ⊥) → ((x : Path) → e ≡ entry.SyncsDir x → ⊥) → ((x : Path) (mode : Option ℕ) → e ≡ entry.MakesDir x mode → ⊥) → ShowsWorld s (effect w e)
 shows_rest s w (entry.Look x seen) t shows n1 n2 n3 n4 n5 n6 n7 n8 n9 = shows_still s w (effect w (entry.Look x seen)) shows refl (λ id. refl) (λ u. refl) refl refl refl
 shows_rest s w (entry.List dir listed) t shows n1 n2 n3 n4 n5 n6 n7 n8 n9 = shows_still s w (effect w (entry.List dir listed)) shows refl (λ id. refl) (λ u. refl) refl refl refl
 shows_rest s w (entry.Reads x from piece) t shows n1 n2 n3 n4 n5 n6 n7 n8 n9 = shows_still s w (effect w (entry.Reads x from piece)) shows refl (λ id. refl) (λ u. refl) refl refl refl
@@ -468,27 +468,27 @@ shows_rest s w (entry.MakesDir x mode) t shows n1 n2 n3 n4 n5 n6 n7 n8 n9 = absu
 shows_rest s w _ t shows n1 n2 n3 n4 n5 n6 n7 n8 n9 = absurd t
 
 -- an entry that was given is this one
-pub renames_is : (s t : State) (w : World) (e : Entry) (from to : Path) → e ≡ entry.Renames from to → Shows s w → IsReady s e → ((c : Change) → CanChange s.tree c → IsChanged c s.tree t.tree)
-    → t.files.items ≡ s.files.items → t.holds.items ≡ s.holds.items → t.moment ≡ s.moment → Shows t (effect w e)
-renames_is s t w e from to is shows ready done files holds now = subst (λ d. Shows t (effect w d)) (sym is) (shows_moved s t w from to shows (done (Moves from to) (subst (IsReady s) is ready)) files holds now)
+pub renames_is : (s t : State) (w : World) (e : Entry) (from to : Path) → e ≡ entry.Renames from to → ShowsWorld s w → EntryHasRoom s e → ((c : Change) → CanChange s.tree c → IsChanged c s.tree t.tree)
+    → t.files.items ≡ s.files.items → t.holds.items ≡ s.holds.items → t.moment ≡ s.moment → ShowsWorld t (effect w e)
+renames_is s t w e from to is shows ready done files holds now = subst (λ d. ShowsWorld t (effect w d)) (sym is) (shows_moved s t w from to shows (done (Moves from to) (subst (EntryHasRoom s) is ready)) files holds now)
 
-pub unlinks_is : (s t : State) (w : World) (e : Entry) (x : Path) → e ≡ entry.Unlinks x → Shows s w → IsReady s e → ((c : Change) → CanChange s.tree c → IsChanged c s.tree t.tree)
-    → t.files.items ≡ s.files.items → t.holds.items ≡ s.holds.items → t.moment ≡ s.moment → Shows t (effect w e)
-unlinks_is s t w e x is shows ready done files holds now = subst (λ d. Shows t (effect w d)) (sym is) (shows_unlinked s t w x shows (done (Drops x) (subst (IsReady s) is ready)) files holds now)
+pub unlinks_is : (s t : State) (w : World) (e : Entry) (x : Path) → e ≡ entry.Unlinks x → ShowsWorld s w → EntryHasRoom s e → ((c : Change) → CanChange s.tree c → IsChanged c s.tree t.tree)
+    → t.files.items ≡ s.files.items → t.holds.items ≡ s.holds.items → t.moment ≡ s.moment → ShowsWorld t (effect w e)
+unlinks_is s t w e x is shows ready done files holds now = subst (λ d. ShowsWorld t (effect w d)) (sym is) (shows_unlinked s t w x shows (done (Drops x) (subst (EntryHasRoom s) is ready)) files holds now)
 
-pub directory_is : (s t : State) (w : World) (e : Entry) (x : Path) (mode : Option ℕ) → e ≡ entry.MakesDir x mode → Shows s w → IsReady s e → ((c : Change) → CanChange s.tree c → IsChanged c s.tree t.tree)
-    → t.files.items ≡ s.files.items → t.holds.items ≡ s.holds.items → t.moment ≡ s.moment → Shows t (effect w e)
-directory_is s t w e x mode is shows ready done files holds now = subst (λ d. Shows t (effect w d)) (sym is) (shows_directory s t w x mode shows (done (Puts x thing.Directory) (subst (IsReady s) is ready)) files holds now)
+pub directory_is : (s t : State) (w : World) (e : Entry) (x : Path) (mode : Option ℕ) → e ≡ entry.MakesDir x mode → ShowsWorld s w → EntryHasRoom s e → ((c : Change) → CanChange s.tree c → IsChanged c s.tree t.tree)
+    → t.files.items ≡ s.files.items → t.holds.items ≡ s.holds.items → t.moment ≡ s.moment → ShowsWorld t (effect w e)
+directory_is s t w e x mode is shows ready done files holds now = subst (λ d. ShowsWorld t (effect w d)) (sym is) (shows_directory s t w x mode shows (done (Puts x thing.Directory) (subst (EntryHasRoom s) is ready)) files holds now)
 
-pub settles_is : (s t : State) (w : World) (e : Entry) (x : Path) → e ≡ entry.SyncsDir x → Shows s w → IsSynced x s.tree t.tree
-    → t.files.items ≡ s.files.items → t.holds.items ≡ s.holds.items → t.moment ≡ s.moment → Shows t (effect w e)
-settles_is s t w e x is shows done files holds now = subst (λ d. Shows t (effect w d)) (sym is) (shows_settled s t w x shows done files holds now)
+pub settles_is : (s t : State) (w : World) (e : Entry) (x : Path) → e ≡ entry.SyncsDir x → ShowsWorld s w → IsSynced x s.tree t.tree
+    → t.files.items ≡ s.files.items → t.holds.items ≡ s.holds.items → t.moment ≡ s.moment → ShowsWorld t (effect w e)
+settles_is s t w e x is shows done files holds now = subst (λ d. ShowsWorld t (effect w d)) (sym is) (shows_settled s t w x shows done files holds now)
 
-pub starts_is : (s t : State) (w : World) (e : Entry) (state : Path) (now : _) (rules : _) → e ≡ entry.Starts state now rules → Shows s w → t.tree ≡ s.tree → t.files.items ≡ s.files.items → t.holds.items ≡ s.holds.items → t.moment ≡ now.seconds → Shows t (effect w e)
-starts_is s t w e state now rules is shows tree files holds moment = subst (λ d. Shows t (effect w d)) (sym is) (shows_begun s t w state now rules shows tree files holds moment)
+pub starts_is : (s t : State) (w : World) (e : Entry) (state : Path) (now : _) (rules : _) → e ≡ entry.Starts state now rules → ShowsWorld s w → t.tree ≡ s.tree → t.files.items ≡ s.files.items → t.holds.items ≡ s.holds.items → t.moment ≡ now.seconds → ShowsWorld t (effect w e)
+starts_is s t w e state now rules is shows tree files holds moment = subst (λ d. ShowsWorld t (effect w d)) (sym is) (shows_begun s t w state now rules shows tree files holds moment)
 
-pub makes_is : (s t : State) (w : World) (e : Entry) (x : Path) (mode : Option ℕ) → e ≡ entry.Makes x mode → Shows s w → IsReady s e → ((v : World) (y : Path) → CanDraw s y → Shows s v → Shows t (made_world v y s.moment mode)) → Shows t (effect w e)
-makes_is s t w e x mode is shows ready made = subst (λ d. Shows t (effect w d)) (sym is) (subst (λ at. Shows t (made_world w x at mode)) shows.now (made w x (subst (IsReady s) is ready) shows))
+pub makes_is : (s t : State) (w : World) (e : Entry) (x : Path) (mode : Option ℕ) → e ≡ entry.Makes x mode → ShowsWorld s w → EntryHasRoom s e → ((v : World) (y : Path) → CanDraw s y → ShowsWorld s v → ShowsWorld t (made_world v y s.moment mode)) → ShowsWorld t (effect w e)
+makes_is s t w e x mode is shows ready made = subst (λ d. ShowsWorld t (effect w d)) (sym is) (subst (λ at. ShowsWorld t (made_world w x at mode)) shows.now (made w x (subst (EntryHasRoom s) is ready) shows))
 
 -- an entry that is none of a writer's and no cut is one of the tool
 pub tools_left : (e : Entry) → ((v : ℕ) (x : Path) (at : ℤ) → e ≡ entry.Attach v x at → ⊥) → ((v : ℕ) (bytes : List ℕ) (at : ℤ) → e ≡ entry.Feed v bytes at → ⊥) → ((v : ℕ) → e ≡ entry.Flush v → ⊥) → ((v : ℕ) → e ≡ entry.Detach v → ⊥)

@@ -14,7 +14,7 @@ use Rattle.lr_disk.specs.declared.pending.Pending.{Pending}
 use Rattle.lr_disk.specs.declared.pending.Pending.TheVariants as held
 use Rattle.lr_disk.specs.Pairs.{keys}
 use Rattle.lr_disk.specs.Names.{has_path, named_in}
-use Rattle.lr_disk.specs.Pending.{as_change, pending_of, IsKnown, AreKnown}
+use Rattle.lr_disk.specs.Pending.{as_change, pending_of, HasPairs, AreKnown}
 
 -- one more
 pub step : (xs : List Pending) (i : ℕ) (d : Pending) → i < length xs → d ≡ get_or xs i d → pending_of (take (i + 1) xs) ≡ as_change d ∷ pending_of (take i xs)
@@ -114,10 +114,10 @@ known_part : (ns : List (Path × Thing)) (xs : List Pending) (m j : ℕ) → j +
 known_part ns xs zero j e h = subst (λ l. AreKnown ns (pending_of l)) (sym (ap (λ k. take k xs) (let q : j ≡ length xs = omega arith in q) ∙ take-length xs)) h
 known_part ns xs (suc m) j e h = (subst (AreKnown ns) (step_at xs j (omega arith)) (known_part ns xs m (j + 1) (omega arith) h)).1
 
-pub known_at : (ns : List (Path × Thing)) (xs : List Pending) (i : ℕ) (d : Pending) → i < length xs → d ≡ get_or xs i d → AreKnown ns (pending_of xs) → IsKnown ns (as_change d)
+pub known_at : (ns : List (Path × Thing)) (xs : List Pending) (i : ℕ) (d : Pending) → i < length xs → d ≡ get_or xs i d → AreKnown ns (pending_of xs) → HasPairs ns (as_change d)
 known_at ns xs i d lt is h = (subst (AreKnown ns) (step xs i d lt is) (known_part ns xs (length xs - (i + 1)) (i + 1) (omega arith) h)).0
 
-pub known_same : (ns ms : List (Path × Thing)) (c : Change) → ((x : Path) → has_path ns x ≡ true → has_path ms x ≡ true) → IsKnown ns c → IsKnown ms c
+pub known_same : (ns ms : List (Path × Thing)) (c : Change) → ((x : Path) → has_path ns x ≡ true → has_path ms x ≡ true) → HasPairs ns c → HasPairs ms c
 known_same ns ms (Puts x t) f k = f x k
 known_same ns ms (Moves from to) f k = (f from k.0, f to k.1)
 known_same ns ms (Drops x) f k = f x k
@@ -183,7 +183,7 @@ replayed ns ms all xs d is f x =
     names_alike (map as_change xs) (named_in ms) (changed (as_change d) (named_in ns)) x f
     ∙ sym (ap (λ l. names_after (named_in ns) (map as_change l) x) is ∙ (ap (λ l. names_after (named_in ns) l x) (map-append as_change xs (d ∷ [])) ∙ ap (λ m. m x) (names_append (named_in ns) (map as_change xs) (as_change d ∷ []))))
 
-known_append : (ns : List (Path × Thing)) (xs : List Change) (c : Change) → AreKnown ns (xs ++ c ∷ []) → AreKnown ns xs × IsKnown ns c
+known_append : (ns : List (Path × Thing)) (xs : List Change) (c : Change) → AreKnown ns (xs ++ c ∷ []) → AreKnown ns xs × HasPairs ns c
 known_append ns [] c k = (tt, k.0)
 known_append ns (x ∷ xs) c k = let r = known_append ns xs c k.1 in ((k.0, r.0), r.1)
 
@@ -191,10 +191,10 @@ pub known_all : (ns ms : List (Path × Thing)) (cs : List Change) → keys ms �
 known_all ns ms [] same k = tt
 known_all ns ms (c ∷ cs) same k = (known_same ns ms c (λ x h. has_same ns ms x same h) k.0, known_all ns ms cs same k.1)
 
-known_split : (ns : List (Path × Thing)) (all xs : List Pending) (d : Pending) → all ≡ xs ++ d ∷ [] → AreKnown ns (map as_change all) → AreKnown ns (map as_change xs) × IsKnown ns (as_change d)
+known_split : (ns : List (Path × Thing)) (all xs : List Pending) (d : Pending) → all ≡ xs ++ d ∷ [] → AreKnown ns (map as_change all) → AreKnown ns (map as_change xs) × HasPairs ns (as_change d)
 known_split ns all xs d is k = known_append ns (map as_change xs) (as_change d) (subst (AreKnown ns) (ap (map as_change) is ∙ map-append as_change xs (d ∷ [])) k)
 
-pub known_first : (ns : List (Path × Thing)) (all xs : List Pending) (d : Pending) → all ≡ xs ++ d ∷ [] → AreKnown ns (map as_change all) → IsKnown ns (as_change d)
+pub known_first : (ns : List (Path × Thing)) (all xs : List Pending) (d : Pending) → all ≡ xs ++ d ∷ [] → AreKnown ns (map as_change all) → HasPairs ns (as_change d)
 known_first ns all xs d is k = (known_split ns all xs d is k).1
 
 pub known_rest : (ns ms : List (Path × Thing)) (all xs : List Pending) (d : Pending) → all ≡ xs ++ d ∷ [] → keys ms ≡ keys ns → AreKnown ns (map as_change all) → AreKnown ms (map as_change xs)

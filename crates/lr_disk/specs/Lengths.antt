@@ -9,7 +9,7 @@ use Rattle.lr_disk.specs.declared.file.MemFile.{MemFile}
 use Rattle.lr_disk.specs.declared.state.State.{State}
 use Rattle.lr_disk.specs.Names.{named_in}
 use Rattle.lr_disk.specs.Pending.{pending_of}
-use Rattle.lr_disk.specs.State.{file_at}
+use Rattle.lr_disk.specs.State.{file_with}
 
 -- the names that a cut leaves which keeps the changes at these places
 abbrev pub names_left : State → List ℕ → Names
@@ -26,7 +26,7 @@ has_file (n ∷ ns) id = is_file n.1 id || has_file ns id
 
 -- the file is named, and the length lies from its synced length to its length
 abbrev pub IsLength : List MemFile → Names → ℕ × ℕ → Type 0
-IsLength fs n l = IsNamed n l.0 × ((file_at fs l.0).synced ≤ l.1) × (l.1 ≤ length (file_at fs l.0).bytes)
+IsLength fs n l = IsNamed n l.0 × ((file_with fs l.0).synced ≤ l.1) × (l.1 ≤ length (file_with fs l.0).bytes)
 
 -- each is so
 abbrev pub AreWithin : List MemFile → Names → List (ℕ × ℕ) → Type 0

@@ -17,11 +17,11 @@ abbrev pub pending_of : List Pending → List Change
 pending_of changes = reverse (map as_change changes)
 
 -- each path of the change has its pair
-abbrev pub IsKnown : List (Path × Thing) → Change → Type 0
-IsKnown ns (Puts x thing) = has_path ns x ≡ true
-IsKnown ns (Moves from to) = (has_path ns from ≡ true) × (has_path ns to ≡ true)
-IsKnown ns (Drops x) = has_path ns x ≡ true
+abbrev pub HasPairs : List (Path × Thing) → Change → Type 0
+HasPairs ns (Puts x thing) = has_path ns x ≡ true
+HasPairs ns (Moves from to) = (has_path ns from ≡ true) × (has_path ns to ≡ true)
+HasPairs ns (Drops x) = has_path ns x ≡ true
 
 abbrev pub AreKnown : List (Path × Thing) → List Change → Type 0
 AreKnown ns [] = Unit {0}
-AreKnown ns (c ∷ cs) = IsKnown ns c × AreKnown ns cs
+AreKnown ns (c ∷ cs) = HasPairs ns c × AreKnown ns cs

@@ -14,7 +14,7 @@ use Rattle.lr_host.specs.World.{World, File, past, world, names, cut_to, holds_f
 use Rattle.lr_host.specs.Opening.{IsJournal}
 use Rattle.lr_disk.specs.declared.state.State.{State}
 use Rattle.lr_disk.specs.declared.file.MemFile.{MemFile}
-use Rattle.lr_disk.specs.Pairs.{value_of, has}
+use Rattle.lr_disk.specs.Pairs.{pair_value, has}
 use Rattle.lr_disk.specs.Names.{named_in}
 use Rattle.lr_disk.specs.Pending.{pending_of}
 use Rattle.lr_disk.specs.Tree.{IsTree, CanChange}
@@ -30,28 +30,28 @@ abbrev pub no_file : File
 no_file = record { bytes = []; synced = 0; mtime = pos 0; mode = None }
 
 -- the file with this identity
-abbrev pub file_at : List MemFile → ℕ → File
-file_at files id = slice_index_or (map as_file files) id no_file
+abbrev pub file_with : List MemFile → ℕ → File
+file_with files id = slice_index_or (map as_file files) id no_file
 
 abbrev pub hold_in : List (ℕ × Option ℕ) → ℕ → Option ℕ
-hold_in holds v = value_of nat_eq None holds v
+hold_in holds v = pair_value nat_eq None holds v
 
 abbrev pub has_writer : List (ℕ × Option ℕ) → ℕ → Bool
 has_writer holds v = has nat_eq holds v
 
 -- the file that a path names
-abbrev pub file_of : Thing → Option ℕ
-file_of (thing.File g) = Some g
-file_of _ = None
+abbrev pub file_named : Thing → Option ℕ
+file_named (thing.File g) = Some g
+file_named _ = None
 
 -- the state in memory is that world
-pub record Shows (state : State) (w : World) : Type 0 where
+pub record ShowsWorld (state : State) (w : World) : Type 0 where
   pub tree : IsTree state.tree
   pub named : (x : Path) → named_in state.tree.names.items x ≡ names w x
   pub durable : (x : Path) → named_in state.tree.durable.items x ≡ w.durable x
   pub changes : pending_of state.tree.changes.items ≡ w.pending
   pub drawn : length state.files.items ≡ w.drawn
-  pub files : (id : ℕ) → id < w.drawn → file_at state.files.items id ≡ w.files id
+  pub files : (id : ℕ) → id < w.drawn → file_with state.files.items id ≡ w.files id
   pub holds : (v : ℕ) → hold_in state.holds.items v ≡ w.holds v
   -- only what was drawn is named, durably and by changes
   pub below : NamesBelow w.drawn (names w)
@@ -62,8 +62,8 @@ pub record Shows (state : State) (w : World) : Type 0 where
   pub now : state.moment ≡ w.now
 
 -- the file, where one is given, has room for so many bytes more
-abbrev pub HasRoom : State → Option ℕ → ℕ → Type 0
-HasRoom state file more =
+abbrev pub FileHasRoom : State → Option ℕ → ℕ → Type 0
+FileHasRoom state file more =
     (id : ℕ) → file ≡ Some id → (f : MemFile) → slice_get state.files.items id ≡ Some f
     → vec_len f.bytes + more ≤ vec_capacity f.bytes
 
@@ -73,16 +73,16 @@ CanDraw state x = CanChange state.tree (Puts x (thing.File (length state.files.i
     × (vec_len state.files < vec_capacity state.files)
 
 -- there is room for what the entry changes
-abbrev pub IsReady : State → Entry → Type 0
-IsReady state (Attach writer x at) = CanDraw state x × (has_writer state.holds.items writer ≡ true)
-IsReady state (Feed writer bytes at) = HasRoom state (hold_in state.holds.items writer) (length bytes)
-IsReady state (Detach writer) = has_writer state.holds.items writer ≡ true
-IsReady state (Renames from to) = CanChange state.tree (Moves from to)
-IsReady state (Makes x mode) = CanDraw state x
-IsReady state (Appends x bytes) = HasRoom state (file_of (named_in state.tree.names.items x)) (length bytes)
-IsReady state (Unlinks x) = CanChange state.tree (Drops x)
-IsReady state (MakesDir x mode) = CanChange state.tree (Puts x thing.Directory)
-IsReady state _ = Unit {0}
+abbrev pub EntryHasRoom : State → Entry → Type 0
+EntryHasRoom state (Attach writer x at) = CanDraw state x × (has_writer state.holds.items writer ≡ true)
+EntryHasRoom state (Feed writer bytes at) = FileHasRoom state (hold_in state.holds.items writer) (length bytes)
+EntryHasRoom state (Detach writer) = has_writer state.holds.items writer ≡ true
+EntryHasRoom state (Renames from to) = CanChange state.tree (Moves from to)
+EntryHasRoom state (Makes x mode) = CanDraw state x
+EntryHasRoom state (Appends x bytes) = FileHasRoom state (file_named (named_in state.tree.names.items x)) (length bytes)
+EntryHasRoom state (Unlinks x) = CanChange state.tree (Drops x)
+EntryHasRoom state (MakesDir x mode) = CanChange state.tree (Puts x thing.Directory)
+EntryHasRoom state _ = Unit {0}
 
 -- The file, where one is given, became what f makes of it, and nothing else changed.
 pub record IsFiled (f : File → File) (file : Option ℕ) (s t : State) : Type 0 where
@@ -90,8 +90,8 @@ pub record IsFiled (f : File → File) (file : Option ℕ) (s t : State) : Type 
   pub holds : t.holds.items ≡ s.holds.items
   pub now : t.moment ≡ s.moment
   pub size : length t.files.items ≡ length s.files.items
-  pub files : (id : ℕ) → id < length s.files.items → file_at t.files.items id
-      ≡ cond (holds_file file id) (f (file_at s.files.items id)) (file_at s.files.items id)
+  pub files : (id : ℕ) → id < length s.files.items → file_with t.files.items id
+      ≡ cond (holds_file file id) (f (file_with s.files.items id)) (file_with s.files.items id)
 
 abbrev pub fed_file : List ℕ → ℤ → File → File
 fed_file bytes at f = record { bytes = f.bytes ++ bytes; synced = f.synced; mtime = at; mode = f.mode }
@@ -133,7 +133,7 @@ opened_journal o = record { opening = o; entries = [] }
 -- What a disk in memory keeps: its state is the world of its journal, which is one of a disk, and while a run stands there is room
 -- for its end.
 pub record IsDisk (state : State) (len capacity : ℕ) (j : Journal) : Type 0 where
-  pub shows : Shows state (world (past j))
+  pub shows : ShowsWorld state (world (past j))
   pub journal : IsJournal (past j)
   pub empty : len ≡ 0
   pub room : (world (past j)).running ≡ true → length j.entries < capacity

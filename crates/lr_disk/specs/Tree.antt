@@ -6,8 +6,8 @@ use Rattle.lr_host.specs.Lists.{AreDistinct}
 use Rattle.lr_host.specs.World.{Change, changed, names_after, kept_at, undone_at, settled}
 use Rattle.lr_disk.specs.declared.tree.Tree.{Tree}
 use Rattle.lr_disk.specs.Pairs.{keys}
-use Rattle.lr_disk.specs.Names.{named_in, has_path, names_of}
-use Rattle.lr_disk.specs.Pending.{as_change, pending_of, IsKnown, AreKnown}
+use Rattle.lr_disk.specs.Names.{named_in, has_path, opening_pairs}
+use Rattle.lr_disk.specs.Pending.{as_change, pending_of, HasPairs, AreKnown}
 
 -- Each path has one pair at most, each path of a pending change has one in both tables, and a sync finds its room.
 pub record IsTree (t : Tree) : Type 0 where
@@ -21,14 +21,14 @@ pub record IsTree (t : Tree) : Type 0 where
   pub rest_room : length t.changes.items ≤ vec_capacity t.rest
 
 -- the same names, durable ones and changes
-pub record IsSame (s t : Tree) : Type 0 where
+pub record IsSameTree (s t : Tree) : Type 0 where
   pub tree : IsTree t
   pub named : (x : Path) → named_in t.names.items x ≡ named_in s.names.items x
   pub durable : (x : Path) → named_in t.durable.items x ≡ named_in s.durable.items x
   pub changes : t.changes.items ≡ s.changes.items
 
 -- there is room for one change more, and for its sync
-pub record HasPlace (t : Tree) : Type 0 where
+pub record TreeHasRoom (t : Tree) : Type 0 where
   pub changes : length t.changes.items < vec_capacity t.changes
   pub bound : length t.changes.items < vec_capacity t.bound
   pub rest : length t.changes.items < vec_capacity t.rest
@@ -36,9 +36,9 @@ pub record HasPlace (t : Tree) : Type 0 where
 -- the change was made ready
 pub record CanChange (t : Tree) (c : Change) : Type 0 where
   pub spare : IsSomeAnd t.spare (λ p. as_change p ≡ c)
-  pub named : IsKnown t.names.items c
-  pub durable : IsKnown t.durable.items c
-  pub place : HasPlace t
+  pub named : HasPairs t.names.items c
+  pub durable : HasPairs t.durable.items c
+  pub place : TreeHasRoom t
 
 -- the names changed, and no durable one
 pub record IsChanged (c : Change) (s t : Tree) : Type 0 where
@@ -56,7 +56,7 @@ pub record IsSynced (dir : Path) (s t : Tree) : Type 0 where
   pub changes : let all = pending_of s.changes.items in pending_of t.changes.items ≡ undone_at (settled dir [] all) all
 
 -- the machine stopped, and of the changes those at these places stay
-pub record IsLeft (kept : List ℕ) (s t : Tree) : Type 0 where
+pub record IsTreeLeft (kept : List ℕ) (s t : Tree) : Type 0 where
   pub tree : IsTree t
   pub named : (x : Path) → named_in t.names.items x ≡ named_in t.durable.items x
   pub durable : (x : Path) → named_in t.durable.items x ≡ names_after (named_in s.durable.items)
@@ -64,9 +64,9 @@ pub record IsLeft (kept : List ℕ) (s t : Tree) : Type 0 where
   pub changes : t.changes.items ≡ []
 
 -- the names of an opening, all durable
-pub record IsOpened (o : Opening) (t : Tree) : Type 0 where
-  pub named : t.names.items ≡ names_of o
-  pub durable : t.durable.items ≡ names_of o
+pub record IsTreeOpened (o : Opening) (t : Tree) : Type 0 where
+  pub named : t.names.items ≡ opening_pairs o
+  pub durable : t.durable.items ≡ opening_pairs o
   pub changes : t.changes.items ≡ []
   pub bound : t.bound.items ≡ []
   pub rest : t.rest.items ≡ []

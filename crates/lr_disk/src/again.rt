@@ -5,7 +5,7 @@ ghost use Rattle.lr_host.specs.World.{World, names, opened, effect};
 ghost use Rattle.lr_host.specs.Opening.{IsValid};
 ghost use Rattle.lr_disk.specs.Pairs.{keys};
 ghost use Rattle.lr_disk.specs.Names.{named_in};
-ghost use Rattle.lr_disk.specs.State.{Shows};
+ghost use Rattle.lr_disk.specs.State.{ShowsWorld};
 
 use crate::apply::apply;
 use crate::names::thing_at;
@@ -32,16 +32,16 @@ impl Model for Replay {
     ghost view = { λ r. r.state };
 
     ghost use Rattle.lr_host.specs.World.{World};
-    ghost use Rattle.lr_disk.specs.State.{Shows};
+    ghost use Rattle.lr_disk.specs.State.{ShowsWorld};
 
-    ghost invariant = { λ r. (w : World) × Shows r.state w };
+    ghost invariant = { λ r. (w : World) × ShowsWorld r.state w };
 }
 
 impl Replay {
     /// The disk as it was found.
     pub fn new(alloc: Global, opening: &Opening) -> Result<Replay, Memory>
         requires { IsValid opening.now }
-        ensures { IfOk result (λ r. Shows r (opened opening.now)) }
+        ensures { IfOk result (λ r. ShowsWorld r (opened opening.now)) }
     {
         let state = open(alloc, opening)?;
         Ok(Replay { alloc, state })
@@ -49,8 +49,8 @@ impl Replay {
 
     /// Does what the entry did. After `Memory` the disk is as it was.
     pub fn follow(&mut self, entry: &Entry) -> Result<(), Memory>
-        ensures ok { OnOk result ((w : World) → Shows self.old w → Shows self.new (effect w entry.now)) }
-        ensures err { OnErr result ((w : World) → Shows self.old w → Shows self.new w) }
+        ensures ok { OnOk result ((w : World) → ShowsWorld self.old w → ShowsWorld self.new (effect w entry.now)) }
+        ensures err { OnErr result ((w : World) → ShowsWorld self.old w → ShowsWorld self.new w) }
     {
         prepare(self.alloc, &mut self.state, entry)?;
         apply(self.alloc, &mut self.state, entry);
@@ -59,7 +59,7 @@ impl Replay {
 
     /// What the path names.
     pub fn thing(&self, path: &Path) -> Thing
-        ensures { (w : World) → Shows self.now w → result ≡ names w path.now }
+        ensures { (w : World) → ShowsWorld self.now w → result ≡ names w path.now }
     {
         thing_at(&self.state.tree.names, path.bytes())
     }
@@ -67,14 +67,14 @@ impl Replay {
     /// What each path names; a path that isn't here names nothing.
     pub fn named(&self) -> &[(Path, Thing)]
         ensures once { AreDistinct (keys result.now) }
-        ensures named { (w : World) → Shows self.now w → (x : List ℕ) → named_in result.now x ≡ names w x }
+        ensures named { (w : World) → ShowsWorld self.now w → (x : List ℕ) → named_in result.now x ≡ names w x }
     {
         self.state.tree.names.as_slice()
     }
 
     /// The length in bytes of the file with this identity, which was drawn.
     pub fn size_of(&self, identity: u64) -> u64
-        ensures { (w : World) → Shows self.now w → identity < w.drawn → result ≡ length (w.files identity).bytes }
+        ensures { (w : World) → ShowsWorld self.now w → identity < w.drawn → result ≡ length (w.files identity).bytes }
     {
         match self.state.files.get(identity as usize) {
             Some(file) => file.bytes.len() as u64,

@@ -3,7 +3,7 @@ ghost use Rattle.lr_host.specs.declared.entry.Entry.TheVariants as entry;
 ghost use Rattle.lr_host.specs.World.{World, effect};
 ghost use Rattle.lr_host.specs.Told.{IsTools};
 ghost use Rattle.lr_disk.specs.Tree.{IsTree};
-ghost use Rattle.lr_disk.specs.State.{Shows, IsReady};
+ghost use Rattle.lr_disk.specs.State.{ShowsWorld, EntryHasRoom};
 
 use crate::bytes::{add_bytes, empty, sync};
 use crate::change::{attach, cut, detach, draw};
@@ -17,8 +17,8 @@ use std::alloc::Global;
 /// Does what an entry does, for which all was made ready.
 pub fn apply(alloc: Global, state: &mut State, entry: &Entry)
     requires tree { IsTree state.old.tree }
-    requires ready { IsReady state.old entry.now }
-    ensures { (w : World) → Shows state.old w → Shows state.new (effect w entry.now) }
+    requires ready { EntryHasRoom state.old entry.now }
+    ensures { (w : World) → ShowsWorld state.old w → ShowsWorld state.new (effect w entry.now) }
 {
     match entry {
         Entry::Attach { writer, path, at } => attach(alloc, state, *writer, path, *at),
@@ -33,9 +33,9 @@ pub fn apply(alloc: Global, state: &mut State, entry: &Entry)
 // Does what an entry of the tool does.
 fn apply_call(alloc: Global, state: &mut State, entry: &Entry)
     requires tree { IsTree state.old.tree }
-    requires ready { IsReady state.old entry.now }
+    requires ready { EntryHasRoom state.old entry.now }
     requires tools { IsTools entry.now }
-    ensures { (w : World) → Shows state.old w → Shows state.new (effect w entry.now) }
+    ensures { (w : World) → ShowsWorld state.old w → ShowsWorld state.new (effect w entry.now) }
 {
     match entry {
         Entry::Starts {
@@ -59,23 +59,23 @@ fn apply_call(alloc: Global, state: &mut State, entry: &Entry)
 }
 
 fn feed(state: &mut State, writer: u32, bytes: &[u8], at: i64)
-    requires { IsReady state.old (entry.Feed writer bytes.now at) }
-    ensures { (w : World) → Shows state.old w → Shows state.new (effect w (entry.Feed writer bytes.now at)) }
+    requires { EntryHasRoom state.old (entry.Feed writer bytes.now at) }
+    ensures { (w : World) → ShowsWorld state.old w → ShowsWorld state.new (effect w (entry.Feed writer bytes.now at)) }
 {
     let file = hold_of(&state.holds, writer);
     add_bytes(state, file, bytes, at);
 }
 
 fn flush(state: &mut State, writer: u32)
-    ensures { (w : World) → Shows state.old w → Shows state.new (effect w (entry.Flush writer)) }
+    ensures { (w : World) → ShowsWorld state.old w → ShowsWorld state.new (effect w (entry.Flush writer)) }
 {
     let file = hold_of(&state.holds, writer);
     sync(state, file);
 }
 
 fn append(state: &mut State, path: &Path, bytes: &[u8])
-    requires { IsReady state.old (entry.Appends path.now bytes.now) }
-    ensures { (w : World) → Shows state.old w → Shows state.new (effect w (entry.Appends path.now bytes.now)) }
+    requires { EntryHasRoom state.old (entry.Appends path.now bytes.now) }
+    ensures { (w : World) → ShowsWorld state.old w → ShowsWorld state.new (effect w (entry.Appends path.now bytes.now)) }
 {
     let file = file_at_path(state, path);
     let now = state.moment;
@@ -83,7 +83,7 @@ fn append(state: &mut State, path: &Path, bytes: &[u8])
 }
 
 fn truncate(state: &mut State, path: &Path)
-    ensures { (w : World) → Shows state.old w → Shows state.new (effect w (entry.Truncates path.now)) }
+    ensures { (w : World) → ShowsWorld state.old w → ShowsWorld state.new (effect w (entry.Truncates path.now)) }
 {
     let file = file_at_path(state, path);
     let now = state.moment;
@@ -91,7 +91,7 @@ fn truncate(state: &mut State, path: &Path)
 }
 
 fn sync_file(state: &mut State, path: &Path)
-    ensures { (w : World) → Shows state.old w → Shows state.new (effect w (entry.SyncsFile path.now)) }
+    ensures { (w : World) → ShowsWorld state.old w → ShowsWorld state.new (effect w (entry.SyncsFile path.now)) }
 {
     let file = file_at_path(state, path);
     sync(state, file);

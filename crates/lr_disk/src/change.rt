@@ -4,7 +4,7 @@ ghost use Rattle.lr_rules.specs.declared.path.Path.{Path};
 ghost use Rattle.lr_host.specs.declared.entry.Entry.TheVariants as entry;
 ghost use Rattle.lr_host.specs.World.{World, effect};
 ghost use Rattle.lr_disk.specs.Tree.{IsTree};
-ghost use Rattle.lr_disk.specs.State.{Shows, IsReady, CanDraw, made_world, has_writer};
+ghost use Rattle.lr_disk.specs.State.{ShowsWorld, EntryHasRoom, CanDraw, made_world, has_writer};
 
 use crate::bytes::cut_all;
 use crate::file::MemFile;
@@ -20,7 +20,8 @@ use std::alloc::Global;
 pub fn draw(alloc: Global, state: &mut State, mtime: i64, mode: Option<u32>)
     requires tree { IsTree state.old.tree }
     requires ready { (x : Path) × CanDraw state.old x }
-    ensures made { (w : World) (x : Path) → CanDraw state.old x → Shows state.old w → Shows state.new (made_world w x mtime mode) }
+    ensures made { (w : World) (x : Path) → CanDraw state.old x → ShowsWorld state.old w
+        → ShowsWorld state.new (made_world w x mtime mode) }
     ensures holds { state.new.holds ≡ state.old.holds }
 {
     let file = MemFile {
@@ -36,8 +37,8 @@ pub fn draw(alloc: Global, state: &mut State, mtime: i64, mode: Option<u32>)
 /// Lets a writer take hold of what the path names; where it names nothing, a file is made.
 pub fn attach(alloc: Global, state: &mut State, writer: u32, path: &Path, at: i64)
     requires tree { IsTree state.old.tree }
-    requires ready { IsReady state.old (entry.Attach writer path.now at) }
-    ensures { (w : World) → Shows state.old w → Shows state.new (effect w (entry.Attach writer path.now at)) }
+    requires ready { EntryHasRoom state.old (entry.Attach writer path.now at) }
+    ensures { (w : World) → ShowsWorld state.old w → ShowsWorld state.new (effect w (entry.Attach writer path.now at)) }
 {
     match thing_at(&state.tree.names, path.bytes()) {
         Thing::Nothing => {
@@ -53,7 +54,7 @@ pub fn attach(alloc: Global, state: &mut State, writer: u32, path: &Path, at: i6
 /// Lets a writer let its file go.
 pub fn detach(state: &mut State, writer: u32)
     requires { has_writer state.old.holds.items writer ≡ true }
-    ensures { (w : World) → Shows state.old w → Shows state.new (effect w (entry.Detach writer)) }
+    ensures { (w : World) → ShowsWorld state.old w → ShowsWorld state.new (effect w (entry.Detach writer)) }
 {
     set_hold(&mut state.holds, writer, None);
 }
@@ -61,7 +62,7 @@ pub fn detach(state: &mut State, writer: u32)
 /// Stops the machine.
 pub fn cut(state: &mut State, kept: &[usize], lengths: &[(u64, u64)])
     requires { IsTree state.old.tree }
-    ensures { (w : World) → Shows state.old w → Shows state.new (effect w (entry.Cut kept.now lengths.now)) }
+    ensures { (w : World) → ShowsWorld state.old w → ShowsWorld state.new (effect w (entry.Cut kept.now lengths.now)) }
 {
     cut_names(&mut state.tree, kept);
     state.holds.clear();

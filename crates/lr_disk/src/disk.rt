@@ -5,13 +5,13 @@ ghost use Rattle.lr_host.specs.declared.entry.Entry.{Entry};
 ghost use Rattle.lr_host.specs.declared.entry.Entry.TheVariants as entry;
 ghost use Rattle.lr_host.specs.World.{World, world, past, names, opened};
 ghost use Rattle.lr_host.specs.declared.thing.Thing.TheVariants as thing;
-ghost use Rattle.lr_host.specs.Fits.{Fits, IsCut, Sees, Gives, IsFileAt, IsDirectoryAt};
+ghost use Rattle.lr_host.specs.Fits.{Fits, IsCut, Sees, GivesPiece, IsFileAt, IsDirectoryAt};
 ghost use Rattle.lr_host.specs.Told.{IsWriters};
 ghost use Rattle.lr_host.specs.Opening.{IsValid, IsJournal};
 ghost use Rattle.lr_host.specs.Sets.{LogSet};
 ghost use Rattle.lr_host.specs.Safe.{IsSafe};
 ghost use Rattle.lr_disk.specs.Tree.{IsTree};
-ghost use Rattle.lr_disk.specs.State.{Shows, IsReady, with_entry, opened_journal};
+ghost use Rattle.lr_disk.specs.State.{ShowsWorld, EntryHasRoom, with_entry, opened_journal};
 ghost use Rattle.lr_disk.specs.Bytes.{GivesAll, HasBytes};
 
 use crate::apply::apply;
@@ -92,8 +92,8 @@ fn make_ready(
     entry: &Entry,
 ) -> Result<(), AllocError>
     requires { IsTree state.old.tree }
-    ensures same { (w : World) → Shows state.old w → Shows state.new w }
-    ensures ready { OnOk result (IsReady state.new entry.now) }
+    ensures same { (w : World) → ShowsWorld state.old w → ShowsWorld state.new w }
+    ensures ready { OnOk result (EntryHasRoom state.new entry.now) }
     ensures room { OnOk result (vec_len room.new + (count + 2) ≤ vec_capacity room.new) }
     ensures len { vec_len room.new ≡ vec_len room.old }
     ensures wider { vec_capacity room.old ≤ vec_capacity room.new }
@@ -121,7 +121,7 @@ fn newest(entries: &Listed<Entry>) -> &Entry
 // The state of an opening, None where the opening isn't one of a disk.
 fn open_valid(alloc: Global, opening: &Opening) -> Result<Option<State>, AllocError>
     ensures { IfOk result (λ made. MatchOption made (¬ IsValid opening.now)
-        (λ state. IsValid opening.now × Shows state (opened opening.now))) }
+        (λ state. IsValid opening.now × ShowsWorld state (opened opening.now))) }
 {
     let state = open(alloc, opening)?;
     if is_valid(opening, &state.tree.names) {
@@ -349,7 +349,7 @@ impl Disk {
         requires room { 0 < length into.old }
         requires file { IsFileAt (names (world (past self.now))) path.now }
         ensures bound { result ≤ length into.new }
-        ensures gives { Gives (world (past self.now)) (names (world (past self.now)) path.now) from (take result into.new) }
+        ensures gives { GivesPiece (world (past self.now)) (names (world (past self.now)) path.now) from (take result into.new) }
         ensures all { GivesAll (world (past self.now)) (names (world (past self.now)) path.now) from (length into.new) result }
     {
         match thing_at(&self.state.tree.names, path.bytes()) {

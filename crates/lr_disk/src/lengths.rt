@@ -3,7 +3,7 @@ ghost use Rattle.std.specs.Prelude.{◌≡◌, ◌↔◌, IsTrue, length};
 ghost use Rattle.lr_host.specs.Lists.{AreDistinct};
 ghost use Rattle.lr_host.specs.World.{length_of, is_file};
 ghost use Rattle.lr_host.specs.Below.{NamesBelow};
-ghost use Rattle.lr_host.specs.Fits.{AreApart};
+ghost use Rattle.lr_host.specs.Fits.{LengthsDiffer};
 ghost use Rattle.lr_disk.specs.Pairs.{keys};
 ghost use Rattle.lr_disk.specs.Names.{named_in};
 ghost use Rattle.lr_disk.specs.Lengths.{has_file, IsLength, AreWithin};
@@ -26,7 +26,7 @@ pub fn length_for(lengths: &[(u64, u64)], identity: u64) -> Option<u64>
 
 /// Whether no identity is listed twice.
 pub fn are_apart(lengths: &[(u64, u64)]) -> bool
-    ensures { IsTrue result ↔ AreApart lengths.now }
+    ensures { IsTrue result ↔ LengthsDiffer lengths.now }
 {
     for i in 0..lengths.len() {
         if length_for(&lengths[i + 1..], lengths[i].0).is_some() {

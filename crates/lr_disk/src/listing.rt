@@ -4,14 +4,14 @@ ghost use Rattle.lr_rules.specs.Path.{path_fault};
 ghost use Rattle.lr_host.specs.Fits.{AreNamesIn};
 ghost use Rattle.lr_host.specs.Lists.{AreDistinct};
 ghost use Rattle.lr_disk.specs.Pairs.{keys};
-ghost use Rattle.lr_disk.specs.Names.{named_in, is_in, name_of, listed_in};
+ghost use Rattle.lr_disk.specs.Names.{named_in, stands_right_in, name_of, listed_in};
 
 use lr_host::Thing;
 use lr_rules::{Path, Text};
 use std::alloc::{AllocError, Global};
 
 fn stands_in(pair: &(Path, Thing), dir: &Path) -> bool
-    ensures { result ≡ is_in dir.now pair.now }
+    ensures { result ≡ stands_right_in dir.now pair.now }
 {
     if pair.1 == Thing::Nothing {
         return false;

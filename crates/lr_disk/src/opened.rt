@@ -1,8 +1,8 @@
 // The state in memory of an opening.
 ghost use Rattle.std.specs.Prelude.{◌≡◌, ◌++◌, pos, map, Some, IfOk, OnOk};
 ghost use Rattle.lr_host.specs.declared.thing.Thing.TheVariants as thing;
-ghost use Rattle.lr_disk.specs.Names.{names_of};
-ghost use Rattle.lr_disk.specs.Tree.{IsOpened};
+ghost use Rattle.lr_disk.specs.Names.{opening_pairs};
+ghost use Rattle.lr_disk.specs.Tree.{IsTreeOpened};
 ghost use Rattle.lr_disk.specs.State.{as_open};
 
 use crate::file::MemFile;
@@ -67,7 +67,7 @@ fn copy_holds(alloc: Global, held: &[(u32, u64)]) -> Result<Vec<(u32, Option<u64
 }
 
 fn open_names(alloc: Global, opening: &Opening) -> Result<Vec<(Path, Thing)>, AllocError>
-    ensures { IfOk result (λ names. names.items ≡ names_of opening.now) }
+    ensures { IfOk result (λ names. names.items ≡ opening_pairs opening.now) }
 {
     let mut names = Vec::new(alloc);
     add_files(alloc, &mut names, opening.names.as_slice())?;
@@ -78,7 +78,7 @@ fn open_names(alloc: Global, opening: &Opening) -> Result<Vec<(Path, Thing)>, Al
 
 // What an opening names is durable, and nothing is pending.
 fn open_tree(alloc: Global, opening: &Opening) -> Result<Tree, AllocError>
-    ensures { IfOk result (λ tree. IsOpened opening.now tree) }
+    ensures { IfOk result (λ tree. IsTreeOpened opening.now tree) }
 {
     let names = open_names(alloc, opening)?;
     let durable = copy_names(alloc, &names)?;
@@ -93,7 +93,7 @@ fn open_tree(alloc: Global, opening: &Opening) -> Result<Tree, AllocError>
 }
 
 pub fn open(alloc: Global, opening: &Opening) -> Result<State, AllocError>
-    ensures tree { IfOk result (λ state. IsOpened opening.now state.tree) }
+    ensures tree { IfOk result (λ state. IsTreeOpened opening.now state.tree) }
     ensures files { IfOk result (λ state. map as_open state.files.items ≡ opening.now.files) }
     ensures holds { IfOk result (λ state. state.holds.items ≡ map (λ h. (h.0, Some h.1)) opening.now.holds) }
     ensures now { IfOk result (λ state. state.moment ≡ pos 0) }

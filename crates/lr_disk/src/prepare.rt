@@ -4,7 +4,7 @@ ghost use Rattle.lr_host.specs.World.{World, Puts, Moves, Drops};
 ghost use Rattle.lr_host.specs.declared.thing.Thing.TheVariants as thing;
 ghost use Rattle.lr_disk.specs.Names.{named_in};
 ghost use Rattle.lr_disk.specs.Tree.{IsTree, CanChange};
-ghost use Rattle.lr_disk.specs.State.{Shows, IsReady, CanDraw, HasRoom, file_of, hold_in, has_writer};
+ghost use Rattle.lr_disk.specs.State.{ShowsWorld, EntryHasRoom, CanDraw, FileHasRoom, file_named, hold_in, has_writer};
 
 use crate::bytes::make_room;
 use crate::holds::{hold_of, make_hold};
@@ -17,8 +17,8 @@ use std::alloc::{AllocError, Global};
 /// Makes room for what an entry changes. Nothing changes.
 pub fn prepare(alloc: Global, state: &mut State, entry: &Entry) -> Result<(), AllocError>
     requires { IsTree state.old.tree }
-    ensures same { (w : World) → Shows state.old w → Shows state.new w }
-    ensures ready { OnOk result (IsReady state.new entry.now) }
+    ensures same { (w : World) → ShowsWorld state.old w → ShowsWorld state.new w }
+    ensures ready { OnOk result (EntryHasRoom state.new entry.now) }
 {
     match entry {
         Entry::Attach {
@@ -48,7 +48,7 @@ fn prepare_attach(
     path: &Path,
 ) -> Result<(), AllocError>
     requires { IsTree state.old.tree }
-    ensures same { (w : World) → Shows state.old w → Shows state.new w }
+    ensures same { (w : World) → ShowsWorld state.old w → ShowsWorld state.new w }
     ensures draw { OnOk result (CanDraw state.new path.now) }
     ensures hold { OnOk result (has_writer state.new.holds.items writer ≡ true) }
 {
@@ -57,23 +57,23 @@ fn prepare_attach(
 }
 
 fn prepare_feed(state: &mut State, writer: u32, more: usize) -> Result<(), AllocError>
-    ensures same { (w : World) → Shows state.old w → Shows state.new w }
-    ensures room { OnOk result (HasRoom state.new (hold_in state.new.holds.items writer) more) }
+    ensures same { (w : World) → ShowsWorld state.old w → ShowsWorld state.new w }
+    ensures room { OnOk result (FileHasRoom state.new (hold_in state.new.holds.items writer) more) }
 {
     let file = hold_of(&state.holds, writer);
     make_room(state, file, more)
 }
 
 fn prepare_append(state: &mut State, path: &Path, more: usize) -> Result<(), AllocError>
-    ensures same { (w : World) → Shows state.old w → Shows state.new w }
-    ensures room { OnOk result (HasRoom state.new (file_of (named_in state.new.tree.names.items path.now)) more) }
+    ensures same { (w : World) → ShowsWorld state.old w → ShowsWorld state.new w }
+    ensures room { OnOk result (FileHasRoom state.new (file_named (named_in state.new.tree.names.items path.now)) more) }
 {
     let file = file_at_path(state, path);
     make_room(state, file, more)
 }
 
 fn prepare_hold(state: &mut State, writer: u32) -> Result<(), AllocError>
-    ensures same { (w : World) → Shows state.old w → Shows state.new w }
+    ensures same { (w : World) → ShowsWorld state.old w → ShowsWorld state.new w }
     ensures hold { OnOk result (has_writer state.new.holds.items writer ≡ true) }
 {
     make_hold(&mut state.holds, writer)
@@ -81,7 +81,7 @@ fn prepare_hold(state: &mut State, writer: u32) -> Result<(), AllocError>
 
 fn prepare_draw(alloc: Global, state: &mut State, path: &Path) -> Result<(), AllocError>
     requires { IsTree state.old.tree }
-    ensures same { (w : World) → Shows state.old w → Shows state.new w }
+    ensures same { (w : World) → ShowsWorld state.old w → ShowsWorld state.new w }
     ensures draw { OnOk result (CanDraw state.new path.now) }
 {
     let identity = state.files.len() as u64;
@@ -91,7 +91,7 @@ fn prepare_draw(alloc: Global, state: &mut State, path: &Path) -> Result<(), All
 
 fn prepare_directory(alloc: Global, state: &mut State, path: &Path) -> Result<(), AllocError>
     requires { IsTree state.old.tree }
-    ensures same { (w : World) → Shows state.old w → Shows state.new w }
+    ensures same { (w : World) → ShowsWorld state.old w → ShowsWorld state.new w }
     ensures ready { OnOk result (CanChange state.new.tree (Puts path.now thing.Directory)) }
 {
     make_put(alloc, &mut state.tree, path, Thing::Directory)
@@ -99,7 +99,7 @@ fn prepare_directory(alloc: Global, state: &mut State, path: &Path) -> Result<()
 
 fn prepare_move(alloc: Global, state: &mut State, from: &Path, to: &Path) -> Result<(), AllocError>
     requires { IsTree state.old.tree }
-    ensures same { (w : World) → Shows state.old w → Shows state.new w }
+    ensures same { (w : World) → ShowsWorld state.old w → ShowsWorld state.new w }
     ensures ready { OnOk result (CanChange state.new.tree (Moves from.now to.now)) }
 {
     make_move(alloc, &mut state.tree, from, to)
@@ -107,7 +107,7 @@ fn prepare_move(alloc: Global, state: &mut State, from: &Path, to: &Path) -> Res
 
 fn prepare_drop(alloc: Global, state: &mut State, path: &Path) -> Result<(), AllocError>
     requires { IsTree state.old.tree }
-    ensures same { (w : World) → Shows state.old w → Shows state.new w }
+    ensures same { (w : World) → ShowsWorld state.old w → ShowsWorld state.new w }
     ensures ready { OnOk result (CanChange state.new.tree (Drops path.now)) }
 {
     make_drop(alloc, &mut state.tree, path)

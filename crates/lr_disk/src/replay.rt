@@ -3,7 +3,7 @@ ghost use Rattle.std.specs.Prelude.{◌≡◌, [], List, ℕ, map, vec_capacity}
 ghost use Rattle.lr_host.specs.World.{kept_at, changed, names_after};
 ghost use Rattle.lr_disk.specs.Pairs.{keys};
 ghost use Rattle.lr_disk.specs.Names.{named_in};
-ghost use Rattle.lr_disk.specs.Pending.{as_change, pending_of, AreKnown, IsKnown};
+ghost use Rattle.lr_disk.specs.Pending.{as_change, pending_of, AreKnown, HasPairs};
 
 use crate::closed::lists;
 use crate::names::{set_name, thing_at};
@@ -13,7 +13,7 @@ use lr_rules::Path;
 
 /// Does the change.
 pub fn replay(names: &mut [(Path, Thing)], change: &Pending)
-    requires { IsKnown names.old (as_change change.now) }
+    requires { HasPairs names.old (as_change change.now) }
     ensures named { (x : List ℕ) → named_in names.new x ≡ changed (as_change change.now) (named_in names.old) x }
     ensures keys { keys names.new ≡ keys names.old }
 {

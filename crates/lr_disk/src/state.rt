@@ -1,7 +1,7 @@
 // The files, names and holds of a world, in memory.
 ghost use Rattle.std.specs.Prelude.{◌≡◌};
 ghost use Rattle.lr_disk.specs.Names.{named_in};
-ghost use Rattle.lr_disk.specs.State.{file_of};
+ghost use Rattle.lr_disk.specs.State.{file_named};
 
 use crate::file::MemFile;
 use crate::names::thing_at;
@@ -21,7 +21,7 @@ pub struct State {
 
 /// The file that the path names.
 pub fn file_at_path(state: &State, path: &Path) -> Option<u64>
-    ensures { result ≡ file_of (named_in state.now.tree.names.items path.now) }
+    ensures { result ≡ file_named (named_in state.now.tree.names.items path.now) }
 {
     match thing_at(&state.tree.names, path.bytes()) {
         Thing::File(identity) => Some(identity),

@@ -2,7 +2,7 @@
 ghost use Rattle.std.specs.Prelude.{◌≡◌, true, List, ℕ, OnOk};
 ghost use Rattle.lr_host.specs.World.{Change, Puts, Moves, Drops};
 ghost use Rattle.lr_disk.specs.Names.{has_path};
-ghost use Rattle.lr_disk.specs.Tree.{IsTree, IsSame, HasPlace, CanChange, IsChanged, IsSynced, IsLeft};
+ghost use Rattle.lr_disk.specs.Tree.{IsTree, IsSameTree, TreeHasRoom, CanChange, IsChanged, IsSynced, IsTreeLeft};
 
 use crate::names::{make_name, take_over};
 use crate::pending::Pending;
@@ -30,8 +30,8 @@ pub struct Tree {
 // Makes room for one change more, and for its sync. Nothing changes.
 fn make_places(tree: &mut Tree) -> Result<(), AllocError>
     requires { IsTree tree.old }
-    ensures same { IsSame tree.old tree.new }
-    ensures place { OnOk result (HasPlace tree.new) }
+    ensures same { IsSameTree tree.old tree.new }
+    ensures place { OnOk result (TreeHasRoom tree.new) }
 {
     tree.changes.reserve(1)?;
     let count = tree.changes.len() + 1;
@@ -42,12 +42,12 @@ fn make_places(tree: &mut Tree) -> Result<(), AllocError>
 // Makes sure that the path has its pairs. Nothing changes.
 fn make_path(alloc: Global, tree: &mut Tree, path: &Path) -> Result<(), AllocError>
     requires { IsTree tree.old }
-    ensures same { IsSame tree.old tree.new }
+    ensures same { IsSameTree tree.old tree.new }
     ensures named { OnOk result (has_path tree.new.names.items path.now ≡ true) }
     ensures durable { OnOk result (has_path tree.new.durable.items path.now ≡ true) }
     ensures others { (x : List ℕ) → has_path tree.old.names.items x ≡ true → has_path tree.new.names.items x ≡ true }
     ensures durable_others { (x : List ℕ) → has_path tree.old.durable.items x ≡ true → has_path tree.new.durable.items x ≡ true }
-    ensures place { HasPlace tree.old → HasPlace tree.new }
+    ensures place { TreeHasRoom tree.old → TreeHasRoom tree.new }
 {
     make_name(alloc, &mut tree.names, path)?;
     make_name(alloc, &mut tree.durable, path)
@@ -56,8 +56,8 @@ fn make_path(alloc: Global, tree: &mut Tree, path: &Path) -> Result<(), AllocErr
 // Makes room for a change of these two paths. Nothing changes.
 fn make_room(alloc: Global, tree: &mut Tree, from: &Path, to: &Path) -> Result<(), AllocError>
     requires { IsTree tree.old }
-    ensures same { IsSame tree.old tree.new }
-    ensures place { OnOk result (HasPlace tree.new) }
+    ensures same { IsSameTree tree.old tree.new }
+    ensures place { OnOk result (TreeHasRoom tree.new) }
     ensures named { OnOk result ((has_path tree.new.names.items from.now ≡ true) × (has_path tree.new.names.items to.now ≡ true)) }
     ensures durable { OnOk result ((has_path tree.new.durable.items from.now ≡ true)
         × (has_path tree.new.durable.items to.now ≡ true)) }
@@ -70,7 +70,7 @@ fn make_room(alloc: Global, tree: &mut Tree, from: &Path, to: &Path) -> Result<(
 /// Makes ready that the path names this. Nothing changes.
 pub fn make_put(alloc: Global, tree: &mut Tree, path: &Path, thing: Thing) -> Result<(), AllocError>
     requires { IsTree tree.old }
-    ensures same { IsSame tree.old tree.new }
+    ensures same { IsSameTree tree.old tree.new }
     ensures ready { OnOk result (CanChange tree.new (Puts path.now thing)) }
 {
     make_room(alloc, tree, path, path)?;
@@ -81,7 +81,7 @@ pub fn make_put(alloc: Global, tree: &mut Tree, path: &Path, thing: Thing) -> Re
 /// Makes ready that a file gets another path. Nothing changes.
 pub fn make_move(alloc: Global, tree: &mut Tree, from: &Path, to: &Path) -> Result<(), AllocError>
     requires { IsTree tree.old }
-    ensures same { IsSame tree.old tree.new }
+    ensures same { IsSameTree tree.old tree.new }
     ensures ready { OnOk result (CanChange tree.new (Moves from.now to.now)) }
 {
     make_room(alloc, tree, from, to)?;
@@ -92,7 +92,7 @@ pub fn make_move(alloc: Global, tree: &mut Tree, from: &Path, to: &Path) -> Resu
 /// Makes ready that the path names nothing. Nothing changes.
 pub fn make_drop(alloc: Global, tree: &mut Tree, path: &Path) -> Result<(), AllocError>
     requires { IsTree tree.old }
-    ensures same { IsSame tree.old tree.new }
+    ensures same { IsSameTree tree.old tree.new }
     ensures ready { OnOk result (CanChange tree.new (Drops path.now)) }
 {
     make_room(alloc, tree, path, path)?;
@@ -125,7 +125,7 @@ pub fn sync_names(tree: &mut Tree, dir: &Path)
 /// The machine stops: of the changes those at these places stay.
 pub fn cut_names(tree: &mut Tree, kept: &[usize])
     requires { IsTree tree.old }
-    ensures { IsLeft kept.now tree.old tree.new }
+    ensures { IsTreeLeft kept.now tree.old tree.new }
 {
     keep(&mut tree.durable, &tree.changes, kept);
     tree.changes.clear();

@@ -2,9 +2,9 @@
 ghost use Rattle.std.specs.Prelude.{◌≡◌, ◌≢◌, ◌↔◌, ◌<◌, ◌≤◌, ◌==◌, ℕ, IsTrue, Contains, All, map, length, count_by, [], ◌∷◌};
 ghost use Rattle.lr_rules.specs.Path.{parent_of};
 ghost use Rattle.lr_host.specs.Lists.{AreDistinct, IsNotIn};
-ghost use Rattle.lr_host.specs.Opening.{IsValid, paths_of};
+ghost use Rattle.lr_host.specs.Opening.{IsValid, opening_paths};
 ghost use Rattle.lr_disk.specs.Pairs.{keys};
-ghost use Rattle.lr_disk.specs.Names.{names_of};
+ghost use Rattle.lr_disk.specs.Names.{opening_pairs};
 
 use lr_host::{OpenFile, Opening, Thing};
 use lr_rules::Path;
@@ -99,7 +99,7 @@ fn are_synced(files: &[OpenFile]) -> bool
 
 /// Whether the opening, which names these things, is a disk.
 pub fn is_valid(opening: &Opening, names: &[(Path, Thing)]) -> bool
-    requires { names.now ≡ names_of opening.now }
+    requires { names.now ≡ opening_pairs opening.now }
     ensures { IsTrue result ↔ IsValid opening.now }
 {
     let files = opening.files.len();

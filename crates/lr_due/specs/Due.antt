@@ -74,15 +74,15 @@ abbrev pub is_on_day : ℕ → Civil → Bool
 is_on_day day now = nat_lt day 7 && (weekday_of now == day)
 
 -- the hour, day, week, month or year of a criterion has passed
-abbrev pub has_turned : Criterion → Civil → Civil → Bool
-has_turned Hourly last now = not (is_same_date now last && (now.hour == last.hour))
-has_turned Daily last now = not (is_same_date now last)
-has_turned (Weekly day) last now =
+abbrev pub has_passed : Criterion → Civil → Civil → Bool
+has_passed Hourly last now = not (is_same_date now last && (now.hour == last.hour))
+has_passed Daily last now = not (is_same_date now last)
+has_passed (Weekly day) last now =
     int_le (pos 7) (days_past now last)
     || (is_on_day day now && int_le (pos 1) (days_past now last))
-has_turned Monthly last now = not (is_same_month now last)
-has_turned Yearly last now = not (int_eq now.year last.year)
-has_turned (Size limit) last now = false
+has_passed Monthly last now = not (is_same_month now last)
+has_passed Yearly last now = not (int_eq now.year last.year)
+has_passed (Size limit) last now = false
 
 -- the state has no moment for the log
 abbrev pub is_unknown : Option Civil → Bool
@@ -97,7 +97,7 @@ is_ahead seconds (Some last) now = int_lt seconds (seconds_between now last)
 -- the criterion has turned since the state's moment
 abbrev pub has_turned_since : Criterion → Option Civil → Civil → Bool
 has_turned_since criterion None now = false
-has_turned_since criterion (Some last) now = has_turned criterion last now
+has_turned_since criterion (Some last) now = has_passed criterion last now
 
 -- the criterion is a size
 abbrev pub is_some_size : Option ℕ → Bool

@@ -51,11 +51,11 @@ IsTable (Rule text) = ⊥
 IsTable (Bytes bytes) = Unit {0}
 
 -- the answer is that the zone is refused, unless there is no memory to read it
-abbrev pub IsRefusal : Result Clock ZoneStop → Type 0
-IsRefusal (Ok clock) = ⊥
-IsRefusal (Err Range) = ⊥
-IsRefusal (Err Refused) = Unit {0}
-IsRefusal (Err Memory) = Unit {0}
+abbrev pub IsZoneRefusal : Result Clock ZoneStop → Type 0
+IsZoneRefusal (Ok clock) = ⊥
+IsZoneRefusal (Err Range) = ⊥
+IsZoneRefusal (Err Refused) = Unit {0}
+IsZoneRefusal (Err Memory) = Unit {0}
 
 -- the civil moment is what a clock in the zone shows at that second
 abbrev pub ShowsAt : TimeZone → ℤ → Civil → Type 0

@@ -1,7 +1,7 @@
 // The table of cases by which a log is due or not.
 ghost use Rattle.std.specs.Prelude.{◌≡◌};
 ghost use Rattle.lr_due.specs.Due.{age_days, is_young, is_spared_empty, is_above, is_within, size_limit, days_past, is_ahead};
-ghost use Rattle.lr_due.specs.Due.{is_on_day, has_turned, has_turned_since, due_of};
+ghost use Rattle.lr_due.specs.Due.{is_on_day, has_passed, has_turned_since, due_of};
 
 use crate::answer::{Due, Why, WhyNot};
 use crate::calendar::weekday;
@@ -84,7 +84,7 @@ fn turned_since(criterion: Criterion, last: Option<Civil>, now: &Civil) -> bool
 
 /// Whether the hour, day, week, month or year of the criterion has passed since `last`.
 fn turned(criterion: Criterion, last: &Civil, now: &Civil) -> bool
-    ensures { result ≡ has_turned criterion last.now now.now }
+    ensures { result ≡ has_passed criterion last.now now.now }
 {
     let same_month = now.year == last.year && now.month == last.month;
     let same_date = same_month && now.day == last.day;
@@ -113,7 +113,7 @@ fn dates_between(last: &Civil, now: &Civil) -> i64
 
 /// Whether seven days have passed, or it is the day of the week and a later date.
 fn week_turned(day: u8, last: &Civil, now: &Civil) -> bool
-    ensures { result ≡ has_turned (Criterion.Weekly day) last.now now.now }
+    ensures { result ≡ has_passed (Criterion.Weekly day) last.now now.now }
 {
     let days = dates_between(last, now);
     if days >= 7 {

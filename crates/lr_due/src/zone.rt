@@ -3,7 +3,7 @@ ghost use Rattle.std.specs.Prelude.{◌≡◌, ◌↔◌, IfOk, Err, pos, neg_�
 ghost use Rattle.jiff_core.specs.Calendar.{IsBetween, days_from_civil};
 ghost use Rattle.std.specs.Int.{int_max};
 ghost use Rattle.jiff.specs.ZoneView.{plain_zone};
-ghost use Rattle.lr_due.specs.Zone.{IsInRange, IsRefusedZone, IsRefusal, IsTable, IsClockAt, IsClockIn, ShowsAt};
+ghost use Rattle.lr_due.specs.Zone.{IsInRange, IsRefusedZone, IsZoneRefusal, IsTable, IsClockAt, IsClockIn, ShowsAt};
 
 use crate::calendar::{civil_of, day_before};
 use jiff::tz::{TimeZone, Tzif};
@@ -81,7 +81,7 @@ fn clock_at(zone: TimeZone<'_>, seconds: i64) -> Clock
 pub fn clock_of(alloc: Global, zone: &ZoneText, seconds: i64) -> Result<Clock, ZoneStop>
     ensures range { (result ≡ Err ZoneStop.Range) ↔ ¬ (IsInRange seconds) }
     ensures refused { result ≡ Err ZoneStop.Refused → IsInRange seconds × IsRefusedZone zone.now }
-    ensures refuses { IsInRange seconds → IsRefusedZone zone.now → IsRefusal result }
+    ensures refuses { IsInRange seconds → IsRefusedZone zone.now → IsZoneRefusal result }
     ensures memory { result ≡ Err ZoneStop.Memory → IsTable zone.now }
     ensures clock { IfOk result (IsClockIn zone.now seconds) }
 {

@@ -20,7 +20,7 @@ use Rattle.lr_host.proofs.Each.{each_as, each_reverse}
 use Rattle.lr_host.proofs.Looked.{same_file}
 use Rattle.lr_host.proofs.Quiet.{before_last}
 use Rattle.lr_durable.specs.Renewing.{Renews, IsWritten, HasText}
-use Rattle.lr_durable.specs.StateWhole.{renamed_paths, IsSettled, WritersSpare}
+use Rattle.lr_durable.specs.StateWhole.{renamed_paths, IsSettled, WritersSpareState}
 use Rattle.lr_durable.proofs.Files.{LeavesFile}
 use Rattle.lr_durable.proofs.Lists.{At, at, each_last}
 use Rattle.lr_durable.proofs.Parts.{IsOwn, own_walk}
@@ -155,7 +155,7 @@ in_order p q es m = subst (λ (xs : List Entry). Made p xs q) (sym (reverse-reve
 pub renewed_text : (state : Path) (dirs : List Path) (text : List ℕ) (p q : Past) (es : List Entry) → Made p es q → IsJournal p → Renews state dirs text (reverse es) → AttachedOnlySince (Spared state) p q → HasText state text q
 renewed_text state dirs text p q es m j r only = has_text state dirs text p q (reverse es) (in_order p q es m) j r only
 
-pub written_settled : (state : Path) (dirs : List Path) (text : List ℕ) (p q : Past) (es : List Entry) → Made p es q → IsJournal p → IsWritten state dirs text (reverse es) → WritersSpare state p q → IsSettled state q
+pub written_settled : (state : Path) (dirs : List Path) (text : List ℕ) (p q : Past) (es : List Entry) → Made p es q → IsJournal p → IsWritten state dirs text (reverse es) → WritersSpareState state p q → IsSettled state q
 written_settled state dirs text p q es m j w spare = go (in_order p q es m)
   where
     go : Made p (reverse (reverse es)) q → IsSettled state q

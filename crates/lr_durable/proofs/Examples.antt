@@ -18,7 +18,7 @@ use Rattle.lr_host.proofs.Quiet.{size}
 use Rattle.lr_laws.specs.Chain.{second, third, found}
 use Rattle.lr_laws.proofs.Example.{found_valid}
 use Rattle.lr_durable.specs.Renewing.{MayRenew, renewed}
-use Rattle.lr_durable.specs.StateWhole.{IsSettled, WritersSpare, LeftAs, by_last, still, IsOldOrNew, IsWholeAt}
+use Rattle.lr_durable.specs.StateWhole.{IsSettled, WritersSpareState, LeftAs, by_last, still, IsOldOrNew, IsWholeAt}
 use Rattle.lr_durable.specs.Worked.{state, text, filled, in_order, not_synced, made_since, too_early, in_place}
 use Rattle.lr_durable.proofs.Lists.{prefix_size, prefix_last}
 use Rattle.lr_durable.proofs.Whole.{whole_at}
@@ -72,7 +72,7 @@ entries = entry.SyncsDir (codes "/s") ∷ entry.Renames part state ∷ entry.Syn
 made : Made start entries in_order
 made = by_tool (by_tool (by_tool (by_tool (by_tool (by_tool (by_tool at_first tt renames_fit) tt (refl, refl)) tt (3, refl)) tt (3, refl)) tt refl) tt ((3, refl), λ e. cc, λ e. cc, refl, other part state refl)) tt refl
 
-spare : WritersSpare state start in_order
+spare : WritersSpareState state start in_order
 spare = record { held = λ v g e. absurd (cc); attached = further (further (further (further (further (further (further from_here tt) tt) tt) tt) tt) tt) tt }
 
 may : MayRenew state (λ bytes. bytes ≡ text) (reverse entries)

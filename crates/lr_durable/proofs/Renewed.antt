@@ -17,7 +17,7 @@ use Rattle.lr_host.proofs.Each.{each_append, each_as, each_map, each_reverse}
 use Rattle.lr_host.proofs.Looked.{nothing_no_file}
 use Rattle.lr_host.proofs.Made.{made_on, made_journal}
 use Rattle.lr_host.proofs.Names.{put_cases, put_here}
-use Rattle.lr_durable.specs.Renewing.{IsWithin, Renews}
+use Rattle.lr_durable.specs.Renewing.{IsWithinDirs, Renews}
 use Rattle.lr_durable.specs.StateWhole.{LeftAs, StandsAs}
 use Rattle.lr_durable.proofs.Files.{IsGuarded, IsSynced, LeavesFile}
 use Rattle.lr_durable.proofs.Leaving.{Lasts, stands_made}
@@ -137,17 +137,17 @@ stands_behind P p z q xs ys x t d dir first second only calm e l one =
     (left_drawn p z (reverse xs) x t d first earlier)
     (λ n undone leaves. subst (λ (u : Thing). StandsAs d t u) (sym (synced_durable z dir x e n undone leaves)) (stands_now p z (reverse xs) x t d first earlier))
 
-within_filling : (part : Path) (mode : Option ℕ) (pieces : List (List ℕ)) (dirs : List Path) → Each (IsWithin part dirs) (filling part mode pieces dirs)
-within_filling part mode pieces dirs = ((λ x i. ⊎_elim (λ e. inl (sym e)) (λ n. absurd n) i), each_append (IsWithin part dirs) (map (entry.Appends part) pieces) (entry.SyncsFile part ∷ map entry.SyncsDir dirs) (appends pieces) ((λ x i. absurd i), each_map (IsWithin part dirs) entry.SyncsDir dirs (λ d x i. absurd i)))
+within_filling : (part : Path) (mode : Option ℕ) (pieces : List (List ℕ)) (dirs : List Path) → Each (IsWithinDirs part dirs) (filling part mode pieces dirs)
+within_filling part mode pieces dirs = ((λ x i. ⊎_elim (λ e. inl (sym e)) (λ n. absurd n) i), each_append (IsWithinDirs part dirs) (map (entry.Appends part) pieces) (entry.SyncsFile part ∷ map entry.SyncsDir dirs) (appends pieces) ((λ x i. absurd i), each_map (IsWithinDirs part dirs) entry.SyncsDir dirs (λ d x i. absurd i)))
   where
-    appends : (pieces : List (List ℕ)) → Each (IsWithin part dirs) (map (entry.Appends part) pieces)
-    appends pieces = each_map (IsWithin part dirs) (entry.Appends part) pieces (λ piece x i. absurd i)
+    appends : (pieces : List (List ℕ)) → Each (IsWithinDirs part dirs) (map (entry.Appends part) pieces)
+    appends pieces = each_map (IsWithinDirs part dirs) (entry.Appends part) pieces (λ piece x i. absurd i)
 
 -- Just before the part file gets the state's path, each path but its own stands as it was left, whatever a cut leaves.
-pub all_stand : (P : Path → Type 0) (part : Path) (dirs : List Path) (front : List Entry) (mode : Option ℕ) (pieces : List (List ℕ)) (p q : Past) → Made p (reverse (front ++ filling part mode pieces dirs)) q → AttachedOnlySince P p q → Each (IsWithin part dirs) front
+pub all_stand : (P : Path → Type 0) (part : Path) (dirs : List Path) (front : List Entry) (mode : Option ℕ) (pieces : List (List ℕ)) (p q : Past) → Made p (reverse (front ++ filling part mode pieces dirs)) q → AttachedOnlySince P p q → Each (IsWithinDirs part dirs) front
     → (x : Path) (t : Thing) (d : ℕ) → LeftAs p x t d q → x ≢ part → Lasts (λ n. StandsAs d t (n x)) q
 all_stand P part dirs front mode pieces p q m only within x t d l other = ⊎_elim (λ e. absurd (other e)) (λ i. go (sync_of (parent_of x) dirs i))
-    (left_of (λ y. (y ≡ part) ⊎ IsIn (parent_of y) dirs) p q (reverse ts) x t d m (each_reverse (IsWithin part dirs) ts (each_append (IsWithin part dirs) front (filling part mode pieces dirs) within (within_filling part mode pieces dirs))) l)
+    (left_of (λ y. (y ≡ part) ⊎ IsIn (parent_of y) dirs) p q (reverse ts) x t d m (each_reverse (IsWithinDirs part dirs) ts (each_append (IsWithinDirs part dirs) front (filling part mode pieces dirs) within (within_filling part mode pieces dirs))) l)
   where
     ts : List Entry
     ts = front ++ filling part mode pieces dirs

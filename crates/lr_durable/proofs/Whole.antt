@@ -21,8 +21,8 @@ use Rattle.lr_host.proofs.Names.{put_here, put_other}
 use Rattle.lr_host.proofs.Quiet.{since_before}
 use Rattle.lr_laws.specs.Follow.{changed_paths}
 use Rattle.lr_laws.proofs.Disk.{AgreeOn, leaves_now, cut_leaves, fits_closed}
-use Rattle.lr_durable.specs.Renewing.{IsAsideOf, Renews, MayRenew, left_alone, renewed}
-use Rattle.lr_durable.specs.StateWhole.{IsSettled, WritersSpare, renamed_paths, LeftAs, StandsAs, AreApplied, IsAsBefore, IsOldOrNew, IsWholeAt}
+use Rattle.lr_durable.specs.Renewing.{LeavesAlone, Renews, MayRenew, left_alone, renewed}
+use Rattle.lr_durable.specs.StateWhole.{IsSettled, WritersSpareState, renamed_paths, LeftAs, StandsAs, AreApplied, IsAsBefore, IsOldOrNew, IsWholeAt}
 use Rattle.lr_durable.proofs.Files.{LeavesFile, tool_guards, tool_synced, cut_whole}
 use Rattle.lr_durable.proofs.Leaving.{Lasts, lasts_on, stands_made, alike}
 use Rattle.lr_durable.proofs.Lists.{made_prefix, IsOnWay, on_way, at, FirstPart, ends_before, has_it, first_part}
@@ -51,14 +51,14 @@ view_cut u _ i f = absurd i
 
 -- ---- entries that leave the state alone
 
-aside_named : (x : Path) (e : Entry) → IsAsideOf x e → IsIn x (renamed_paths e) → ⊥
+aside_named : (x : Path) (e : Entry) → LeavesAlone x e → IsIn x (renamed_paths e) → ⊥
 aside_named x (entry.Renames from to) a i = a i
 aside_named x (entry.Makes y mode) a i = a i
 aside_named x (entry.Unlinks y) a i = a i
 aside_named x (entry.MakesDir y mode) a i = a i
 aside_named x _ a i = i
 
-aside_leaves : (x : Path) (e : Entry) → IsAsideOf x e → LeavesFile x e
+aside_leaves : (x : Path) (e : Entry) → LeavesAlone x e → LeavesFile x e
 aside_leaves x (entry.Renames from to) a = λ e. a (inl e)
 aside_leaves x (entry.Appends y piece) a = λ e. a (inl e)
 aside_leaves x (entry.Truncates y) a = λ e. a (inl e)
@@ -92,11 +92,11 @@ module _ (state : Path) (p : Past) (j : IsJournal p) (settled : IsSettled state 
   as_before u v view safe is = record { named = is; same = λ g e. view.bytes state g ((world p).files g).bytes (safe g e) }
 
   -- while the state was left alone
-  abbrev alone_named : (q : Past) (ts : List Entry) → Made p (reverse ts) q → AttachedOnlySince (Spared state) p q → Each (IsAsideOf state) ts → Lasts (λ n. n state ≡ old) q
-  alone_named q ts m only a = named_walk (Spared state) state old p q (reverse ts) (λ y s. s.0) m only (each_reverse (λ e. IsIn state (renamed_paths e) → ⊥) ts (each_as (IsAsideOf state) (λ e. IsIn state (renamed_paths e) → ⊥) ts (aside_named state) a)) named_first
+  abbrev alone_named : (q : Past) (ts : List Entry) → Made p (reverse ts) q → AttachedOnlySince (Spared state) p q → Each (LeavesAlone state) ts → Lasts (λ n. n state ≡ old) q
+  alone_named q ts m only a = named_walk (Spared state) state old p q (reverse ts) (λ y s. s.0) m only (each_reverse (λ e. IsIn state (renamed_paths e) → ⊥) ts (each_as (LeavesAlone state) (λ e. IsIn state (renamed_paths e) → ⊥) ts (aside_named state) a)) named_first
 
-  abbrev alone_safe : (q : Past) (ts : List Entry) → Made p (reverse ts) q → AttachedOnlySince (Spared state) p q → Each (IsAsideOf state) ts → IsOldSafe q
-  alone_safe q ts m only a = old_walk p q (reverse ts) m only (each_reverse (LeavesFile state) ts (each_as (IsAsideOf state) (LeavesFile state) ts (aside_leaves state) a)) old_first
+  abbrev alone_safe : (q : Past) (ts : List Entry) → Made p (reverse ts) q → AttachedOnlySince (Spared state) p q → Each (LeavesAlone state) ts → IsOldSafe q
+  alone_safe q ts m only a = old_walk p q (reverse ts) m only (each_reverse (LeavesFile state) ts (each_as (LeavesAlone state) (LeavesFile state) ts (aside_leaves state) a)) old_first
 
   -- ---- the rename
 
@@ -179,31 +179,31 @@ module _ (state : Path) (p : Past) (j : IsJournal p) (settled : IsSettled state 
 
   -- ---- what the tool left
 
-  part_entry : (e : Entry) → changed_paths e ≡ part ∷ [] → IsAsideOf state e
+  part_entry : (e : Entry) → changed_paths e ≡ part ∷ [] → LeavesAlone state e
   part_entry e same i = ⊎_elim (λ is. part_apart state is) (λ none. none) (in_part (subst (λ (xs : List Path). IsIn state xs) same i))
     where
       in_part : IsIn state (part ∷ []) → (part ≡ state) ⊎ ⊥
       in_part i = i
 
-  filling_aside : (mode : Option ℕ) (pieces : List (List ℕ)) (dirs : List Path) → Each (IsAsideOf state) (filling part mode pieces dirs)
+  filling_aside : (mode : Option ℕ) (pieces : List (List ℕ)) (dirs : List Path) → Each (LeavesAlone state) (filling part mode pieces dirs)
   filling_aside mode pieces dirs = (
     part_entry (entry.Makes part mode) refl,
-    each_append (IsAsideOf state) (map (entry.Appends part) pieces) (entry.SyncsFile part ∷ map entry.SyncsDir dirs)
-        (each_map (IsAsideOf state) (entry.Appends part) pieces (λ piece. part_entry (entry.Appends part piece) refl)) ((λ i. i), each_map (IsAsideOf state) entry.SyncsDir dirs (λ d i. i)),
+    each_append (LeavesAlone state) (map (entry.Appends part) pieces) (entry.SyncsFile part ∷ map entry.SyncsDir dirs)
+        (each_map (LeavesAlone state) (entry.Appends part) pieces (λ piece. part_entry (entry.Appends part piece) refl)) ((λ i. i), each_map (LeavesAlone state) entry.SyncsDir dirs (λ d i. i)),
   )
 
-  firsts_aside : (ts : List Entry) (dirs : List Path) (text : List ℕ) → (r : Renews state dirs text ts) → Each (IsAsideOf state) (r.front ++ filling part r.mode r.pieces dirs)
-  firsts_aside ts dirs text r = each_append (IsAsideOf state) r.front (filling part r.mode r.pieces dirs) r.aside (filling_aside r.mode r.pieces dirs)
+  firsts_aside : (ts : List Entry) (dirs : List Path) (text : List ℕ) → (r : Renews state dirs text ts) → Each (LeavesAlone state) (r.front ++ filling part r.mode r.pieces dirs)
+  firsts_aside ts dirs text r = each_append (LeavesAlone state) r.front (filling part r.mode r.pieces dirs) r.aside (filling_aside r.mode r.pieces dirs)
 
   first_may : (IsText : List ℕ → Type 0) (ts us : List Entry) → MayRenew state IsText (ts ++ us) → MayRenew state IsText ts
-  first_may IsText ts us (left_alone a) = left_alone (each_first (IsAsideOf state) ts us a)
+  first_may IsText ts us (left_alone a) = left_alone (each_first (LeavesAlone state) ts us a)
   first_may IsText ts us (renewed dirs text is r) = go (first_part firsts (entry.Renames part state) r.after ts us (sym (in_two state dirs text (ts ++ us) r)))
     where
       firsts : List Entry
       firsts = r.front ++ filling part r.mode r.pieces dirs
 
       go : FirstPart firsts (entry.Renames part state) r.after ts us → MayRenew state IsText ts
-      go (ends_before rest e) = left_alone (each_first (IsAsideOf state) ts rest (subst (Each (IsAsideOf state)) e (firsts_aside (ts ++ us) dirs text r)))
+      go (ends_before rest e) = left_alone (each_first (LeavesAlone state) ts rest (subst (Each (LeavesAlone state)) e (firsts_aside (ts ++ us) dirs text r)))
       go (has_it more e g) = renewed dirs text is (record {
         front = r.front;
         mode = r.mode;
@@ -229,7 +229,7 @@ module _ (state : Path) (p : Past) (j : IsJournal p) (settled : IsSettled state 
   at_end : (IsText : List ℕ → Type 0) (u : Past) (ts : List Entry) → Made p (reverse ts) u → AttachedOnlySince (Spared state) p u → MayRenew state IsText ts → IsWholeAt state IsText p u
   at_end IsText u ts m only may = record { now = of_view IsText u u ts m only may (view_now u); cut = λ c i f. of_view IsText u (u ▸ c) ts m only may (view_cut u c i f) }
 
-pub whole_at : (state : Path) (IsText : List ℕ → Type 0) (p q : Past) (es : List Entry) → Made p es q → IsJournal p → MayRenew state IsText (reverse es) → IsSettled state p → WritersSpare state p q → (u : Past) → IsPrefix p u → IsPrefix u q → IsWholeAt state IsText p u
+pub whole_at : (state : Path) (IsText : List ℕ → Type 0) (p q : Past) (es : List Entry) → Made p es q → IsJournal p → MayRenew state IsText (reverse es) → IsSettled state p → WritersSpareState state p q → (u : Past) → IsPrefix p u → IsPrefix u q → IsWholeAt state IsText p u
 whole_at state IsText p q es m j may settled spare u since until = go (on_way p u q es m since until)
   where
     go : IsOnWay p u q es → IsWholeAt state IsText p u

@@ -15,12 +15,12 @@ use Rattle.lr_laws.specs.Follow.{changed_paths}
 use Rattle.lr_durable.specs.StateWhole.{renamed_paths}
 
 -- the entry changes neither what the path names nor bytes of a file at that path
-abbrev pub IsAsideOf : Path → Entry → Type 0
-IsAsideOf x e = IsIn x (changed_paths e) → ⊥
+abbrev pub LeavesAlone : Path → Entry → Type 0
+LeavesAlone x e = IsIn x (changed_paths e) → ⊥
 
 -- each path whose name the entry changes is the part file's, or stands right in one of these directories
-abbrev pub IsWithin : Path → List Path → Entry → Type 0
-IsWithin part dirs e = (x : Path) → IsIn x (renamed_paths e) → (x ≡ part) ⊎ IsIn (parent_of x) dirs
+abbrev pub IsWithinDirs : Path → List Path → Entry → Type 0
+IsWithinDirs part dirs e = (x : Path) → IsIn x (renamed_paths e) → (x ≡ part) ⊎ IsIn (parent_of x) dirs
 
 -- Behind changes in these directories alone, none of which is of the state, the part file was made, got the text in pieces, and was
 -- synced; each of the directories was synced; then the part file got the state's path, and behind that nothing was changed.
@@ -32,14 +32,14 @@ pub record Renews (state : Path) (dirs : List Path) (text : List ℕ) (ts : List
   pub ts_are : ts ≡ front ++ (Makes (state_part state) mode ∷
       (map (Appends (state_part state)) pieces ++ (SyncsFile (state_part state) ∷
       (map SyncsDir dirs ++ (Renames (state_part state) state ∷ after)))))
-  pub aside : Each (IsAsideOf state) front
-  pub within : Each (IsWithin (state_part state) dirs) front
+  pub aside : Each (LeavesAlone state) front
+  pub within : Each (IsWithinDirs (state_part state) dirs) front
   pub text_is : flat_map (λ piece. piece) pieces ≡ text
   pub nothing_more : Each (λ e. is_disk_change e ≡ false) after
 
 -- The state was left alone; or it was renewed so, with one of these texts.
 pub data MayRenew (state : Path) (IsText : List ℕ → Type 0) (ts : List Entry) : Type 0 where
-  left_alone : Each (IsAsideOf state) ts → MayRenew state IsText ts
+  left_alone : Each (LeavesAlone state) ts → MayRenew state IsText ts
   renewed : (dirs : List Path) (text : List ℕ) → IsText text → Renews state dirs text ts → MayRenew state IsText ts
 
 -- It was renewed so, and behind that the state's directory was synced.

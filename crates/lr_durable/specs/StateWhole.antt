@@ -25,7 +25,7 @@ pub record IsSettled (state : Path) (p : Past) : Type 0 where
 
 -- No writer holds the state's file as the call begins, and in the call none is attached to the state's path or to that of its part
 -- file.
-pub record WritersSpare (state : Path) (before after : Past) : Type 0 where
+pub record WritersSpareState (state : Path) (before after : Past) : Type 0 where
   pub held : (v g : ℕ) → (world before).holds v ≡ Some g → names (world before) state ≢ thing.File g
   pub attached : AttachedOnlySince (λ x. (x ≢ state) × (x ≢ state_part state)) before after
 
@@ -94,7 +94,8 @@ pub record StaysWhole (state : Path) (IsText : List Entry → List ℕ → Type 
 -- The promise over a call: where the journal is told, and the state is settled as the call begins, it stays whole, if writers spare
 -- it.
 abbrev pub KeepsWhole : Path → (List Entry → List ℕ → Type 0) → Option Journal → Option Journal → Type 0
-KeepsWhole state IsText (Some j) (Some k) = IsJournal (past j) → IsSettled state (past j) → WritersSpare state (past j) (past k)
+KeepsWhole state IsText (Some j) (Some k) = IsJournal (past j) → IsSettled state (past j)
+    → WritersSpareState state (past j) (past k)
     → StaysWhole state IsText (past j) (past k)
 KeepsWhole state IsText None None = Unit {0}
 KeepsWhole state IsText _ _ = ⊥

@@ -9,7 +9,7 @@ ghost use Rattle.lr_host.specs.Safe.{IsPrefix};
 ghost use Rattle.lr_host.specs.Told.{Made};
 ghost use Rattle.lr_host.specs.World.{Past, names};
 ghost use Rattle.lr_durable.specs.Renewing.{MayRenew, Renews, IsWritten, HasText};
-ghost use Rattle.lr_durable.specs.StateWhole.{IsSettled, WritersSpare, IsWholeAt};
+ghost use Rattle.lr_durable.specs.StateWhole.{IsSettled, WritersSpareState, IsWholeAt};
 
 /// Where a tool leaves its state alone, or writes it last, behind the syncs of its file and of all directories in which it
 /// changed a name, the state is the old one or the new one, whole, at each moment from the first to the last and after each
@@ -17,7 +17,7 @@ ghost use Rattle.lr_durable.specs.StateWhole.{IsSettled, WritersSpare, IsWholeAt
 /// tool made before are applied.
 pub fn state_stays_whole()
     ensures { (state : Path) (text : List ℕ) (p q : Past) (es : List Entry) → Made p es q → IsJournal p
-        → MayRenew state (λ bytes. bytes ≡ text) (reverse es) → IsSettled state p → WritersSpare state p q
+        → MayRenew state (λ bytes. bytes ≡ text) (reverse es) → IsSettled state p → WritersSpareState state p q
         → (u : Past) → IsPrefix p u → IsPrefix u q → IsWholeAt state (λ bytes. bytes ≡ text) p u }
 {}
 
@@ -25,7 +25,7 @@ pub fn state_stays_whole()
 /// of the next call too.
 pub fn written_state_is_settled()
     ensures { (state : Path) (dirs : List Path) (text : List ℕ) (p q : Past) (es : List Entry) → Made p es q → IsJournal p
-        → IsWritten state dirs text (reverse es) → WritersSpare state p q → IsSettled state q }
+        → IsWritten state dirs text (reverse es) → WritersSpareState state p q → IsSettled state q }
 {}
 
 /// Behind a renewing the state's path names a file with the whole text, whatever writers do that are attached neither to that

@@ -10,7 +10,7 @@ use Rattle.lr_laws.proofs.Example.{found_valid}
 use Rattle.lr_durable.proofs.Lists.{prefix_size}
 use Rattle.lr_copy.specs.declared.job.Job.{Job}
 use Rattle.lr_copy.specs.Fits.{ArePaths}
-use Rattle.lr_copied.specs.Whole.{IsWhole}
+use Rattle.lr_copied.specs.Whole.{IsCopyWhole}
 use Rattle.lr_copied.specs.Worked.{job}
 use Rattle.lr_copied.proofs.Examples.{start, entries, made, named, paths}
 use Rattle.lr_emptied.specs.Emptied.{IsJobIn, EmptiesCopied, EmptiesWhole}
@@ -34,5 +34,5 @@ once_journal = (found_valid, (0, refl))
 pub once_lost : (jobs : List Job) → EmptiesWhole (IsJobIn jobs) (Some (behind [])) (Some (behind at_once)) → ⊥
 once_lost jobs h = let c = h found_valid start log all_of all_of in never c.job (c.whole from_here)
   where
-    never : (j : Job) → IsWhole log j.to start start → ⊥
+    never : (j : Job) → IsCopyWhole log j.to start start → ⊥
     never j w = let a = prefix_size start w.last w.since in let b = prefix_size _ start w.read in omega (arith, a, b)

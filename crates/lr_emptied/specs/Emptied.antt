@@ -9,7 +9,7 @@ use Rattle.lr_host.specs.Opening.{IsJournal}
 use Rattle.lr_host.specs.Safe.{IsPrefix}
 use Rattle.lr_host.specs.World.{Past, ◌▸◌, past}
 use Rattle.lr_copy.specs.declared.job.Job.{Job}
-use Rattle.lr_copied.specs.Whole.{Named, WritersSpare, IsWhole}
+use Rattle.lr_copied.specs.Whole.{Named, WritersSpareCopy, IsCopyWhole}
 
 -- the job is one of these
 abbrev pub IsJobIn : List Job → Job → Type 0
@@ -39,17 +39,17 @@ EmptiesCopied P ts = (before : List Entry) (log : Path) (after : List Entry) →
 
 -- Such a job copied the log between the two pasts; and where no writer was attached to its part file or its final path meanwhile,
 -- the copy is whole now.
-pub record IsCopied (P : Job → Type 0) (log : Path) (before now : Past) : Type 0 where
+pub record IsCopiedWhole (P : Job → Type 0) (log : Path) (before now : Past) : Type 0 where
   pub job : Job
   pub is : P job
   pub from_is : job.from ≡ log
   pub cut : job.cut ≡ true
-  pub whole : WritersSpare job before now → IsWhole log job.to before now
+  pub whole : WritersSpareCopy job before now → IsCopyWhole log job.to before now
 
 -- The promise over a call: where the journal is told, and was one of a disk, each log that the call emptied was copied so by then,
 -- since the call began.
 abbrev pub EmptiesWhole : (Job → Type 0) → Option Journal → Option Journal → Type 0
 EmptiesWhole P (Some j) (Some k) = IsJournal (past j) → (u : Past) (log : Path) → IsPrefix (past j) u
-    → IsPrefix (u ▸ Truncates log) (past k) → IsCopied P log (past j) u
+    → IsPrefix (u ▸ Truncates log) (past k) → IsCopiedWhole P log (past j) u
 EmptiesWhole P None None = Unit {0}
 EmptiesWhole P _ _ = ⊥

@@ -13,7 +13,7 @@ use Rattle.lr_host.specs.Steps.{is_change}
 use Rattle.lr_host.specs.Told.{Each}
 use Rattle.lr_host.proofs.Each.{each_append, each_first, each_as, all_pass}
 use Rattle.lr_laws_targets.specs.AllTurns.{IsOfState, IsOfSome, StandsBetween}
-use Rattle.lr_laws_targets.specs.Target.{Target, rotation_of}
+use Rattle.lr_laws_targets.specs.Target.{Target, target_entries}
 use Rattle.lr_laws_family.specs.Weave.{Weave, IsFirstOf, FirstWoven}
 use Rattle.lr_laws_targets.proofs.Rotating.{each_turn}
 use Rattle.lr_laws_family.proofs.Weaving.{weave_on, weave_own, weave_others}
@@ -56,7 +56,7 @@ each_in_steps : (xs us : List Entry) → IsFirstOf xs us → Each (λ e. IsIn e 
 each_in_steps xs us f = each_first (λ e. IsIn e xs) us f.0 (subst (Each (λ e. IsIn e xs)) f.1 (each_of_itself xs))
 
 -- the steps of a rotation are changes
-first_changes : (t : Target) (us : List Entry) → IsFirstOf (rotation_of t) us → filter is_change us ≡ us
+first_changes : (t : Target) (us : List Entry) → IsFirstOf (target_entries t) us → filter is_change us ≡ us
 first_changes t us f =
     all_pass is_change us (each_first (λ e. is_change e ≡ true) us f.0 (subst (Each (λ e. is_change e ≡ true)) f.1 (each_turn (λ e. is_change e ≡ true) (λ x. refl) (λ x y. refl) t)))
 
@@ -71,7 +71,7 @@ module _ (state : Path) (clock : Clock) (rules : Rules) (looks : List Entry) (x 
   targets = x ∷ y ∷ []
 
   -- behind the steps stand the state's entries, and such as change nothing
-  module _ (us vs behind : List Entry) (first : IsFirstOf (rotation_of x) us) (second : IsFirstOf (rotation_of y) vs) (of_state : Each (IsOfState state) (filter is_change behind)) where
+  module _ (us vs behind : List Entry) (first : IsFirstOf (target_entries x) us) (second : IsFirstOf (target_entries y) vs) (of_state : Each (IsOfState state) (filter is_change behind)) where
     abbrev acts : List Entry
     acts = us ++ (vs ++ behind)
 
@@ -88,8 +88,8 @@ module _ (state : Path) (clock : Clock) (rules : Rules) (looks : List Entry) (x 
 
     all : Each IsOne (filter is_change acts)
     all = subst (Each IsOne) (sym changes)
-        (each_append IsOne us (vs ++ saved) (each_as (λ e. IsIn e (rotation_of x)) IsOne us (λ e h. inl (inl (inl h))) (each_in_steps (rotation_of x) us first))
-        (each_append IsOne vs saved (each_as (λ e. IsIn e (rotation_of y)) IsOne vs (λ e h. inl (inr (inl (inl h)))) (each_in_steps (rotation_of y) vs second)) (each_as (IsOfState state) IsOne saved (λ e h. inr h) of_state)))
+        (each_append IsOne us (vs ++ saved) (each_as (λ e. IsIn e (target_entries x)) IsOne us (λ e h. inl (inl (inl h))) (each_in_steps (target_entries x) us first))
+        (each_append IsOne vs saved (each_as (λ e. IsIn e (target_entries y)) IsOne vs (λ e h. inl (inr (inl (inl h)))) (each_in_steps (target_entries y) vs second)) (each_as (IsOfState state) IsOne saved (λ e h. inr h) of_state)))
 
     -- seen from the first log, the second's steps and the state's entries stand between
     abbrev ByFirst : Entry → Type 0
@@ -97,7 +97,7 @@ module _ (state : Path) (clock : Clock) (rules : Rules) (looks : List Entry) (x 
 
     by_first : Weave ByFirst us (filter is_change acts)
     by_first = subst (Weave ByFirst us) (sym changes) (own_first ByFirst us (vs ++ saved)
-        (each_append ByFirst vs saved (each_as (λ e. IsIn e (rotation_of y)) ByFirst vs (λ e h. inl (inr (inl ((λ same. apart (sym same)), inl h)))) (each_in_steps (rotation_of y) vs second))
+        (each_append ByFirst vs saved (each_as (λ e. IsIn e (target_entries y)) ByFirst vs (λ e h. inl (inr (inl ((λ same. apart (sym same)), inl h)))) (each_in_steps (target_entries y) vs second))
         (each_as (IsOfState state) ByFirst saved (λ e h. inr (inl h)) of_state)))
 
     -- and from the second, the first's
@@ -106,11 +106,11 @@ module _ (state : Path) (clock : Clock) (rules : Rules) (looks : List Entry) (x 
 
     by_second : Weave BySecond vs (filter is_change acts)
     by_second = subst (Weave BySecond vs) (sym changes) (weave_on BySecond [] us vs (vs ++ saved)
-        (weave_others BySecond us (each_as (λ e. IsIn e (rotation_of x)) BySecond us (λ e h. inl (inl (apart, inl h))) (each_in_steps (rotation_of x) us first)))
+        (weave_others BySecond us (each_as (λ e. IsIn e (target_entries x)) BySecond us (λ e h. inl (inl (apart, inl h))) (each_in_steps (target_entries x) us first)))
         (own_first BySecond vs saved (each_as (IsOfState state) BySecond saved (λ e h. inr (inl h)) of_state)))
 
     abbrev SeenFrom : Target → Type 0
-    SeenFrom t = FirstWoven (StandsBetween state t targets) (rotation_of t) (filter is_change acts)
+    SeenFrom t = FirstWoven (StandsBetween state t targets) (target_entries t) (filter is_change acts)
 
     each : (t : Target) → IsIn t targets → SeenFrom t
     each t (inl is) = subst SeenFrom is (record { made = us; first = first; woven = by_first })
@@ -121,15 +121,15 @@ module _ (state : Path) (clock : Clock) (rules : Rules) (looks : List Entry) (x 
     both_turn = record { looks = looks; acts = acts; joined = refl; quiet = quiet; targets = targets; seen = seen; all = all; each = each }
 
   -- where all steps were made
-  module _ (us vs behind : List Entry) (first : rotation_of x ≡ us) (second : rotation_of y ≡ vs) (of_state : Each (IsOfState state) (filter is_change behind)) where
-    first_whole : IsFirstOf (rotation_of x) us
+  module _ (us vs behind : List Entry) (first : target_entries x ≡ us) (second : target_entries y ≡ vs) (of_state : Each (IsOfState state) (filter is_change behind)) where
+    first_whole : IsFirstOf (target_entries x) us
     first_whole = ([], first ∙ sym (append-nil us))
 
-    second_whole : IsFirstOf (rotation_of y) vs
+    second_whole : IsFirstOf (target_entries y) vs
     second_whole = ([], second ∙ sym (append-nil vs))
 
     abbrev IsWhole : Target → Type 0
-    IsWhole t = Weave (StandsBetween state t targets) (rotation_of t) (filter is_change (us ++ (vs ++ behind)))
+    IsWhole t = Weave (StandsBetween state t targets) (target_entries t) (filter is_change (us ++ (vs ++ behind)))
 
     whole : (t : Target) → IsIn t targets → IsWhole t
     whole t (inl is) = subst IsWhole is (subst (λ steps. Weave (StandsBetween state x targets) steps (filter is_change (us ++ (vs ++ behind)))) (sym first) (by_first us vs behind first_whole second_whole of_state))

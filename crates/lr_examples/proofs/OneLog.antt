@@ -14,7 +14,7 @@ use Rattle.lr_host.specs.declared.journal.OpenFile.{OpenFile}
 use Rattle.lr_host.specs.Lists.{IsNotIn, AreDistinct, IsIn}
 use Rattle.lr_host.specs.World.{◌▸◌, world, names}
 use Rattle.lr_host.specs.Fits.{IsPart, AreNamesIn}
-use Rattle.lr_host.specs.Opening.{IsValid, paths_of}
+use Rattle.lr_host.specs.Opening.{IsValid, opening_paths}
 use Rattle.lr_host.specs.Told.{Made, at_first, by_writer, by_tool}
 use Rattle.lr_host.specs.Quiet.{is_disk_change, from_here, further}
 use Rattle.lr_host.proofs.Lists.{in_from, in_to}
@@ -22,11 +22,11 @@ use Rattle.lr_family.proofs.Unique.{joined_same}
 use Rattle.lr_chain.specs.Rotation.{places_of}
 use Rattle.lr_chain.specs.Standing.{AreGoing}
 use Rattle.lr_chain.proofs.Going.{going_are}
-use Rattle.lr_laws_family.specs.Made.{NoneAttached, AreOutside, RotatesAmong}
+use Rattle.lr_laws_family.specs.Made.{AttachedFarOnly, AreOutside, RotatesAmong}
 use Rattle.lr_laws_family.specs.Members.{IsNoMember, IsFamily, AreThere}
-use Rattle.lr_laws_family.specs.Numbered.{HaveNext}
+use Rattle.lr_laws_family.specs.Numbered.{HaveNextNames}
 use Rattle.lr_laws_family.specs.Rotation.{Rename}
-use Rattle.lr_laws_family.specs.Turned.{IsRotation, IsTurned}
+use Rattle.lr_laws_family.specs.Turned.{IsFamilyRotation, IsTurned}
 use Rattle.lr_laws_family.proofs.Numbers.{numbered_is_one, steps_are}
 use Rattle.lr_laws_family.proofs.Whole.{turned as family_turned}
 use Rattle.lr_laws_family.proofs.Woven.{among}
@@ -153,22 +153,22 @@ made now =
 
 -- ---- what is asked of the rotation
 
-pub next : HaveNext a_naming a_count (places_of a_stand.members)
+pub next : HaveNextNames a_naming a_count (places_of a_stand.members)
 next = omega arith
 
 pub family : IsFamily a_log a_naming
 family = family_of a_log a_naming a_family
 
-pub unattached : (now : Moment) → NoneAttached a_naming turn begun (over now)
+pub unattached : (now : Moment) → AttachedFarOnly a_naming turn begun (over now)
 unattached now = further (further (further (further (further (further attached tt) tt) tt) tt) tt) tt
   where
-    seen : NoneAttached a_naming turn begun (looked now)
+    seen : AttachedFarOnly a_naming turn begun (looked now)
     seen = further (further (further (further (further (further (further (further (further (further from_here tt) tt) tt) tt) tt) tt) tt) tt) tt) tt
 
-    turned : NoneAttached a_naming turn begun (renamed now)
+    turned : AttachedFarOnly a_naming turn begun (renamed now)
     turned = further (further (further (further (further (further (further seen tt) tt) tt) tt) tt) tt) tt
 
-    attached : NoneAttached a_naming turn begun (renamed now ▸ entry.Attach 8 a_log (pos 3))
+    attached : AttachedFarOnly a_naming turn begun (renamed now ▸ entry.Attach 8 a_log (pos 3))
     attached = further turned (family.apart, λ never. never)
 
 abbrev IsApart : Path → Type 0
@@ -210,7 +210,7 @@ woven = own _ (other _ (inl (inr (inl refl))) (own _ (other _ (inl (inr (inr (in
 a_going : AreGoing a_count (places_of a_stand.members) a_from
 a_going = going_are a_count None (pos 0) a_stand.members a_falling
 
-pub is_one : IsRotation a_naming turn
+pub is_one : IsFamilyRotation a_naming turn
 is_one = numbered_is_one a_naming a_count a_from a_stand.members a_log a_log Rename family refl family.apart a_members.named next a_going
 
 abbrev front : Moment → List Entry
@@ -244,9 +244,9 @@ distinct (y ∷ ys) h = let s = both (is_new y ys) (are_new ys) h in (not_in y y
 -- it is a disk
 pub valid : IsValid stood
 valid = record {
-  once = distinct (paths_of stood) refl;
+  once = distinct (opening_paths stood) refl;
   root = (0, omega arith, refl);
-  inside = each InDirs (paths_of stood) (in_dir_v, (in_dir_v, (in_dir_v, (in_dir_w, (in_root, (in_root, (in_root, (in_root, tt))))))));
+  inside = each InDirs (opening_paths stood) (in_dir_v, (in_dir_v, (in_dir_v, (in_dir_w, (in_root, (in_root, (in_root, (in_root, tt))))))));
   named = one;
   known = each Known stood.names (omega arith, (omega arith, (omega arith, (omega arith, tt))));
   held = each (λ (h : ℕ × ℕ). h.1 < 4) stood.holds (omega arith, tt);

@@ -19,7 +19,7 @@ use Rattle.lr_family.specs.declared.stand.StandStop.{StandStop}
 use Rattle.lr_family.specs.declared.stand.StandStop.TheVariants as stop
 use Rattle.lr_family.specs.Among.{StandsAmong, StopsAmong, ShowsIn, ShowsNoneIn, IsExactlyAmong}
 use Rattle.lr_family.specs.Listed.{ShowsListing, ShowsNoDir, NotListedAt, NotListed, IsExactlyNoDir}
-use Rattle.lr_family.specs.Looks.{Sight, look_of, AreFilesOrGone, ShowsTo}
+use Rattle.lr_family.specs.Looks.{MemberSight, spot_look, AreFilesOrGone, ShowsTo}
 use Rattle.lr_family.specs.Parts.{ShowsNoParts}
 use Rattle.lr_family.specs.Stops.{SomeStopped}
 use Rattle.lr_family.proofs.Few.{all_shown, some_stopped}
@@ -29,8 +29,8 @@ use Rattle.lr_family.proofs.Wrong.{by_look, wrong, past_list, wrong_member, no_d
 
 -- ---- what the looks show
 
-all_passed : (sights : List Sight) (ts : List Entry) → AreFilesOrGone sights → ts ≡ map look_of sights → wrong_member ts ≡ None
-all_passed sights ts h e = ap wrong_member (e ∙ sym (append-nil (map look_of sights))) ∙ sights_passed sights [] h
+all_passed : (sights : List MemberSight) (ts : List Entry) → AreFilesOrGone sights → ts ≡ map spot_look sights → wrong_member ts ≡ None
+all_passed sights ts h e = ap wrong_member (e ∙ sym (append-nil (map spot_look sights))) ∙ sights_passed sights [] h
 
 saw_nothing : (x : Path) (ts us : List Entry) → Sees x IsNothing ts → wrong (ts ++ us) ≡ None
 saw_nothing x ts us s = ap (λ vs. wrong (vs ++ us)) s.look ∙ ap (λ g. by_look x g us) s.is

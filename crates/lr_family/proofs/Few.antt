@@ -23,7 +23,7 @@ use Rattle.lr_family.specs.declared.stand.StandStop.{StandStop}
 use Rattle.lr_family.specs.declared.stand.StandStop.TheVariants as stop
 use Rattle.lr_family.specs.Among.{StandsAmong, ShowsIn, ShowsNoneIn, AreFewAmong, names_told, AreFew}
 use Rattle.lr_family.specs.Listed.{ShowsListing, NotListedAt, NotListed, AreAtMost}
-use Rattle.lr_family.specs.Looks.{Sight, look_of, Shows, ShowsTo, ShowsSome}
+use Rattle.lr_family.specs.Looks.{MemberSight, spot_look, ShowsSpots, ShowsTo, ShowsSome}
 use Rattle.lr_family.specs.Parts.{IsPartAmong, SomeParts, by_bytes}
 use Rattle.lr_family.specs.Spots.{IsListed, AreSpots}
 use Rattle.lr_family.specs.Stops.{SomeStopped}
@@ -95,26 +95,26 @@ few_both n names ts us f g = record {
 few_alone : (n : Naming) (names : List (List ℕ)) (ts : List Entry) → FewMembers n names ts → AreFewAmong n names ts
 few_alone n names ts f = subst (AreFewAmong n names) (append-nil ts) (few_both n names ts [] f (none_of_them n names, (let le : 0 ≤ 0 = omega arith in le)))
 
-sights_many : (sights : List Sight) → length (map look_of sights) ≡ length (map (λ (g : Sight). g.spot) sights)
-sights_many sights = length-map sights look_of ∙ sym (length-map sights (λ (g : Sight). g.spot))
+sights_many : (sights : List MemberSight) → length (map spot_look sights) ≡ length (map (λ (g : MemberSight). g.spot) sights)
+sights_many sights = length-map sights spot_look ∙ sym (length-map sights (λ (g : MemberSight). g.spot))
 
-pub all_shown : (spots : List Spot) (members : List Member) (ts : List Entry) → Shows spots members ts → length ts ≡ length spots
-all_shown spots members ts s = let are : length ts ≡ length (map look_of s.sights) = ap length s.looks in let many = sights_many s.sights in let each : length (map (λ (g : Sight). g.spot) s.sights) ≡ length spots = ap length s.each in omega arith
+pub all_shown : (spots : List Spot) (members : List Member) (ts : List Entry) → ShowsSpots spots members ts → length ts ≡ length spots
+all_shown spots members ts s = let are : length ts ≡ length (map spot_look s.sights) = ap length s.looks in let many = sights_many s.sights in let each : length (map (λ (g : MemberSight). g.spot) s.sights) ≡ length spots = ap length s.each in omega arith
 
 some_few : (spots : List Spot) (ts : List Entry) → ShowsSome spots ts → length ts ≤ length spots
 some_few spots ts s =
-    let are : length ts ≡ length (map look_of s.sights) = ap length s.looks in let many = sights_many s.sights in
-    let each : length spots ≡ length (map (λ (g : Sight). g.spot) s.sights) + length s.after = ap length s.each ∙ length-append (map (λ (g : Sight). g.spot) s.sights) s.after in omega arith
+    let are : length ts ≡ length (map spot_look s.sights) = ap length s.looks in let many = sights_many s.sights in
+    let each : length spots ≡ length (map (λ (g : MemberSight). g.spot) s.sights) + length s.after = ap length s.each ∙ length-append (map (λ (g : MemberSight). g.spot) s.sights) s.after in omega arith
 
 to_few : (spots : List Spot) (path : Path) {P : List Entry → Type 0} (ts : List Entry) → ((us : List Entry) → P us → length us ≤ 1) → ShowsTo spots path P ts → length ts ≤ length spots
 to_few spots path ts f s =
     let all = both ts s.looks in
-    let front : length s.looks.front ≡ length (map look_of s.before) = ap length s.looks.first in
+    let front : length s.looks.front ≡ length (map spot_look s.before) = ap length s.looks.first in
     let many = sights_many s.before in
     let back = f s.looks.back s.looks.second in
     let rest : List Spot = s.spot ∷ s.after in
     let more : length rest ≡ length s.after + 1 = omega arith in
-    let each : length spots ≡ length (map (λ (g : Sight). g.spot) s.before) + length rest = ap length s.each ∙ length-append (map (λ (g : Sight). g.spot) s.before) rest in omega arith
+    let each : length spots ≡ length (map (λ (g : MemberSight). g.spot) s.before) + length rest = ap length s.each ∙ length-append (map (λ (g : MemberSight). g.spot) s.before) rest in omega arith
 
 pub some_stopped : (spots : List Spot) (s : StandStop) (ts : List Entry) → SomeStopped spots s ts → length ts ≤ length spots
 some_stopped spots (stop.NotFile path) ts t = to_few spots path ts (λ us s. let is = one path _ us s in omega arith) t

@@ -23,11 +23,11 @@ use Rattle.lr_family.specs.declared.place.Place.{Place}
 use Rattle.lr_family.specs.declared.place.Place.TheVariants as at
 use Rattle.lr_family.specs.declared.spot.Spot.{Spot}
 use Rattle.lr_family.specs.declared.stand.Member.{Member}
-use Rattle.lr_family.specs.Looks.{Sight, seen_at, member_of, AreSeen}
+use Rattle.lr_family.specs.Looks.{MemberSight, seen_member, member_of, AreSeen}
 use Rattle.lr_family.specs.Named.{member_name}
 use Rattle.lr_family.specs.Places.{IsPlaceOf, AreNamed}
 use Rattle.lr_family.specs.Spots.{HasPath, by_path, AreSpots}
-use Rattle.lr_family.specs.Stands.{number_in, key_in, by_newness, AreApart, AreNewestFirst}
+use Rattle.lr_family.specs.Stands.{number_in, key_in, by_newness, HaveOwnPlaces, AreNewestFirst}
 use Rattle.lr_family.proofs.Names.{no_format}
 use Rattle.lr_family.proofs.Rising.{same_as}
 
@@ -51,7 +51,7 @@ module _ {X : Type 0} {R : X → X → Ordering} (total : IsTotalOrder R) where
 pub by_newness_total : IsTotalOrder by_newness
 by_newness_total = back_total (on_total (λ (m : Member). key_in m.place) int_cmp_total)
 
-pub newest : (old sorted : List Member) → AreApart old → IsPermutation old sorted → IsSorted by_newness sorted → AreNewestFirst sorted
+pub newest : (old sorted : List Member) → HaveOwnPlaces old → IsPermutation old sorted → IsSorted by_newness sorted → AreNewestFirst sorted
 newest old sorted d p up = strictly by_newness_total sorted up (IsDistinct-IsPermutation (eq_by_cmp by_newness) (λ x y. (eq_by_cmp_equiv by_newness_total).symm x y) old sorted p d)
 
 -- ---- different paths, different keys
@@ -96,31 +96,31 @@ apart n a b good ha hb differ = go (int_cmp (key_in b.place) (key_in a.place)) (
 
 -- ---- of the members that were seen
 
-abbrev spots_of : List Sight → List Spot
-spots_of gs = map (λ (g : Sight). g.spot) gs
+abbrev spots_of : List MemberSight → List Spot
+spots_of gs = map (λ (g : MemberSight). g.spot) gs
 
 abbrev IsApartFrom : Spot → Seen → List Member → Type 0
 IsApartFrom a s ms = AllByRecursion (λ (m : Member). eq_by_cmp by_newness (record { path = a.path; place = a.place; seen = s }) m ≡ false) ms
 
-one_apart : (n : Naming) (a : Spot) (s : Seen) (spot : Spot) (seen : Option Seen) (ms : List Member) → or_none is_format n.dated ≡ true → HasPath n a → HasPath n spot → eq_by_cmp by_path a spot ≡ false → IsApartFrom a s ms → IsApartFrom a s (seen_at spot seen ++ ms)
+one_apart : (n : Naming) (a : Spot) (s : Seen) (spot : Spot) (seen : Option Seen) (ms : List Member) → or_none is_format n.dated ≡ true → HasPath n a → HasPath n spot → eq_by_cmp by_path a spot ≡ false → IsApartFrom a s ms → IsApartFrom a s (seen_member spot seen ++ ms)
 one_apart n a s spot None ms good ha hd differ rest = rest
 one_apart n a s spot (Some seen) ms good ha hd differ rest = (apart n a spot good ha hd differ, rest)
 
-all_apart : (n : Naming) (a : Spot) (s : Seen) (gs : List Sight) → or_none is_format n.dated ≡ true → HasPath n a → All (HasPath n) (spots_of gs) → AllByRecursion (λ (d : Spot). eq_by_cmp by_path a d ≡ false) (spots_of gs) → IsApartFrom a s (flat_map member_of gs)
+all_apart : (n : Naming) (a : Spot) (s : Seen) (gs : List MemberSight) → or_none is_format n.dated ≡ true → HasPath n a → All (HasPath n) (spots_of gs) → AllByRecursion (λ (d : Spot). eq_by_cmp by_path a d ≡ false) (spots_of gs) → IsApartFrom a s (flat_map member_of gs)
 all_apart n a s [] good ha h d = tt
 all_apart n a s (g ∷ gs) good ha h d = one_apart n a s g.spot g.seen (flat_map member_of gs) good ha (All-head (HasPath n) g.spot (spots_of gs) h) d.0 (all_apart n a s gs good ha (All-tail (HasPath n) g.spot (spots_of gs) h) d.1)
 
-one_more : (n : Naming) (spot : Spot) (seen : Option Seen) (gs : List Sight) → or_none is_format n.dated ≡ true → HasPath n spot → All (HasPath n) (spots_of gs) → AllByRecursion (λ (d : Spot). eq_by_cmp by_path spot d ≡ false) (spots_of gs) → IsDistinct (eq_by_cmp by_newness) (flat_map member_of gs) → IsDistinct (eq_by_cmp by_newness) (seen_at spot seen ++ flat_map member_of gs)
+one_more : (n : Naming) (spot : Spot) (seen : Option Seen) (gs : List MemberSight) → or_none is_format n.dated ≡ true → HasPath n spot → All (HasPath n) (spots_of gs) → AllByRecursion (λ (d : Spot). eq_by_cmp by_path spot d ≡ false) (spots_of gs) → IsDistinct (eq_by_cmp by_newness) (flat_map member_of gs) → IsDistinct (eq_by_cmp by_newness) (seen_member spot seen ++ flat_map member_of gs)
 unfolding IsDistinct
 one_more n spot None gs good ha h d rest = rest
 one_more n spot (Some seen) gs good ha h d rest = (all_apart n spot seen gs good ha h d, rest)
 
-seen_apart : (n : Naming) (gs : List Sight) → or_none is_format n.dated ≡ true → All (HasPath n) (spots_of gs) → IsDistinct (eq_by_cmp by_path) (spots_of gs) → IsDistinct (eq_by_cmp by_newness) (flat_map member_of gs)
+seen_apart : (n : Naming) (gs : List MemberSight) → or_none is_format n.dated ≡ true → All (HasPath n) (spots_of gs) → IsDistinct (eq_by_cmp by_path) (spots_of gs) → IsDistinct (eq_by_cmp by_newness) (flat_map member_of gs)
 unfolding IsDistinct
 seen_apart n [] good h d = tt
 seen_apart n (g ∷ gs) good h d = one_more n g.spot g.seen gs good (All-head (HasPath n) g.spot (spots_of gs) h) (All-tail (HasPath n) g.spot (spots_of gs) h) d.0 (seen_apart n gs good (All-tail (HasPath n) g.spot (spots_of gs) h) d.1)
 
-pub members_apart : (n : Naming) (names : List (List ℕ)) (spots : List Spot) (members : List Member) → or_none is_format n.dated ≡ true → AreSpots n names spots → AreSeen spots members → AreApart members
+pub members_apart : (n : Naming) (names : List (List ℕ)) (spots : List Spot) (members : List Member) → or_none is_format n.dated ≡ true → AreSpots n names spots → AreSeen spots members → HaveOwnPlaces members
 members_apart n names spots members good are s = subst (IsDistinct (eq_by_cmp by_newness)) (sym s.members_are)
     (seen_apart n s.sights good (subst (All (HasPath n)) (sym s.each) are.has.places) (subst (IsDistinct (eq_by_cmp by_path)) (sym s.each) (IsDistinct-from_sorted by_path spots are.rising)))
 

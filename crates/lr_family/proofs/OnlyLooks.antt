@@ -10,7 +10,7 @@ use Rattle.lr_host.specs.Quiet.{IsQuiet, AreQuiet}
 use Rattle.lr_host.specs.Told.{Each, Then}
 use Rattle.lr_host.proofs.Each.{each_append, each_as}
 use Rattle.lr_family.specs.declared.stand.StandStop.{StandStop}
-use Rattle.lr_family.specs.Looks.{Sight, look_of}
+use Rattle.lr_family.specs.Looks.{MemberSight, spot_look}
 use Rattle.lr_family.specs.Parts.{PartSight, part_look, ShowsParts, ShowsNoParts}
 
 -- a look or a listing
@@ -31,7 +31,7 @@ looking_none ts e = subst AreLooking (sym e) tt
 pub looking_sees : (x : Path) (P : Option Seen → Type 0) (ts : List Entry) → Sees x P ts → AreLooking ts
 looking_sees x P ts s = subst AreLooking (sym s.look) (tt, tt)
 
-pub looking_sights : (gs : List Sight) → AreLooking (map look_of gs)
+pub looking_sights : (gs : List MemberSight) → AreLooking (map spot_look gs)
 looking_sights [] = tt
 looking_sights (g ∷ gs) = (tt, looking_sights gs)
 

@@ -20,7 +20,7 @@ use Rattle.lr_rules.specs.declared.rule.Naming.{Naming}
 use Rattle.lr_rules.specs.Match.{part_end}
 use Rattle.lr_rules.specs.Path.{joined}
 use Rattle.lr_family.specs.InternalParts.{AddsPart, HasParts}
-use Rattle.lr_family.specs.Listed.{AreRising}
+use Rattle.lr_family.specs.Listed.{NamesRise}
 use Rattle.lr_family.specs.Parts.{part_of, IsMember, IsMembersPart, IsPartAmong, AreParts, by_bytes}
 use Rattle.lr_family.proofs.Names.{member_begins}
 use Rattle.lr_family.proofs.Prefixes.{same_number}
@@ -69,7 +69,7 @@ among_more : (n : Naming) (names : List (List ℕ)) (name : List ℕ) (x : Path)
 among_more n names name x p = record { part = p.part; name = p.name; listed = Contains-append_left names (name ∷ []) p.name p.listed; named = p.named }
 
 -- a name of the first comes before the next
-is_before : (names : List (List ℕ)) (i : ℕ) (name other : List ℕ) → AreRising names → name ≡ get_or names i name → i < length names → Contains (take i names) other → is_lt (slice_cmp nat_cmp name other) ≡ false
+is_before : (names : List (List ℕ)) (i : ℕ) (name other : List ℕ) → NamesRise names → name ≡ get_or names i name → i < length names → Contains (take i names) other → is_lt (slice_cmp nat_cmp name other) ≡ false
 is_before names i name other up is lt c = go (cases_lt c.0 i)
   where
     go : (c.0 < i) ⊎ (i ≤ c.0) → is_lt (slice_cmp nat_cmp name other) ≡ false
@@ -85,7 +85,7 @@ is_before names i name other up is lt c = go (cases_lt c.0 i)
         omega arith
         )
 
-pub has_more : (n : Naming) (names : List (List ℕ)) (i : ℕ) (name : List ℕ) (old new : List Path) → AreRising names → name ≡ get_or names i name → i < length names → HasParts n (take i names) old → AddsPart n name old new → HasParts n (take (i + 1) names) new
+pub has_more : (n : Naming) (names : List (List ℕ)) (i : ℕ) (name : List ℕ) (old new : List Path) → NamesRise names → name ≡ get_or names i name → i < length names → HasParts n (take i names) old → AddsPart n name old new → HasParts n (take (i + 1) names) new
 has_more n names i name old new up is lt so_far adds = subst (λ (ns : List (List ℕ)). HasParts n ns new) (sym grown) (by adds)
   where
     grown : take (i + 1) names ≡ take i names ++ name ∷ []

@@ -5,7 +5,7 @@ use Rattle.std.specs.List.{list_any}
 use Rattle.std.proofs.lemmas.Bool.{or_parts, or_from}
 use Rattle.lr_rules.specs.declared.path.Path.{Path}
 use Rattle.lr_rules.specs.declared.rule.Naming.{Naming}
-use Rattle.lr_rules.specs.Path.{path_fault, parent_of, is_slash, is_bad, is_empty}
+use Rattle.lr_rules.specs.Path.{path_fault, parent_of, is_slash, is_bad_byte, is_empty}
 use Rattle.lr_rules.proofs.PathLemmas.{parent_joined, plain_both}
 use Rattle.lr_rules.proofs.Digits.{decimal_plain}
 use Rattle.lr_family.specs.Kin.{IsKin, is_barred}
@@ -22,7 +22,7 @@ log_apart log n p kin numbered i e = kin.apart numbered p (record { bound = i; n
 
 unbarred : (xs : List ℕ) → list_any is_barred xs ≡ false → list_any is_slash xs ≡ false
 unbarred [] h = refl
-unbarred (x ∷ xs) h = let t = or_parts (is_barred x) (list_any is_barred xs) h in or_from (is_slash x) (list_any is_slash xs) (or_parts (is_slash x) (is_bad x) t.0).0 (unbarred xs t.1)
+unbarred (x ∷ xs) h = let t = or_parts (is_barred x) (list_any is_barred xs) h in or_from (is_slash x) (list_any is_slash xs) (or_parts (is_slash x) (is_bad_byte x) t.0).0 (unbarred xs t.1)
 
 -- a member's name has no slash
 name_plain : (log : Path) (n : Naming) (number : ℕ) → IsKin log n → number ≤ 4294967295 → list_any is_slash (member_name n number) ≡ false

@@ -16,7 +16,7 @@ use Rattle.lr_family.specs.declared.place.Place.{Place}
 use Rattle.lr_family.specs.declared.place.Place.TheVariants as at
 use Rattle.lr_family.specs.declared.spot.Spot.{Spot}
 use Rattle.lr_family.specs.declared.stand.Member.{Member}
-use Rattle.lr_family.specs.Looks.{Sight, seen_at, member_of, AreSeen}
+use Rattle.lr_family.specs.Looks.{MemberSight, seen_member, member_of, AreSeen}
 use Rattle.lr_family.specs.Parts.{IsDated}
 use Rattle.lr_family.specs.Places.{IsPlaceOf, AreNamed}
 use Rattle.lr_family.specs.Spots.{HasPath}
@@ -24,14 +24,14 @@ use Rattle.lr_family.specs.Stands.{number_in}
 use Rattle.lr_family.proofs.Names.{no_format}
 use Rattle.lr_family.proofs.Unique.{place_same}
 
-one_named : (n : Naming) (spot : Spot) (seen : Option Seen) → HasPath n spot → AreNamed n (seen_at spot seen)
+one_named : (n : Naming) (spot : Spot) (seen : Option Seen) → HasPath n spot → AreNamed n (seen_member spot seen)
 one_named n spot None is = All-nil (λ (m : Member). IsPlaceOf n m.place m.path)
 one_named n spot (Some seen) is = All-cons (λ (m : Member). IsPlaceOf n m.place m.path) _ [] is (All-nil (λ (m : Member). IsPlaceOf n m.place m.path))
 
-pub sights_named : (n : Naming) (gs : List Sight) → All (HasPath n) (map (λ (g : Sight). g.spot) gs) → AreNamed n (flat_map member_of gs)
+pub sights_named : (n : Naming) (gs : List MemberSight) → All (HasPath n) (map (λ (g : MemberSight). g.spot) gs) → AreNamed n (flat_map member_of gs)
 sights_named n [] h = All-nil (λ (m : Member). IsPlaceOf n m.place m.path)
-sights_named n (g ∷ gs) h = All-append (λ (m : Member). IsPlaceOf n m.place m.path) (seen_at g.spot g.seen) (flat_map member_of gs)
-    (one_named n g.spot g.seen (All-head (HasPath n) g.spot (map (λ (g : Sight). g.spot) gs) h)) (sights_named n gs (All-tail (HasPath n) g.spot (map (λ (g : Sight). g.spot) gs) h))
+sights_named n (g ∷ gs) h = All-append (λ (m : Member). IsPlaceOf n m.place m.path) (seen_member g.spot g.seen) (flat_map member_of gs)
+    (one_named n g.spot g.seen (All-head (HasPath n) g.spot (map (λ (g : MemberSight). g.spot) gs) h)) (sights_named n gs (All-tail (HasPath n) g.spot (map (λ (g : MemberSight). g.spot) gs) h))
 
 pub seen_named : (n : Naming) (spots : List Spot) (members : List Member) → All (HasPath n) spots → AreSeen spots members → AreNamed n members
 seen_named n spots members h s = subst (AreNamed n) (sym s.members_are) (sights_named n s.sights (subst (All (HasPath n)) (sym s.each) h))

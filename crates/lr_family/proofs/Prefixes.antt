@@ -12,7 +12,7 @@ use Rattle.std.proofs.lemmas.List.{get_or-drop, get_or-take, take_all, length-dr
 use Rattle.std.proofs.lemmas.List.MinMax.{ranks_by}
 use Rattle.std.proofs.lemmas.List.Sorted.{sorted_far, searchable_from_sorted}
 use Rattle.std.proofs.lemmas.Slice.Eq.{starts_is}
-use Rattle.lr_family.specs.Listed.{AreRising}
+use Rattle.lr_family.specs.Listed.{NamesRise}
 
 abbrev pub before : List ℕ → List ℕ → Bool
 before base name = is_lt (slice_cmp nat_cmp name base)
@@ -74,14 +74,14 @@ lower Greater Less le e = absurd (let no : 2 ≤ 0 = le in omega arith)
 lower Greater Equal le e = absurd (cc)
 lower Greater Greater le e = absurd (cc)
 
-pub before_first : (base : List ℕ) (names : List (List ℕ)) → AreRising names → IsPartitionedBy (before base) names
+pub before_first : (base : List ℕ) (names : List (List ℕ)) → NamesRise names → IsPartitionedBy (before base) names
 before_first base names up i j d le lt e = lower (slice_cmp nat_cmp (get_or names i d) base) (slice_cmp nat_cmp (get_or names j d) base) (searchable_from_sorted nat_list_cmp_total (λ (x : List ℕ). x) names base up i j d le lt) e
 
 -- behind the names that are before the base
 abbrev pub StartsAt : List ℕ → List (List ℕ) → ℕ → Type 0
 StartsAt base names i = IsPartitionPoint (λ y. before base y ≡ true) (λ y. before base y ≡ false) names i
 
-pub begun_first : (base : List ℕ) (names : List (List ℕ)) (i : ℕ) → AreRising names → StartsAt base names i → i ≤ length names → IsPartitionedBy (begins base) (drop i names)
+pub begun_first : (base : List ℕ) (names : List (List ℕ)) (i : ℕ) → NamesRise names → StartsAt base names i → i ≤ length names → IsPartitionedBy (begins base) (drop i names)
 begun_first base names i up start fits a b d le lt e =
     let size : length (drop i names) ≡ length names - i = length-drop i names in
     let bound : b < length (drop i names) = lt in
@@ -141,7 +141,7 @@ part_begins base names j end fits k d lt =
     subst (λ (y : List ℕ). begins base y ≡ true) (sym (get_or-take j names k d (omega arith))) (end.0 k d (omega arith) (omega arith))
 
 -- a part of names that rise rises
-pub part_rises : (names : List (List ℕ)) (i j : ℕ) → AreRising names → AreRising (take j (drop i names))
+pub part_rises : (names : List (List ℕ)) (i j : ℕ) → NamesRise names → NamesRise (take j (drop i names))
 part_rises names i j up k d le lt = subst (λ (x : List ℕ). is_lt (slice_cmp nat_cmp x (get_or (take j (drop i names)) k d)) ≡ false) (sym (at (k + 1) lt))
     (subst (λ (x : List ℕ). is_lt (slice_cmp nat_cmp (get_or names (i + (k + 1)) d) x) ≡ false) (sym (at k (omega arith))) (subst (λ (m : ℕ). is_lt (slice_cmp nat_cmp (get_or names m d) (get_or names (i + k) d)) ≡ false) next (up (i + k) d (omega arith) inside)))
   where

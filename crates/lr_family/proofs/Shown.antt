@@ -17,7 +17,7 @@ use Rattle.lr_host.proofs.Lists.{in_from, in_to, in_map, in_unmap, in_back}
 use Rattle.lr_family.specs.declared.spot.Spot.{Spot}
 use Rattle.lr_family.specs.declared.stand.Member.{Member}
 use Rattle.lr_family.specs.Among.{StandsAmong}
-use Rattle.lr_family.specs.Looks.{Sight, look_of, seen_at, member_of, AreFilesOrGone}
+use Rattle.lr_family.specs.Looks.{MemberSight, spot_look, seen_member, member_of, AreFilesOrGone}
 use Rattle.lr_family.specs.Parts.{IsMember}
 use Rattle.lr_family.specs.Places.{AreNamed}
 use Rattle.lr_family.specs.Spots.{IsAmong}
@@ -30,44 +30,44 @@ WasSeen ts m = (m.seen.kind ≡ kind.File) × IsIn (entry.Look m.path (Some m.se
 -- ---- looks, one by one
 
 -- the members that were seen
-seen_all : (ts : List Entry) (gs : List Sight) → AreFilesOrGone gs → ((g : Sight) → IsIn g gs → IsIn (look_of g) ts) → All (WasSeen ts) (flat_map member_of gs)
+seen_all : (ts : List Entry) (gs : List MemberSight) → AreFilesOrGone gs → ((g : MemberSight) → IsIn g gs → IsIn (spot_look g) ts) → All (WasSeen ts) (flat_map member_of gs)
 seen_all ts [] files looked = All-nil (WasSeen ts)
-seen_all ts (g ∷ gs) files looked = All-append (WasSeen ts) (seen_at g.spot g.seen) (flat_map member_of gs)
-    (one g.seen refl (All-head (λ (g : Sight). IsFileOrGone g.seen) g gs files))
-    (seen_all ts gs (All-tail (λ (g : Sight). IsFileOrGone g.seen) g gs files) (λ h i. looked h (inr i)))
+seen_all ts (g ∷ gs) files looked = All-append (WasSeen ts) (seen_member g.spot g.seen) (flat_map member_of gs)
+    (one g.seen refl (All-head (λ (g : MemberSight). IsFileOrGone g.seen) g gs files))
+    (seen_all ts gs (All-tail (λ (g : MemberSight). IsFileOrGone g.seen) g gs files) (λ h i. looked h (inr i)))
   where
-    one : (o : Option Seen) → g.seen ≡ o → IsFileOrGone o → All (WasSeen ts) (seen_at g.spot o)
+    one : (o : Option Seen) → g.seen ≡ o → IsFileOrGone o → All (WasSeen ts) (seen_member g.spot o)
     one None e file = All-nil (WasSeen ts)
     one (Some seen) e file = All-cons (WasSeen ts) _ [] (file, subst (λ (o : Option Seen). IsIn (entry.Look g.spot.path o) ts) e (looked g (inl refl))) (All-nil (WasSeen ts))
 
 -- one of them was at the path, or none
-at_or_none : (x : Path) (gs : List Sight) → ((g : Sight) × IsIn g gs × (g.spot.path ≡ x)) ⊎ ((g : Sight) → IsIn g gs → g.spot.path ≡ x → ⊥)
+at_or_none : (x : Path) (gs : List MemberSight) → ((g : MemberSight) × IsIn g gs × (g.spot.path ≡ x)) ⊎ ((g : MemberSight) → IsIn g gs → g.spot.path ≡ x → ⊥)
 at_or_none x [] = inr (λ g i e. i)
 at_or_none x (g ∷ gs) = go (bytes_eq g.spot.path x) refl (at_or_none x gs)
   where
-    go : (b : Bool) → bytes_eq g.spot.path x ≡ b → ((h : Sight) × IsIn h gs × (h.spot.path ≡ x)) ⊎ ((h : Sight) → IsIn h gs → h.spot.path ≡ x → ⊥) → ((h : Sight) × IsIn h (g ∷ gs) × (h.spot.path ≡ x)) ⊎ ((h : Sight) → IsIn h (g ∷ gs) → h.spot.path ≡ x → ⊥)
+    go : (b : Bool) → bytes_eq g.spot.path x ≡ b → ((h : MemberSight) × IsIn h gs × (h.spot.path ≡ x)) ⊎ ((h : MemberSight) → IsIn h gs → h.spot.path ≡ x → ⊥) → ((h : MemberSight) × IsIn h (g ∷ gs) × (h.spot.path ≡ x)) ⊎ ((h : MemberSight) → IsIn h (g ∷ gs) → h.spot.path ≡ x → ⊥)
     go true e r = inl (g, inl refl, (bytes_eq-Decides g.spot.path x).0 e)
     go false e (inl r) = inl (r.0, inr r.1, r.2)
-    go false e (inr r) = inr (λ h i same. ⊎_elim (λ is. clash (bytes_eq g.spot.path x) ((bytes_eq-Decides g.spot.path x).1 (ap (λ (k : Sight). k.spot.path) is ∙ same)) e) (λ j. r h j same) i)
+    go false e (inr r) = inr (λ h i same. ⊎_elim (λ is. clash (bytes_eq g.spot.path x) ((bytes_eq-Decides g.spot.path x).1 (ap (λ (k : MemberSight). k.spot.path) is ∙ same)) e) (λ j. r h j same) i)
       where
         clash : (b : Bool) → b ≡ true → b ≡ false → ⊥
         clash b p q = cc
 
 -- a look that saw a file gives a member with its path
-member_at : (g : Sight) (seen : Seen) (gs : List Sight) → IsIn g gs → g.seen ≡ Some seen → (m : Member) × IsIn m (flat_map member_of gs) × (m.path ≡ g.spot.path)
+member_at : (g : MemberSight) (seen : Seen) (gs : List MemberSight) → IsIn g gs → g.seen ≡ Some seen → (m : Member) × IsIn m (flat_map member_of gs) × (m.path ≡ g.spot.path)
 member_at g seen [] i e = absurd i
 member_at g seen (h ∷ hs) (inl same) e = one h.seen refl
   where
     saw : h.seen ≡ Some seen
-    saw = ap (λ (k : Sight). k.seen) same ∙ e
+    saw = ap (λ (k : MemberSight). k.seen) same ∙ e
 
-    one : (o : Option Seen) → h.seen ≡ o → (m : Member) × IsIn m (seen_at h.spot o ++ flat_map member_of hs) × (m.path ≡ g.spot.path)
+    one : (o : Option Seen) → h.seen ≡ o → (m : Member) × IsIn m (seen_member h.spot o ++ flat_map member_of hs) × (m.path ≡ g.spot.path)
     one None is = absurd (clash h.seen is saw)
       where
         clash : (o : Option Seen) → o ≡ None → o ≡ Some seen → ⊥
         clash o p q = cc
-    one (Some other) is = (_, inl refl, ap (λ (k : Sight). k.spot.path) same)
-member_at g seen (h ∷ hs) (inr i) e = let r = member_at g seen hs i e in (r.0, in_back r.0 (seen_at h.spot h.seen) (flat_map member_of hs) r.1, r.2)
+    one (Some other) is = (_, inl refl, ap (λ (k : MemberSight). k.spot.path) same)
+member_at g seen (h ∷ hs) (inr i) e = let r = member_at g seen hs i e in (r.0, in_back r.0 (seen_member h.spot h.seen) (flat_map member_of hs) r.1, r.2)
 
 -- the path of a member is one of theirs
 pub not_none : (x : Path) (m : Member) (ms : List Member) → IsNotIn x (map (λ (m : Member). m.path) ms) → IsIn m ms → m.path ≡ x → ⊥
@@ -79,8 +79,8 @@ not_none x m (y ∷ ys) none (inr i) e = not_none x m ys none.1 i e
 
 -- The looks stand anywhere among these entries.
 module _ (n : Naming) (names : List (List ℕ)) (members : List Member) (ts all : List Entry) (more : (e : Entry) → IsIn e ts → IsIn e all) (s : StandsAmong n names members ts) where
-  looked : (g : Sight) → IsIn g s.looks.sights → IsIn (look_of g) all
-  looked g i = more (look_of g) (subst (IsIn (look_of g)) (sym s.looks.looks) (in_map look_of g s.looks.sights i))
+  looked : (g : MemberSight) → IsIn g s.looks.sights → IsIn (spot_look g) all
+  looked g i = more (spot_look g) (subst (IsIn (spot_look g)) (sym s.looks.looks) (in_map spot_look g s.looks.sights i))
 
   -- each member has the path of its place,
   pub members_named : AreNamed n members
@@ -94,14 +94,14 @@ module _ (n : Naming) (names : List (List ℕ)) (members : List Member) (ts all 
   pub others_unseen : (x : Path) → IsMember n x → IsNotIn x (map (λ (m : Member). m.path) members) → IsIn (entry.Look x None) all ⊎ ((name : List ℕ) → Contains names name → x ≡ joined n.dir name → ⊥)
   others_unseen x is none = ⊎_elim (λ h. inl (saw_none h.0 h.1 h.2 h.0.seen refl)) (λ never. inr (never_listed never)) (at_or_none x s.looks.sights)
     where
-      saw_none : (g : Sight) → IsIn g s.looks.sights → g.spot.path ≡ x → (o : Option Seen) → g.seen ≡ o → IsIn (entry.Look x None) all
+      saw_none : (g : MemberSight) → IsIn g s.looks.sights → g.spot.path ≡ x → (o : Option Seen) → g.seen ≡ o → IsIn (entry.Look x None) all
       saw_none g i at None e = subst (λ (y : Path). IsIn (entry.Look y None) all) at (subst (λ (o : Option Seen). IsIn (entry.Look g.spot.path o) all) e (looked g i))
       saw_none g i at (Some seen) e =
           let m = member_at g seen s.looks.sights i e in
           absurd (not_none x m.0 members none (in_from m.0 members (Contains-permutation s.shown members m.0 s.each (in_to m.0 s.shown (subst (IsIn m.0) (sym s.looks.members_are) m.1)))) (m.2 ∙ at))
 
-      never_listed : ((g : Sight) → IsIn g s.looks.sights → g.spot.path ≡ x → ⊥) → (name : List ℕ) → Contains names name → x ≡ joined n.dir name → ⊥
+      never_listed : ((g : MemberSight) → IsIn g s.looks.sights → g.spot.path ≡ x → ⊥) → (name : List ℕ) → Contains names name → x ≡ joined n.dir name → ⊥
       never_listed never name c named =
           let a : IsAmong s.spots x = (s.spots_are.has.all x).1 (record { member = is; name = name; listed = c; named = named }) in
-          let g = in_unmap (λ (h : Sight). h.spot) a.0 s.looks.sights (subst (IsIn a.0) (sym s.looks.each) (in_from a.0 s.spots a.1)) in
+          let g = in_unmap (λ (h : MemberSight). h.spot) a.0 s.looks.sights (subst (IsIn a.0) (sym s.looks.each) (in_from a.0 s.spots a.1)) in
           never g.0 g.1 (ap (λ (p : Spot). p.path) g.2 ∙ a.2)

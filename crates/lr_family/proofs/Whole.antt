@@ -31,12 +31,12 @@ use Rattle.lr_family.specs.Spots.{AreSpots}
 use Rattle.lr_host.specs.Looks.{Sees, IsNothing, IsDir, IsNoDir, is_dir}
 use Rattle.lr_family.specs.Among.{StandsAmong, ShowsMembers, ShowsIn, ShowsNoneIn}
 use Rattle.lr_family.specs.Listed.{HasListed, ShowsListing, NotListed}
-use Rattle.lr_family.specs.Looks.{Shows}
+use Rattle.lr_family.specs.Looks.{ShowsSpots}
 use Rattle.lr_family.specs.Parts.{PartsAmong, ShowsParts, ShowsNoParts}
 use Rattle.lr_family.specs.Standing.{ShowsStand, ShowsStop}
 use Rattle.lr_family.specs.Stands.{AreNewestFirst}
 use Rattle.lr_family.specs.Stops.{SomeStopped}
-use Rattle.lr_family.specs.Directory.{DirSeen, DirStopped, ParentStopped, ListStopped}
+use Rattle.lr_family.specs.Directory.{DirSeen, DirLookStopped, ParentStopped, ListStopped}
 
 -- a path where a look saw a directory can be listed
 seen_dir : (w : World) (t : Thing) (seen : Seen) → TrulySees w t (Some seen) → seen.kind ≡ kind.Dir → t ≡ thing.Directory
@@ -111,22 +111,22 @@ pub none_stopped : {T : Type 0} (dir d : Path) (r : Result T StandStop) (k : Opt
 none_stopped dir d (Ok l) k e a b = tt
 none_stopped dir d (Err s) k e a b = behind_none dir d s e a b
 
-pub no_dir : (dir d : Path) {o m : Option Journal} → d ≡ dir → Left (DirStopped d stopped.NotDir) o m → Left (NotListed dir (stop.NotFile d)) o m
+pub no_dir : (dir d : Path) {o m : Option Journal} → d ≡ dir → Left (DirLookStopped d stopped.NotDir) o m → Left (NotListed dir (stop.NotFile d)) o m
 no_dir dir d e l = left_as l (λ ts t. (e, subst (λ x. Sees x IsNoDir ts) e t))
 
-pub no_look : (dir d : Path) {o m : Option Journal} → d ≡ dir → Left (DirStopped d stopped.Call) o m → Left (NotListed dir (stop.Call call.Look d)) o m
+pub no_look : (dir d : Path) {o m : Option Journal} → d ≡ dir → Left (DirLookStopped d stopped.Call) o m → Left (NotListed dir (stop.Call call.Look d)) o m
 no_look dir d e l = left_as l (λ ts t. inl (e, t))
 
 -- what an answer says, where it is known
 pub seen_as : (d : Path) (b k : Bool) {o m : Option Journal} → b ≡ k → Left (DirSeen d b) o m → Left (DirSeen d k) o m
 seen_as d b k e l = left_as l (λ ts t. subst (λ q. DirSeen d q ts) e t)
 
-pub stopped_as : (d : Path) (s k : DirStop) {o m : Option Journal} → s ≡ k → Left (DirStopped d s) o m → Left (DirStopped d k) o m
-stopped_as d s k e l = left_as l (λ ts t. subst (λ q. DirStopped d q ts) e t)
+pub stopped_as : (d : Path) (s k : DirStop) {o m : Option Journal} → s ≡ k → Left (DirLookStopped d s) o m → Left (DirLookStopped d k) o m
+stopped_as d s k e l = left_as l (λ ts t. subst (λ q. DirLookStopped d q ts) e t)
 
 -- ---- the members among names, and their part files
 
-pub stands_among : (n : Naming) (names : List (List ℕ)) (spots : List Spot) (shown members : List Member) {o m : Option Journal} → AreSpots n names spots → IsPermutation shown members → AreNewestFirst members → Left (Shows spots shown) o m → Left (StandsAmong n names members) o m
+pub stands_among : (n : Naming) (names : List (List ℕ)) (spots : List Spot) (shown members : List Member) {o m : Option Journal} → AreSpots n names spots → IsPermutation shown members → AreNewestFirst members → Left (ShowsSpots spots shown) o m → Left (StandsAmong n names members) o m
 stands_among n names spots shown members are p f l = left_as l (λ ts t. record { spots = spots; spots_are = are; shown = shown; each = p; newest_first = f; looks = t })
 
 pub stops_among : (n : Naming) (names : List (List ℕ)) (spots : List Spot) (s : StandStop) {o m : Option Journal} → AreSpots n names spots → Left (SomeStopped spots s) o m → Left (ShowsNoneIn n true names s) o m

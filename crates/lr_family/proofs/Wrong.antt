@@ -8,7 +8,7 @@ use Rattle.lr_host.specs.declared.thing.Seen.{Seen}
 use Rattle.lr_host.specs.declared.entry.Entry.{Entry}
 use Rattle.lr_host.specs.declared.entry.Entry.TheVariants as entry
 use Rattle.lr_host.specs.Looks.{Sees, IsDir, IsNoDir, IsNoFile, IsFileOrGone}
-use Rattle.lr_family.specs.Looks.{Sight, look_of, AreFilesOrGone}
+use Rattle.lr_family.specs.Looks.{MemberSight, spot_look, AreFilesOrGone}
 
 abbrev pub by_file : Path → Kind → Option Path → Option Path
 by_file x kind.File rest = rest
@@ -68,9 +68,9 @@ pub file_passed : (x : Path) (seen : Option Seen) (rest : Option Path) → IsFil
 file_passed x None rest h = refl
 file_passed x (Some seen) rest h = ap (λ k. by_file x k rest) h
 
-pub sights_passed : (sights : List Sight) (ts : List Entry) → AreFilesOrGone sights → wrong_member (map look_of sights ++ ts) ≡ wrong_member ts
+pub sights_passed : (sights : List MemberSight) (ts : List Entry) → AreFilesOrGone sights → wrong_member (map spot_look sights ++ ts) ≡ wrong_member ts
 sights_passed [] ts h = refl
-sights_passed (g ∷ gs) ts h = file_passed g.spot.path g.seen (wrong_member (map look_of gs ++ ts)) (All-head (λ (g : Sight). IsFileOrGone g.seen) g gs h) ∙ sights_passed gs ts (All-tail (λ (g : Sight). IsFileOrGone g.seen) g gs h)
+sights_passed (g ∷ gs) ts h = file_passed g.spot.path g.seen (wrong_member (map spot_look gs ++ ts)) (All-head (λ (g : MemberSight). IsFileOrGone g.seen) g gs h) ∙ sights_passed gs ts (All-tail (λ (g : MemberSight). IsFileOrGone g.seen) g gs h)
 
 pub saw_dir : (x : Path) (ts more : List Entry) → Sees x IsDir ts → wrong (ts ++ more) ≡ past_list more
 saw_dir x ts more s = ap (λ vs. wrong (vs ++ more)) s.look ∙ dir_passed x s.seen more s.is

@@ -11,7 +11,7 @@ use Rattle.lr_family.specs.declared.stand.Member.{Member}
 use Rattle.lr_family.specs.declared.stand.Stand.{Stand}
 use Rattle.lr_family.specs.declared.stand.StandStop.{StandStop}
 use Rattle.lr_family.specs.declared.stand.StandStop.TheVariants as stop
-use Rattle.lr_family.specs.Looks.{Shows}
+use Rattle.lr_family.specs.Looks.{ShowsSpots}
 use Rattle.lr_family.specs.Parts.{SomeParts, ShowsParts, ShowsNoParts, by_bytes}
 use Rattle.lr_family.specs.Spots.{IsListed, AreSpots}
 use Rattle.lr_family.specs.Stands.{AreNewestFirst}
@@ -24,7 +24,7 @@ pub record StandsAmong (n : Naming) (names : List (List ℕ)) (members : List Me
   pub shown : List Member
   pub each : IsPermutation shown members
   pub newest_first : AreNewestFirst members
-  pub looks : Shows spots shown ts
+  pub looks : ShowsSpots spots shown ts
 
 -- One of the members among the names stopped the looks, or there was no memory.
 pub record StopsAmong (n : Naming) (names : List (List ℕ)) (why : StandStop) (ts : List Entry) : Type 0 where

@@ -16,9 +16,9 @@ DirSeen path true ts = Sees path IsDir ts
 DirSeen path false ts = Sees path IsNothing ts
 
 -- the look failed, or saw something else
-abbrev pub DirStopped : Path → DirStop → List Entry → Type 0
-DirStopped path dir.Call ts = ts ≡ []
-DirStopped path dir.NotDir ts = Sees path IsNoDir ts
+abbrev pub DirLookStopped : Path → DirStop → List Entry → Type 0
+DirLookStopped path dir.Call ts = ts ≡ []
+DirLookStopped path dir.NotDir ts = Sees path IsNoDir ts
 
 -- the look at the parent failed, or its path found no memory
 abbrev pub ParentStopped : Path → StandStop → List Entry → Type 0

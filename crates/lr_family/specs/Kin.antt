@@ -3,12 +3,12 @@ use Rattle.std.specs.Prelude.{◌≡◌, ◌≤◌, ◌+◌, ℕ, Bool, false, �
 use Rattle.std.specs.List.{list_any}
 use Rattle.lr_rules.specs.declared.path.Path.{Path}
 use Rattle.lr_rules.specs.declared.rule.Naming.{Naming}
-use Rattle.lr_rules.specs.Path.{is_bad, is_slash}
+use Rattle.lr_rules.specs.Path.{is_bad_byte, is_slash}
 use Rattle.lr_rules.specs.Names.{IsMemberAt}
 
 -- a byte that no name of a directory has
 abbrev pub is_barred : ℕ → Bool
-is_barred b = is_slash b || is_bad b
+is_barred b = is_slash b || is_bad_byte b
 
 -- The names are short enough to be paths, without slashes, and none is the log's.
 pub record IsKin (log : Path) (n : Naming) : Type 0 where

@@ -15,8 +15,8 @@ use Rattle.lr_family.specs.declared.stand.StandStop.{StandStop}
 use Rattle.lr_family.specs.declared.stand.StandStop.TheVariants as stop
 
 -- the names stand in order of bytes
-abbrev pub AreRising : List (List ℕ) → Type 0
-AreRising names = IsSortedByKey (λ name. name) (slice_cmp nat_cmp) names
+abbrev pub NamesRise : List (List ℕ) → Type 0
+NamesRise names = IsSortedByKey (λ name. name) (slice_cmp nat_cmp) names
 
 -- The directory was listed, and its names are these, in whatever order.
 pub record HasListed (dir : Path) (names : List (List ℕ)) (ts : List Entry) : Type 0 where

@@ -27,14 +27,14 @@ abbrev pub by_newness : Member → Member → Ordering
 by_newness a b = int_cmp (key_in b.place) (key_in a.place)
 
 -- no two have the same place
-abbrev pub AreApart : List Member → Type 0
-AreApart members = IsDistinct (eq_by_cmp by_newness) members
+abbrev pub HaveOwnPlaces : List Member → Type 0
+HaveOwnPlaces members = IsDistinct (eq_by_cmp by_newness) members
 
 -- each member is newer than those behind it
 abbrev pub AreNewestFirst : List Member → Type 0
 AreNewestFirst members = IsStrictlySortedBy by_newness members
 
 -- a call failed
-abbrev pub IsFailedCall : StandStop → Type 0
-IsFailedCall (stop.Call kind path) = Unit {0}
-IsFailedCall _ = ⊥
+abbrev pub IsFailedStand : StandStop → Type 0
+IsFailedStand (stop.Call kind path) = Unit {0}
+IsFailedStand _ = ⊥

@@ -12,9 +12,9 @@ use Rattle.lr_family.specs.declared.stand.StandStop.TheVariants as stop
 use Rattle.lr_host.specs.Looks.{Sees, IsNoFile}
 use Rattle.lr_family.specs.Looks.{ShowsTo, ShowsSome}
 
-abbrev pub stop_of : LookStop → Path → StandStop
-stop_of look.Call path = stop.Call call.Look path
-stop_of look.NotFile path = stop.NotFile path
+abbrev pub standing_stop : LookStop → Path → StandStop
+standing_stop look.Call path = stop.Call call.Look path
+standing_stop look.NotFile path = stop.NotFile path
 
 -- the look failed, or saw no regular file
 abbrev pub OneStopped : Path → LookStop → List Entry → Type 0

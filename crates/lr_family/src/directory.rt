@@ -4,8 +4,8 @@ ghost use Rattle.lr_rules.specs.Path.{parent_of};
 ghost use Rattle.lr_host.specs.declared.entry.Entry.TheVariants as entry;
 ghost use Rattle.lr_host.specs.Told.{Left, Can, Onward, Rose};
 ghost use Rattle.lr_host.specs.Looks.{Sees, is_dir};
-ghost use Rattle.lr_family.specs.Stands.{IsFailedCall};
-ghost use Rattle.lr_family.specs.Directory.{DirSeen, DirStopped, ParentStopped};
+ghost use Rattle.lr_family.specs.Stands.{IsFailedStand};
+ghost use Rattle.lr_family.specs.Directory.{DirSeen, DirLookStopped, ParentStopped};
 
 use crate::stand::StandStop;
 use lr_host::{Host, Kind, Seen};
@@ -24,7 +24,7 @@ pub enum DirStop {
 /// Looks for the directory: whether it is there. Links are followed.
 pub fn look_for_dir<H: Host>(host: &mut H, dir: &Path) -> Result<bool, DirStop>
     ensures told { IfOk result (λ there. Left (DirSeen dir.now there) (H.told host.old) (H.told host.new)) }
-    ensures stopped { IfErr result (λ stop. Left (DirStopped dir.now stop) (H.told host.old) (H.told host.new)) }
+    ensures stopped { IfErr result (λ stop. Left (DirLookStopped dir.now stop) (H.told host.old) (H.told host.new)) }
     ensures list { result ≡ Ok true → Can (H.told host.new) (entry.List dir.now []) }
     ensures cause { result ≡ Err DirStop.Call → Rose (H.counts host.old).faults (H.counts host.new).faults }
     ensures counts { Onward (H.counts host.old) (H.counts host.new) }
@@ -60,7 +60,7 @@ pub fn parent_there<H: Host>(alloc: Global, host: &mut H, dir: &Path) -> Result<
     ensures told { IfOk result (λ there. Left (Sees (parent_of dir.now) (λ seen. is_dir seen ≡ there)) (H.told host.old)
         (H.told host.new)) }
     ensures stopped { IfErr result (λ stop. Left (ParentStopped dir.now stop) (H.told host.old) (H.told host.new)) }
-    ensures cause { IfErr result (λ stop. IsFailedCall stop → Rose (H.counts host.old).faults (H.counts host.new).faults) }
+    ensures cause { IfErr result (λ stop. IsFailedStand stop → Rose (H.counts host.old).faults (H.counts host.new).faults) }
     ensures counts { Onward (H.counts host.old) (H.counts host.new) }
 {
     let Ok(parent) = dir.parent(alloc) else {

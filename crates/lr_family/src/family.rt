@@ -10,7 +10,7 @@ ghost use Rattle.lr_family.specs.Among.{ShowsIn, ShowsNoneIn, IsExactlyAmong, Ar
 ghost use Rattle.lr_family.specs.Kin.{IsKin};
 ghost use Rattle.lr_family.specs.Places.{AreNamed};
 ghost use Rattle.lr_family.specs.Standing.{ShowsStand, ShowsStop, IsExactly};
-ghost use Rattle.lr_family.specs.Stands.{AreNewestFirst, IsFailedCall};
+ghost use Rattle.lr_family.specs.Stands.{AreNewestFirst, IsFailedStand};
 
 use crate::listing::Listing;
 use crate::number::{member_path, place_of_path};
@@ -149,7 +149,7 @@ impl Family {
         ensures newest { IfOk result (λ stand. AreNewestFirst stand.members) }
         ensures exactly { Left (IsExactlyAmong self.now.naming listing.now.names result) (H.told host.old) (H.told host.new) }
         ensures few { Left (AreFewAmong self.now.naming listing.now.names) (H.told host.old) (H.told host.new) }
-        ensures cause { IfErr result (λ stop. IsFailedCall stop → Rose (H.counts host.old).faults (H.counts host.new).faults) }
+        ensures cause { IfErr result (λ stop. IsFailedStand stop → Rose (H.counts host.old).faults (H.counts host.new).faults) }
         ensures counts { Onward (H.counts host.old) (H.counts host.new) }
     {
         stand_among(alloc, host, &self.naming, listing)
@@ -167,7 +167,7 @@ impl Family {
         ensures newest { IfOk result (λ stand. AreNewestFirst stand.members) }
         ensures exactly { Left (IsExactly self.now.naming result) (H.told host.old) (H.told host.new) }
         ensures few { Left (AreFew self.now.naming) (H.told host.old) (H.told host.new) }
-        ensures cause { IfErr result (λ stop. IsFailedCall stop → Rose (H.counts host.old).faults (H.counts host.new).faults) }
+        ensures cause { IfErr result (λ stop. IsFailedStand stop → Rose (H.counts host.old).faults (H.counts host.new).faults) }
         ensures counts { Onward (H.counts host.old) (H.counts host.new) }
     {
         match Listing::take(alloc, host, &self.naming.dir) {

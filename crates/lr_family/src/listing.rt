@@ -8,8 +8,8 @@ ghost use Rattle.lr_host.specs.Told.{Left, Are, Can, Onward, Rose};
 ghost use Rattle.lr_rules.specs.Path.{parent_of};
 ghost use Rattle.lr_host.specs.Looks.{Sees, is_dir};
 ghost use Rattle.lr_family.specs.Directory.{ParentStopped, ListStopped};
-ghost use Rattle.lr_family.specs.Listed.{AreRising, HasListed, ShowsListing, NotListed, IsExactlyNoDir, AreAtMost};
-ghost use Rattle.lr_family.specs.Stands.{IsFailedCall};
+ghost use Rattle.lr_family.specs.Listed.{NamesRise, HasListed, ShowsListing, NotListed, IsExactlyNoDir, AreAtMost};
+ghost use Rattle.lr_family.specs.Stands.{IsFailedStand};
 
 use crate::directory::{DirStop, look_for_dir, parent_there};
 use crate::stand::StandStop;
@@ -28,7 +28,7 @@ pub struct Listing {
     parent: bool,
     // In order of bytes, so that the names that begin alike stand side by side.
     names: Listed<Text>,
-    ghost rising: { AreRising names },
+    ghost rising: { NamesRise names },
 }
 
 fn by_bytes(a: &Text, b: &Text) -> Ordering
@@ -39,7 +39,7 @@ fn by_bytes(a: &Text, b: &Text) -> Ordering
 
 fn sort_rising(names: &mut Vec<Text>)
     ensures same { IsPermutation names.old.items names.new.items }
-    ensures rising { AreRising names.new.items }
+    ensures rising { NamesRise names.new.items }
 {
     names.sort_unstable_by(|a, b| by_bytes(a, b));
 }
@@ -48,7 +48,7 @@ fn sort_rising(names: &mut Vec<Text>)
 fn list_rising<H: Host>(alloc: Global, host: &mut H, dir: &Path) -> Result<Listed<Text>, ListFault>
     requires list { Can (H.told host.old) (entry.List dir.now []) }
     ensures told { IfOk result (λ names. Left (HasListed dir.now names) (H.told host.old) (H.told host.new)) }
-    ensures rising { IfOk result AreRising }
+    ensures rising { IfOk result NamesRise }
     ensures stopped { IfErr result (λ fault. Left (Are []) (H.told host.old) (H.told host.new)) }
     ensures cause { result ≡ Err ListFault.Failed → Rose (H.counts host.old).faults (H.counts host.new).faults }
     ensures counts { Onward (H.counts host.old) (H.counts host.new) }
@@ -69,7 +69,7 @@ fn list_there<H: Host>(alloc: Global, host: &mut H, dir: Path) -> Result<Listing
     ensures told { IfOk result (λ l. Left (HasListed dir l.names) (H.told host.old) (H.told host.new)) }
     ensures there { IfOk result (λ l. (l.dir ≡ dir) × (l.there ≡ true) × (l.parent ≡ true)) }
     ensures stopped { IfErr result (λ stop. Left (ListStopped dir stop) (H.told host.old) (H.told host.new)) }
-    ensures cause { IfErr result (λ stop. IsFailedCall stop → Rose (H.counts host.old).faults (H.counts host.new).faults) }
+    ensures cause { IfErr result (λ stop. IsFailedStand stop → Rose (H.counts host.old).faults (H.counts host.new).faults) }
     ensures counts { Onward (H.counts host.old) (H.counts host.new) }
 {
     match list_rising(alloc, host, &dir) {
@@ -90,7 +90,7 @@ fn list_none<H: Host>(alloc: Global, host: &mut H, dir: Path) -> Result<Listing,
         (H.told host.new)) }
     ensures missing { IfOk result (λ l. (l.dir ≡ dir) × (l.there ≡ false) × (l.names ≡ [])) }
     ensures stopped { IfErr result (λ stop. Left (ParentStopped dir stop) (H.told host.old) (H.told host.new)) }
-    ensures cause { IfErr result (λ stop. IsFailedCall stop → Rose (H.counts host.old).faults (H.counts host.new).faults) }
+    ensures cause { IfErr result (λ stop. IsFailedStand stop → Rose (H.counts host.old).faults (H.counts host.new).faults) }
     ensures counts { Onward (H.counts host.old) (H.counts host.new) }
 {
     match parent_there(alloc, host, &dir) {
@@ -109,7 +109,7 @@ fn listing_of<H: Host>(alloc: Global, host: &mut H, dir: &Path) -> Result<Listin
     ensures told { IfOk result (λ l. Left (ShowsListing dir.now l.there l.parent l.names) (H.told host.old) (H.told host.new)) }
     ensures stopped { IfErr result (λ stop. Left (NotListed dir.now stop) (H.told host.old) (H.told host.new)) }
     ensures dir { IfOk result (λ l. l.dir ≡ dir.now) }
-    ensures cause { IfErr result (λ stop. IsFailedCall stop → Rose (H.counts host.old).faults (H.counts host.new).faults) }
+    ensures cause { IfErr result (λ stop. IsFailedStand stop → Rose (H.counts host.old).faults (H.counts host.new).faults) }
     ensures counts { Onward (H.counts host.old) (H.counts host.new) }
 {
     // Before the first look, so that a thing of another kind is told however short memory is then.
@@ -133,7 +133,7 @@ impl Listing {
         ensures dir { IfOk result (λ l. l.dir ≡ dir.now) }
         ensures exactly { Left (IsExactlyNoDir dir.now result) (H.told host.old) (H.told host.new) }
         ensures few { Left (AreAtMost 3) (H.told host.old) (H.told host.new) }
-        ensures cause { IfErr result (λ stop. IsFailedCall stop → Rose (H.counts host.old).faults (H.counts host.new).faults) }
+        ensures cause { IfErr result (λ stop. IsFailedStand stop → Rose (H.counts host.old).faults (H.counts host.new).faults) }
         ensures counts { Onward (H.counts host.old) (H.counts host.new) }
     {
         listing_of(alloc, host, dir)
@@ -163,7 +163,7 @@ impl Listing {
     /// The names in the directory, in order of bytes; none where it isn't there.
     pub fn names(&self) -> &[Text]
         ensures names { result.now ≡ self.now.names }
-        ensures rising { AreRising result.now }
+        ensures rising { NamesRise result.now }
     {
         self.names.as_slice()
     }

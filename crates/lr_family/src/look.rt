@@ -3,9 +3,9 @@ ghost use Rattle.std.specs.Prelude.{◌≡◌, [], ◌∷◌, ◌++◌, IfOk, If
 ghost use Rattle.lr_host.specs.declared.entry.Entry.TheVariants as entry;
 ghost use Rattle.lr_host.specs.Told.{Left, Are, Onward, Rose};
 ghost use Rattle.lr_host.specs.Looks.{IsFileOrGone};
-ghost use Rattle.lr_family.specs.Looks.{AreSeen, Shows, seen_at};
-ghost use Rattle.lr_family.specs.Stands.{IsFailedCall};
-ghost use Rattle.lr_family.specs.Stops.{OneStopped, SomeStopped, stop_of};
+ghost use Rattle.lr_family.specs.Looks.{AreSeen, ShowsSpots, seen_member};
+ghost use Rattle.lr_family.specs.Stands.{IsFailedStand};
+ghost use Rattle.lr_family.specs.Stops.{OneStopped, SomeStopped, standing_stop};
 
 use crate::spot::Spot;
 use crate::stand::{Member, StandStop};
@@ -45,7 +45,7 @@ pub fn look_at<H: Host>(host: &mut H, path: &Path) -> Result<Option<Seen>, LookS
 
 /// The stop at this path.
 pub fn stop_at(stop: LookStop, path: Path) -> StandStop
-    ensures { result ≡ stop_of stop path }
+    ensures { result ≡ standing_stop stop path }
 {
     match stop {
         LookStop::Call => StandStop::Call(CallKind::Look, path),
@@ -55,7 +55,7 @@ pub fn stop_at(stop: LookStop, path: Path) -> StandStop
 
 // Adds the member, where the look saw one: a name that is gone since it was listed is no member.
 fn add_seen(members: &mut Vec<Member>, spot: Spot, seen: Option<Seen>) -> Result<(), Memory>
-    ensures { OnOk result (members.new.items ≡ members.old.items ++ seen_at spot seen) }
+    ensures { OnOk result (members.new.items ≡ members.old.items ++ seen_member spot seen) }
 {
     if let Some(seen) = seen {
         members.push(Member {
@@ -73,10 +73,10 @@ pub fn look_at_all<H: Host>(
     host: &mut H,
     spots: Vec<Spot>,
 ) -> Result<Vec<Member>, StandStop>
-    ensures told { IfOk result (λ members. Left (Shows spots.items members.items) (H.told host.old) (H.told host.new)) }
+    ensures told { IfOk result (λ members. Left (ShowsSpots spots.items members.items) (H.told host.old) (H.told host.new)) }
     ensures seen { IfOk result (λ members. AreSeen spots.items members.items) }
     ensures stopped { IfErr result (λ stop. Left (SomeStopped spots.items stop) (H.told host.old) (H.told host.new)) }
-    ensures cause { IfErr result (λ stop. IsFailedCall stop → Rose (H.counts host.old).faults (H.counts host.new).faults) }
+    ensures cause { IfErr result (λ stop. IsFailedStand stop → Rose (H.counts host.old).faults (H.counts host.new).faults) }
     ensures counts { Onward (H.counts host.old) (H.counts host.new) }
 {
     let mut members = Vec::new(alloc);

@@ -1,7 +1,7 @@
 // The newest member first.
 ghost use Rattle.std.specs.Prelude.{◌≡◌};
 ghost use Rattle.std.specs.List.Sorted.{IsPermutation};
-ghost use Rattle.lr_family.specs.Stands.{key_in, by_newness, AreApart, AreNewestFirst};
+ghost use Rattle.lr_family.specs.Stands.{key_in, by_newness, HaveOwnPlaces, AreNewestFirst};
 
 use crate::place::Place;
 use crate::stand::Member;
@@ -26,7 +26,7 @@ fn compare(a: &Member, b: &Member) -> Ordering
 
 /// Puts the newest member first.
 pub fn sort_newest(members: &mut Vec<Member>)
-    requires { AreApart members.old.items }
+    requires { HaveOwnPlaces members.old.items }
     ensures same { IsPermutation members.old.items members.new.items }
     ensures newest { AreNewestFirst members.new.items }
 {

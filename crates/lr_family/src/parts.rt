@@ -4,9 +4,9 @@ ghost use Rattle.lr_rules.specs.Limits.{is_format, or_none};
 ghost use Rattle.lr_rules.specs.Path.{joined};
 ghost use Rattle.lr_host.specs.Told.{Left, Onward, Rose};
 ghost use Rattle.lr_family.specs.InternalParts.{AddsPart, HasParts, SeesParts, SeesSomeParts};
-ghost use Rattle.lr_family.specs.Listed.{AreRising};
+ghost use Rattle.lr_family.specs.Listed.{NamesRise};
 ghost use Rattle.lr_family.specs.Parts.{IsMember, IsMembersPart, AreParts, PartsAmong, ShowsNoParts, part_seen};
-ghost use Rattle.lr_family.specs.Stands.{IsFailedCall};
+ghost use Rattle.lr_family.specs.Stands.{IsFailedStand};
 
 use crate::name::{path_in, place_in};
 use crate::prefix::names_with;
@@ -56,7 +56,7 @@ fn add_part(
 // The part files among the names, in the order of the names.
 fn parts_in(alloc: Global, naming: &Naming, names: &[Text]) -> Result<Vec<Path>, Memory>
     requires format { or_none is_format naming.now.dated ≡ true }
-    requires rising { AreRising names.now }
+    requires rising { NamesRise names.now }
     ensures { IfOk result (λ paths. HasParts naming.now names.now paths.items) }
 {
     let mut paths = Vec::new(alloc);
@@ -69,7 +69,7 @@ fn parts_in(alloc: Global, naming: &Naming, names: &[Text]) -> Result<Vec<Path>,
 // The same: those names that begin as a member's are enough.
 fn parts_with(alloc: Global, naming: &Naming, names: &[Text]) -> Result<Vec<Path>, Memory>
     requires format { or_none is_format naming.now.dated ≡ true }
-    requires rising { AreRising names.now }
+    requires rising { NamesRise names.now }
     ensures { IfOk result (λ paths. HasParts naming.now names.now paths.items) }
 {
     parts_in(alloc, naming, names_with(names, naming.base.bytes()))
@@ -111,7 +111,7 @@ fn look_at_parts<H: Host>(
 ) -> Result<Vec<Path>, StandStop>
     ensures told { IfOk result (λ parts. Left (SeesParts paths.items parts.items) (H.told host.old) (H.told host.new)) }
     ensures stopped { IfErr result (λ stop. Left (SeesSomeParts paths.items stop) (H.told host.old) (H.told host.new)) }
-    ensures cause { IfErr result (λ stop. IsFailedCall stop → Rose (H.counts host.old).faults (H.counts host.new).faults) }
+    ensures cause { IfErr result (λ stop. IsFailedStand stop → Rose (H.counts host.old).faults (H.counts host.new).faults) }
     ensures counts { Onward (H.counts host.old) (H.counts host.new) }
 {
     let mut parts = Vec::new(alloc);
@@ -129,7 +129,7 @@ fn look_at_parts<H: Host>(
 // The part files among the names, each once, in order of bytes.
 fn paths_among(alloc: Global, naming: &Naming, names: &[Text]) -> Result<Vec<Path>, Memory>
     requires format { or_none is_format naming.now.dated ≡ true }
-    requires rising { AreRising names.now }
+    requires rising { NamesRise names.now }
     ensures { IfOk result (λ paths. AreParts naming.now names.now paths.items) }
 {
     let mut paths = parts_with(alloc, naming, names)?;
@@ -146,10 +146,10 @@ pub fn parts_among<H: Host>(
     names: &[Text],
 ) -> Result<Listed<Path>, StandStop>
     requires format { or_none is_format naming.now.dated ≡ true }
-    requires rising { AreRising names.now }
+    requires rising { NamesRise names.now }
     ensures told { IfOk result (λ parts. Left (PartsAmong naming.now names.now parts) (H.told host.old) (H.told host.new)) }
     ensures stopped { IfErr result (λ stop. Left (ShowsNoParts naming.now names.now stop) (H.told host.old) (H.told host.new)) }
-    ensures cause { IfErr result (λ stop. IsFailedCall stop → Rose (H.counts host.old).faults (H.counts host.new).faults) }
+    ensures cause { IfErr result (λ stop. IsFailedStand stop → Rose (H.counts host.old).faults (H.counts host.new).faults) }
     ensures counts { Onward (H.counts host.old) (H.counts host.new) }
 {
     let Ok(paths) = paths_among(alloc, naming, names) else {

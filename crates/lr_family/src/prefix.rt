@@ -3,7 +3,7 @@ ghost use Rattle.std.specs.Prelude.{◌≡◌, ◌++◌, ℕ, List, nat_eq, true
 ghost use Rattle.std.specs.Ordering.{nat_cmp, is_lt};
 ghost use Rattle.std.specs.Cmp.Lexicographic.{slice_cmp};
 ghost use Rattle.std.specs.List.{starts_with};
-ghost use Rattle.lr_family.specs.Listed.{AreRising};
+ghost use Rattle.lr_family.specs.Listed.{NamesRise};
 
 use lr_rules::Text;
 
@@ -21,10 +21,10 @@ fn begins_with(name: &Text, base: &[u8]) -> bool
 
 /// The names that begin with the base; both ends are found by halving.
 pub fn names_with<'a>(names: &'a [Text], base: &[u8]) -> &'a [Text]
-    requires { AreRising names.now }
+    requires { NamesRise names.now }
     ensures among { (name : List ℕ) → Contains result.now name → Contains names.now name }
     ensures all { (rest : List ℕ) → Contains names.now (base.now ++ rest) → Contains result.now (base.now ++ rest) }
-    ensures rising { AreRising result.now }
+    ensures rising { NamesRise result.now }
     ensures begin { All (λ name. starts_with nat_eq name base.now ≡ true) result.now }
 {
     let first = names.partition_point(|name| is_before(name, base));

@@ -4,7 +4,7 @@ ghost use Rattle.std.specs.Ordering.{is_lt};
 ghost use Rattle.std.specs.List.Sorted.{IsPermutation, IsStrictlySortedBy};
 ghost use Rattle.std.specs.List.{dedup};
 ghost use Rattle.lr_rules.specs.Limits.{is_format, or_none};
-ghost use Rattle.lr_family.specs.Listed.{AreRising};
+ghost use Rattle.lr_family.specs.Listed.{NamesRise};
 ghost use Rattle.lr_family.specs.Spots.{by_path, HasSpots, AreSpots, AddsSpot};
 
 use crate::name::{path_in, place_in};
@@ -53,7 +53,7 @@ fn spots_in(alloc: Global, naming: &Naming, names: &[Text]) -> Result<Vec<Spot>,
 // The same of names in order of bytes: those that begin as a member's are enough.
 fn spots_with(alloc: Global, naming: &Naming, names: &[Text]) -> Result<Vec<Spot>, Memory>
     requires format { or_none is_format naming.now.dated ≡ true }
-    requires rising { AreRising names.now }
+    requires rising { NamesRise names.now }
     ensures { IfOk result (λ spots. HasSpots naming.now names.now spots.items) }
 {
     spots_in(alloc, naming, names_with(names, naming.base.bytes()))
@@ -83,7 +83,7 @@ fn sort_rising(naming: &Naming, names: &[Text], spots: &mut Vec<Spot>)
 /// The members among the names, each once, in order of the bytes of their paths.
 pub fn spots_among(alloc: Global, naming: &Naming, names: &[Text]) -> Result<Vec<Spot>, Memory>
     requires format { or_none is_format naming.now.dated ≡ true }
-    requires rising { AreRising names.now }
+    requires rising { NamesRise names.now }
     ensures { IfOk result (λ spots. AreSpots naming.now names.now spots.items) }
 {
     let mut spots = spots_with(alloc, naming, names)?;

@@ -4,7 +4,7 @@ ghost use Rattle.lr_rules.specs.Limits.{is_format, or_none};
 ghost use Rattle.lr_host.specs.Told.{Left, Onward, Rose};
 ghost use Rattle.lr_family.specs.Among.{ShowsIn, ShowsNoneIn};
 ghost use Rattle.lr_family.specs.Places.{AreNamed};
-ghost use Rattle.lr_family.specs.Stands.{AreNewestFirst, IsFailedCall};
+ghost use Rattle.lr_family.specs.Stands.{AreNewestFirst, IsFailedStand};
 
 use crate::listing::Listing;
 use crate::members::members_among;
@@ -29,7 +29,7 @@ pub fn stand_among<H: Host>(
         (H.told host.new)) }
     ensures named { IfOk result (λ stand. AreNamed naming.now stand.members) }
     ensures newest { IfOk result (λ stand. AreNewestFirst stand.members) }
-    ensures cause { IfErr result (λ stop. IsFailedCall stop → Rose (H.counts host.old).faults (H.counts host.new).faults) }
+    ensures cause { IfErr result (λ stop. IsFailedStand stop → Rose (H.counts host.old).faults (H.counts host.new).faults) }
     ensures counts { Onward (H.counts host.old) (H.counts host.new) }
 {
     let there = listing.there();

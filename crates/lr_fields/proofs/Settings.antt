@@ -20,7 +20,7 @@ use Rattle.lr_rules.specs.declared.rule.Way.TheVariants as way
 use Rattle.lr_fields.specs.declared.fields.Fields.{Fields}
 use Rattle.lr_forms.specs.declared.set.Set.{Set}
 use Rattle.lr_forms.specs.declared.set.Set.TheVariants as set
-use Rattle.lr_fields.specs.Fields.{fields_of, last_or, last_set, criterion_set, count_set, maxage_set, minage_set, minsize_set, maxsize_set, ifempty_set, missingok_set, ignore_set, start_set, extension_set, addextension_set, olddir_set, createolddir_set, create_set, mail_set, mailfirst_set, shared_set, first_set, pre_set, post_set, last_script_set, preremove_set, dated_set, pieces_set, back_set, serial_set, names_way, undoes, way_of}
+use Rattle.lr_fields.specs.Fields.{fields_of, last_or, last_set, criterion_set, count_set, maxage_set, minage_set, minsize_set, maxsize_set, ifempty_set, missingok_set, ignore_set, start_set, extension_set, addextension_set, olddir_set, createolddir_set, create_set, mail_set, mailfirst_set, shared_set, first_set, pre_set, post_set, last_script_set, preremove_set, dated_set, pieces_set, back_set, serial_set, names_way, undoes, last_way}
 use Rattle.lr_fields.specs.Setting.{with_set, without}
 
 abbrev given_or : {A : Type 0} → Option A → A → A
@@ -163,10 +163,10 @@ only_way (set.Serial b) h = absurd (cc)
 only_way (set.Script phase t) h = absurd (cc)
 
 -- behind a setting that names a way
-way-step : (w : Way) (us : List Set) (v : Set) → way_of (us ++ v ∷ []) ≡ way_behind v (way_of us) → way_of (set.Way w ∷ us ++ v ∷ []) ≡ way_behind v (way_of (set.Way w ∷ us))
+way-step : (w : Way) (us : List Set) (v : Set) → last_way (us ++ v ∷ []) ≡ way_behind v (last_way us) → last_way (set.Way w ∷ us ++ v ∷ []) ≡ way_behind v (last_way (set.Way w ∷ us))
 way-step w us v rest =
-    ap (λ b. by_more w b (way_of (us ++ v ∷ [])) (list_any (undoes w) (us ++ v ∷ []))) (any-push names_way us v)
-    ∙ ap (λ b. by_more w (list_any names_way us || names_way v) (way_of (us ++ v ∷ [])) b) (any-push (undoes w) us v)
+    ap (λ b. by_more w b (last_way (us ++ v ∷ [])) (list_any (undoes w) (us ++ v ∷ []))) (any-push names_way us v)
+    ∙ ap (λ b. by_more w (list_any names_way us || names_way v) (last_way (us ++ v ∷ [])) b) (any-push (undoes w) us v)
     ∙ ap (λ r. by_more w (list_any names_way us || names_way v) r (list_any (undoes w) us || undoes w v)) rest
     ∙ by_tests (list_any names_way us) (names_way v) refl (list_any (undoes w) us)
   where
@@ -176,13 +176,13 @@ way-step w us v rest =
     same : (v : Set) → names_way v ≡ true → (x y : Way) → way_behind v x ≡ way_behind v y
     same v h x y = let o = only_way v h in ap (λ s. way_behind s x) o.1 ∙ sym (ap (λ s. way_behind s y) o.1)
 
-    by_tests : (n m : Bool) → names_way v ≡ m → (g : Bool) → by_more w (n || m) (way_behind v (way_of us)) (g || undoes w v) ≡ way_behind v (by_more w n (way_of us) g)
+    by_tests : (n m : Bool) → names_way v ≡ m → (g : Bool) → by_more w (n || m) (way_behind v (last_way us)) (g || undoes w v) ≡ way_behind v (by_more w n (last_way us) g)
     by_tests true m is g = refl
-    by_tests false true is g = same v is (way_of us) (cond g way.Rename w)
+    by_tests false true is g = same v is (last_way us) (cond g way.Rename w)
     by_tests false false is true = sym (still_rename v is)
     by_tests false false is false = undone w v is
 
-way-push : (vs : List Set) (v : Set) → way_of (vs ++ v ∷ []) ≡ way_behind v (way_of vs)
+way-push : (vs : List Set) (v : Set) → last_way (vs ++ v ∷ []) ≡ way_behind v (last_way vs)
 way-push [] (set.Way w) = refl
 way-push [] (set.NotWay way.Rename) = refl
 way-push [] (set.NotWay way.Copy) = refl

@@ -150,13 +150,13 @@ undoes way.RenameCopy (set.NotWay way.RenameCopy) = true
 undoes w s = false
 
 -- the way of the last setting that names one, unless one behind it undoes that way
-abbrev pub way_of : List Set → Way
-way_of [] = way.Rename
-way_of (set.Way w ∷ more) =
-    if list_any names_way more then way_of more
+abbrev pub last_way : List Set → Way
+last_way [] = way.Rename
+last_way (set.Way w ∷ more) =
+    if list_any names_way more then last_way more
     else if list_any (undoes w) more then way.Rename
     else w
-way_of (s ∷ more) = way_of more
+last_way (s ∷ more) = last_way more
 
 -- ---- all fields
 
@@ -181,7 +181,7 @@ fields_of settings = record {
     addextension = last_set addextension_set None settings;
     olddir = last_set olddir_set None settings;
     createolddir = last_set createolddir_set make.No settings;
-    way = way_of settings;
+    way = last_way settings;
     create = last_set create_set make.No settings;
     mail = last_set mail_set None settings;
     mailfirst = last_set mailfirst_set false settings;

@@ -14,7 +14,7 @@ use Rattle.lr_include.specs.Lacking.{LacksReading}
 use Rattle.lr_due.specs.declared.tz.Zone.{Zone}
 use Rattle.lr_plan.specs.Asked.{asking}
 use Rattle.lr_plan.specs.declared.plan.Plan.{Plan}
-use Rattle.lr_run.specs.Answers.{Leaves, Holds, Lacks}
+use Rattle.lr_run.specs.Answers.{RunLeaves, Holds, Lacks}
 use Rattle.lr_run.specs.Halt.{Halt, OfFaults, OfLock, OfMemory, Halts}
 use Rattle.lr_run.specs.Work.{ShowsWork, run_entries}
 use Rattle.lr_run.proofs.Leaving.{halt_left, carried_left, tried_left}
@@ -24,7 +24,7 @@ use Rattle.lr_report.specs.declared.outcome.Outcome.{Outcome}
 use Rattle.lr_report.specs.declared.outcome.Outcome.TheVariants.{Done, BadWords, Held, OutOfMemory}
 use Rattle.lr_report.specs.declared.outcome.Report.{Report}
 use Rattle.lr_cli.specs.Asked.{AskFor}
-use Rattle.lr_cli.specs.Called.{Came, asked_by, answer_by, Tells, Ends, ConfsHalt, no_reading, no_plan, no_clock as call_no_clock, no_zone, behind_clock, CallEnds, halted, called as call_called, CallShows, not_read as call_not_read, read as call_read}
+use Rattle.lr_cli.specs.Called.{Came, asked_in, answer_by, Tells, PlanEnds, ConfsHalt, no_reading, no_plan, no_clock as call_no_clock, no_zone, behind_clock, CallEnds, halted, called as call_called, CallShows, not_read as call_not_read, read as call_read}
 use Rattle.lr_clock.specs.Clock.{ShowsClock, LacksClock}
 use Rattle.lr_clock.specs.Zone.{LacksZoneMemory}
 
@@ -36,7 +36,7 @@ pub record Reports (request : Request) (clock : Clock) (plan : Option Plan) (not
   pub rules_are : rules.sets ≡ meaning.rules
   pub notices_are : notices ≡ meaning.notices
   pub faults_are : faults ≡ meaning.faults ++ own
-  pub entries : Then (Reads request.confs meaning) (Leaves request.settings.debug request.settings.state (asking request.settings.force request.settings.mailer) clock rules plan own) ts
+  pub entries : Then (Reads request.confs meaning) (RunLeaves request.settings.debug request.settings.state (asking request.settings.force request.settings.mailer) clock rules plan own) ts
 
 -- The configuration was read, and the state's directory was seen; the lock was another's.
 pub record FindsLock (request : Request) (ts : List Entry) : Type 0 where
@@ -73,7 +73,7 @@ module _ (request : Request) (clock : Clock) (plan : Option Plan) where
   halt_answers outcome ts lost (no_reading is l) = subst (λ (o : Outcome). Answers request clock plan o ts) (sym is) (lost, at_confs l)
   halt_answers outcome ts lost (no_plan meaning rules halt same is t) = subst (λ (o : Outcome). Answers request clock plan o ts) (sym is) (go halt t)
     where
-      go : (h : Halt) → Then (Reads request.confs meaning) (Halts request.settings.debug request.settings.state rules clock (asked_by request) h) ts → Answers request clock plan (answer_by meaning h) ts
+      go : (h : Halt) → Then (Reads request.confs meaning) (Halts request.settings.debug request.settings.state rules clock (asked_in request) h) ts → Answers request clock plan (answer_by meaning h) ts
       go (OfFaults own) u = record {
         meaning = meaning;
         rules = rules;
@@ -81,20 +81,20 @@ module _ (request : Request) (clock : Clock) (plan : Option Plan) where
         rules_are = same;
         notices_are = refl;
         faults_are = refl;
-        entries = record { front = u.front; back = u.back; joined = u.joined; first = u.first; second = halt_left request.settings.state rules clock (asked_by request) plan lost u.back request.settings.debug (OfFaults own) u.second };
+        entries = record { front = u.front; back = u.back; joined = u.joined; first = u.first; second = halt_left request.settings.state rules clock (asked_in request) plan lost u.back request.settings.debug (OfFaults own) u.second };
       }
-      go OfLock u = (lost, record { meaning = meaning; entries = record { front = u.front; back = u.back; joined = u.joined; first = u.first; second = halt_left request.settings.state rules clock (asked_by request) plan lost u.back request.settings.debug OfLock u.second } })
-      go OfMemory u = (lost, at_run meaning rules same (record { front = u.front; back = u.back; joined = u.joined; first = u.first; second = halt_left request.settings.state rules clock (asked_by request) plan lost u.back request.settings.debug OfMemory u.second }))
+      go OfLock u = (lost, record { meaning = meaning; entries = record { front = u.front; back = u.back; joined = u.joined; first = u.first; second = halt_left request.settings.state rules clock (asked_in request) plan lost u.back request.settings.debug OfLock u.second } })
+      go OfMemory u = (lost, at_run meaning rules same (record { front = u.front; back = u.back; joined = u.joined; first = u.first; second = halt_left request.settings.state rules clock (asked_in request) plan lost u.back request.settings.debug OfMemory u.second }))
 
   -- a run that came to its plan and has a report
-  work_leaves : (debug : Bool) (c : Came) (report : Report) → c.clock ≡ clock → ShowsWork debug request.settings.state c.rules.sets c.clock (asked_by request) c.work → Ends debug request c plan (Done report)
-      → Leaves debug request.settings.state (asked_by request) clock c.rules plan (faults_of c.work) (run_entries debug request.settings.state c.clock c.rules c.work)
-  work_leaves true c report at shows e = subst (λ (x : Clock). Leaves true request.settings.state (asked_by request) x c.rules plan (faults_of c.work) (run_entries true request.settings.state c.clock c.rules c.work)) at
-      (subst (λ (p : Option Plan). Leaves true request.settings.state (asked_by request) c.clock c.rules p (faults_of c.work) (run_entries true request.settings.state c.clock c.rules c.work)) (sym e.0.plan) (tried_left request.settings.state c.rules c.clock (asked_by request) c.work shows e.1))
-  work_leaves false c report at shows e = subst (λ (x : Clock). Leaves false request.settings.state (asked_by request) x c.rules plan (faults_of c.work) (run_entries false request.settings.state c.clock c.rules c.work)) at
-      (subst (λ (p : Option Plan). Leaves false request.settings.state (asked_by request) c.clock c.rules p (faults_of c.work) (run_entries false request.settings.state c.clock c.rules c.work)) (sym e.0.plan) (carried_left request.settings.state c.rules c.clock (asked_by request) c.work shows e.1))
+  work_leaves : (debug : Bool) (c : Came) (report : Report) → c.clock ≡ clock → ShowsWork debug request.settings.state c.rules.sets c.clock (asked_in request) c.work → PlanEnds debug request c plan (Done report)
+      → RunLeaves debug request.settings.state (asked_in request) clock c.rules plan (faults_of c.work) (run_entries debug request.settings.state c.clock c.rules c.work)
+  work_leaves true c report at shows e = subst (λ (x : Clock). RunLeaves true request.settings.state (asked_in request) x c.rules plan (faults_of c.work) (run_entries true request.settings.state c.clock c.rules c.work)) at
+      (subst (λ (p : Option Plan). RunLeaves true request.settings.state (asked_in request) c.clock c.rules p (faults_of c.work) (run_entries true request.settings.state c.clock c.rules c.work)) (sym e.0.plan) (tried_left request.settings.state c.rules c.clock (asked_in request) c.work shows e.1))
+  work_leaves false c report at shows e = subst (λ (x : Clock). RunLeaves false request.settings.state (asked_in request) x c.rules plan (faults_of c.work) (run_entries false request.settings.state c.clock c.rules c.work)) at
+      (subst (λ (p : Option Plan). RunLeaves false request.settings.state (asked_in request) c.clock c.rules p (faults_of c.work) (run_entries false request.settings.state c.clock c.rules c.work)) (sym e.0.plan) (carried_left request.settings.state c.rules c.clock (asked_in request) c.work shows e.1))
 
-told_of : (debug : Bool) (request : Request) (c : Came) (plan : Option Plan) (report : Report) → Ends debug request c plan (Done report) → Tells c plan report
+told_of : (debug : Bool) (request : Request) (c : Came) (plan : Option Plan) (report : Report) → PlanEnds debug request c plan (Done report) → Tells c plan report
 told_of true request c plan report e = e.0
 told_of false request c plan report e = e.0
 

@@ -10,9 +10,9 @@ use Rattle.lr_family.specs.declared.family.Family.{Family}
 use Rattle.lr_family.specs.Parts.{IsMember}
 use Rattle.lr_kept.specs.declared.choice.Choice.{Choice}
 use Rattle.lr_kept.specs.declared.choice.Choice.TheVariants.{Kept, Again, MemberOf, Reserved, Meets}
-use Rattle.lr_kept.specs.Chosen.{Both, HaveOnePath, IsMemberOf, IsMatchedMember, HasReserved, MeetAt, IsNew, IsChoice, AreChosen}
+use Rattle.lr_kept.specs.Chosen.{BothLogs, HaveOnePath, IsMemberOf, IsMatchedMember, HasReserved, MeetAt, IsNew, IsChoice, AreChosen}
 use Rattle.lr_kept.proofs.Fixed.{one_choice}
-use Rattle.lr_looks.specs.Choices.{names_of, is_wild, IsChoiceAmong}
+use Rattle.lr_looks.specs.Choices.{chosen_names, is_wild, IsChoiceAmong}
 use Rattle.lr_looks.specs.Found.{FoundLog}
 
 -- the path of a log, and the names of its members
@@ -28,19 +28,19 @@ tail_of : (x y : Named) (xs ys : List Named) → x ∷ xs ≡ y ∷ ys → xs �
 tail_of x y xs ys e = cc
 
 -- at each place stands one with the same path and names
-read_alike : (logs more : List (Bor Family)) → map names_of logs ≡ map names_of more → (k : ℕ) (x : Bor Family) → slice_get logs k ≡ Some x → (y : Bor Family) × (slice_get more k ≡ Some y) × (names_of x ≡ names_of y)
+read_alike : (logs more : List (Bor Family)) → map chosen_names logs ≡ map chosen_names more → (k : ℕ) (x : Bor Family) → slice_get logs k ≡ Some x → (y : Bor Family) × (slice_get more k ≡ Some y) × (chosen_names x ≡ chosen_names y)
 read_alike [] more e k x h = absurd (cc h)
 read_alike (z ∷ zs) [] e k x h = absurd (cc e)
-read_alike (z ∷ zs) (y ∷ ys) e zero x h = (y, refl, ap names_of (sym (same_Some z x h)) ∙ head_of (names_of z) (names_of y) (map names_of zs) (map names_of ys) e)
-read_alike (z ∷ zs) (y ∷ ys) e (suc k) x h = read_alike zs ys (tail_of (names_of z) (names_of y) (map names_of zs) (map names_of ys) e) k x h
+read_alike (z ∷ zs) (y ∷ ys) e zero x h = (y, refl, ap chosen_names (sym (same_Some z x h)) ∙ head_of (chosen_names z) (chosen_names y) (map chosen_names zs) (map chosen_names ys) e)
+read_alike (z ∷ zs) (y ∷ ys) e (suc k) x h = read_alike zs ys (tail_of (chosen_names z) (chosen_names y) (map chosen_names zs) (map chosen_names ys) e) k x h
 
-module _ (logs more : List (Bor Family)) (e : map names_of logs ≡ map names_of more) where
+module _ (logs more : List (Bor Family)) (e : map chosen_names logs ≡ map chosen_names more) where
   -- what holds of the paths and names at two places does so in both
-  both_to : (Q : Named → Named → Type 0) (i k : ℕ) → Both (λ f g. Q (f.log, f.naming) (g.log, g.naming)) logs i k → Both (λ f g. Q (f.log, f.naming) (g.log, g.naming)) more i k
+  both_to : (Q : Named → Named → Type 0) (i k : ℕ) → BothLogs (λ f g. Q (f.log, f.naming) (g.log, g.naming)) logs i k → BothLogs (λ f g. Q (f.log, f.naming) (g.log, g.naming)) more i k
   both_to Q i k b =
       let x = read_alike logs more e i b.one b.at_one in
       let y = read_alike logs more e k b.other b.at_other in
-      record { one = x.0; other = y.0; at_one = x.1; at_other = y.1; holds = subst (λ v. Q v (names_of y.0)) x.2 (subst (Q (names_of b.one)) y.2 b.holds) }
+      record { one = x.0; other = y.0; at_one = x.1; at_other = y.1; holds = subst (λ v. Q v (chosen_names y.0)) x.2 (subst (Q (chosen_names b.one)) y.2 b.holds) }
 
   -- so does it that they have one path
   path_to : (i k : ℕ) → HaveOnePath logs i k → HaveOnePath more i k
@@ -61,14 +61,14 @@ module _ (logs more : List (Bor Family)) (e : map names_of logs ≡ map names_of
       record { log = x.0; path = b.path; at_log = x.1; at_path = b.at_path; named = subst (λ (v : Named). IsName v.0 v.1 b.path) x.2 b.named }
 
 -- a path that wasn't found before
-new_to : (logs more : List (Bor Family)) → map names_of logs ≡ map names_of more → (k : ℕ) → IsNew logs k → IsNew more k
+new_to : (logs more : List (Bor Family)) → map chosen_names logs ≡ map chosen_names more → (k : ℕ) → IsNew logs k → IsNew more k
 new_to logs more e k h i lt b = h i lt (path_to more logs (sym e) i k b)
 
 -- a wildcard's match that is a member of another log
-matched_to : (logs more : List (Bor Family)) → map names_of logs ≡ map names_of more → (wild : List Bool) (k i : ℕ) → IsMatchedMember logs wild k i → IsMatchedMember more wild k i
+matched_to : (logs more : List (Bor Family)) → map chosen_names logs ≡ map chosen_names more → (wild : List Bool) (k i : ℕ) → IsMatchedMember logs wild k i → IsMatchedMember more wild k i
 matched_to logs more e wild k i h = record { matched = h.matched; other = h.other; new = new_to logs more e i h.new; member = member_to logs more e i k h.member }
 
-module _ (logs more : List (Bor Family)) (e : map names_of logs ≡ map names_of more) (wild : List Bool) (reserved : List Path) (choices : List Choice) where
+module _ (logs more : List (Bor Family)) (e : map chosen_names logs ≡ map chosen_names more) (wild : List Bool) (reserved : List Path) (choices : List Choice) where
   new : (k : ℕ) → IsNew logs k → IsNew more k
   new = new_to logs more e
 
@@ -86,7 +86,7 @@ module _ (logs more : List (Bor Family)) (e : map names_of logs ≡ map names_of
 
   -- the choices are those for any logs with the same paths and names
   chosen_to : AreChosen logs wild reserved choices → AreChosen more wild reserved choices
-  chosen_to h = record { as_many = h.as_many ∙ (sym (length-map logs names_of) ∙ (ap length e ∙ length-map more names_of)); each = λ k c at. choice_to k c (h.each k c at) }
+  chosen_to h = record { as_many = h.as_many ∙ (sym (length-map logs chosen_names) ∙ (ap length e ∙ length-map more chosen_names)); each = λ k c at. choice_to k c (h.each k c at) }
 
 -- there is one choice among the logs that were found
 pub choices_one : (reserved : List Path) (found : List FoundLog) (choices others : List Choice) → IsChoiceAmong reserved found choices → IsChoiceAmong reserved found others → choices ≡ others

@@ -16,7 +16,7 @@ use Rattle.lr_rules.specs.Path.{path_fault, is_slash, is_absolute, has_bad_byte,
 use Rattle.lr_host.specs.Lists.{IsIn}
 use Rattle.lr_host.proofs.Lists.{in_unmap, in_append}
 use Rattle.lr_glob.proofs.Literals.{literal_scalars}
-use Rattle.lr_looks.specs.Asked.{Word, word_of, words_of, words_from, asked_by, AreTexts}
+use Rattle.lr_looks.specs.Asked.{Word, word_of, rule_words, words_from, asked_by, AreTexts}
 use Rattle.lr_seen.proofs.Gives.{all_in, text_in}
 
 -- ---- the bytes of a character
@@ -151,12 +151,12 @@ HavePaths words = (w : Word) → IsIn w words → is_wildcard w.text ≡ false �
 
 meets_from : (k : ℕ) (rules : List Rule) → list_all meets_limits rules ≡ true → (w : Word) → IsIn w (words_from k rules) → is_log_word w.text ≡ true
 meets_from k [] limits w i = absurd i
-meets_from k (rule ∷ rules) limits w i = ⊎_elim own (λ (j : IsIn w (words_from (k + 1) rules)). meets_from (k + 1) rules both.1 w j) (in_append w (words_of k rule) (words_from (k + 1) rules) i)
+meets_from k (rule ∷ rules) limits w i = ⊎_elim own (λ (j : IsIn w (words_from (k + 1) rules)). meets_from (k + 1) rules both.1 w j) (in_append w (rule_words k rule) (words_from (k + 1) rules) i)
   where
     both : (meets_limits rule ≡ true) × (list_all meets_limits rules ≡ true)
     both = and_parts (meets_limits rule) (list_all meets_limits rules) limits
 
-    own : IsIn w (words_of k rule) → is_log_word w.text ≡ true
+    own : IsIn w (rule_words k rule) → is_log_word w.text ≡ true
     own j =
         let r = in_unmap (word_of k rule) w rule.words j in
         subst (λ (v : Word). is_log_word v.text ≡ true) r.2 (all_in is_log_word rule.words r.0 (and_parts (list_all is_log_word rule.words) _ both.0).0 r.1)

@@ -21,7 +21,7 @@ use Rattle.lr_plan.specs.Done.{SetsDone}
 use Rattle.lr_plan.specs.Planned.{all_plans}
 use Rattle.lr_plan.specs.Steps.{steps_of_set}
 use Rattle.lr_laws_targets.specs.Target.{Target}
-use Rattle.lr_laws_targets.specs.Apart.{HaveNames}
+use Rattle.lr_laws_targets.specs.Apart.{TargetsHaveNames}
 use Rattle.lr_laws_targets.proofs.Own.{part_file_own}
 use Rattle.lr_weave.specs.Parts.{MakesOnly, MakesOne}
 use Rattle.lr_weave.proofs.Parting.{sets_parts}
@@ -36,13 +36,13 @@ use Rattle.lr_seen.proofs.Seen.{targets_have_names}
 use Rattle.lr_fixed.proofs.Writing.{is_make, makes_in}
 
 -- what they make is no file that the run reserves for itself
-not_reserved : (reserved : List Path) (ts : List Target) (x part : Path) (mode : Option ℕ) → HaveNames ts → AreFreeOf reserved ts → IsIn part reserved → MakesOne ts (entry.Makes x mode) → x ≡ part → ⊥
+not_reserved : (reserved : List Path) (ts : List Target) (x part : Path) (mode : Option ℕ) → TargetsHaveNames ts → AreFreeOf reserved ts → IsIn part reserved → MakesOne ts (entry.Makes x mode) → x ≡ part → ⊥
 not_reserved reserved [] x part mode names free i h e = h
 not_reserved reserved (t ∷ ts) x part mode names free i (inl (inl is)) e = free.0 part i (inl (the_log (sym e ∙ is)))
 not_reserved reserved (t ∷ ts) x part mode names free i (inl (inr p)) e = free.0 part i (inl (subst (IsOwnName t.log t.naming) (sym p.2 ∙ e) (part_file_own t names.0 p.0 p.1)))
 not_reserved reserved (t ∷ ts) x part mode names free i (inr h) e = not_reserved reserved ts x part mode names.1 free.1 i h e
 
-no_make : (reserved : List Path) (ts : List Target) (part : Path) (e : Entry) → HaveNames ts → AreFreeOf reserved ts → IsIn part reserved → MakesOnly (MakesOne ts) e → is_make part e ≡ false
+no_make : (reserved : List Path) (ts : List Target) (part : Path) (e : Entry) → TargetsHaveNames ts → AreFreeOf reserved ts → IsIn part reserved → MakesOnly (MakesOne ts) e → is_make part e ≡ false
 no_make reserved ts part (entry.Makes x mode) names free i h = go (bytes_eq x part) refl
   where
     go : (b : Bool) → bytes_eq x part ≡ b → b ≡ false

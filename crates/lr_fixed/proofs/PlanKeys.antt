@@ -24,7 +24,7 @@ use Rattle.lr_plan.specs.Steps.{steps_of_set}
 use Rattle.lr_acts.specs.Making.{all_of_sets}
 use Rattle.lr_looks.specs.Shown.{ShowsLooks}
 use Rattle.lr_laws_targets.specs.Target.{Target, source_of}
-use Rattle.lr_laws_targets.specs.Apart.{HasNames, HaveNames}
+use Rattle.lr_laws_targets.specs.Apart.{HasNames, TargetsHaveNames}
 use Rattle.lr_weave.specs.Fitting.{NoneMeets, DontMeet}
 use Rattle.lr_weave.specs.Planned.{IsReadyFor, AreReadyFor, HaveLogs}
 use Rattle.lr_seen.specs.Free.{IsFreeOf}
@@ -197,19 +197,19 @@ abbrev IsOfSome : List Target → Key → Type 0
 IsOfSome ts k = (t : Target) × IsIn t ts × IsKeyOf t k
 
 module _ (f : Target → List Key) (own : AreOwn f) where
-  some_own : (ts : List Target) (k : Key) → HaveNames ts → IsIn k (flat_map f ts) → IsOfSome ts k
+  some_own : (ts : List Target) (k : Key) → TargetsHaveNames ts → IsIn k (flat_map f ts) → IsOfSome ts k
   some_own [] k h i = absurd i
   some_own (t ∷ ts) k h i = ⊎_elim (λ a. (t, inl refl, own t h.0 k a)) (λ b. let r = some_own ts k h.1 b in (r.0, inr r.1, r.2)) (in_append k (f t) (flat_map f ts) i)
 
   -- what is done to a log that meets none of these is none of theirs
-  keys_off : (t : Target) (us : List Target) (k : Key) → NoneMeets t us → HaveNames us → IsKeyOf t k → IsIn k (flat_map f us) → ⊥
+  keys_off : (t : Target) (us : List Target) (k : Key) → NoneMeets t us → TargetsHaveNames us → IsKeyOf t k → IsIn k (flat_map f us) → ⊥
   keys_off t us k m h i j = let r = some_own us k h j in key_off t r.0 k (meets_none t r.0 us m r.1) i r.2
 
-  half_once : AreOnce f → (ts : List Target) → DontMeet ts → HaveNames ts → AreDistinct (flat_map f ts)
+  half_once : AreOnce f → (ts : List Target) → DontMeet ts → TargetsHaveNames ts → AreDistinct (flat_map f ts)
   half_once once [] d h = tt
   half_once once (t ∷ ts) d h = once_both (f t) (flat_map f ts) (once t h.0) (half_once once ts d.1 h.1) (λ k i j. keys_off t ts k d.0 h.1 (own t h.0 k i) j)
 
-halves_off : (ts : List Target) → DontMeet ts → HaveNames ts → HaveNoneOf (flat_map first_in ts) (flat_map second_in ts)
+halves_off : (ts : List Target) → DontMeet ts → TargetsHaveNames ts → HaveNoneOf (flat_map first_in ts) (flat_map second_in ts)
 halves_off [] d h k i j = i
 halves_off (t ∷ ts) d h k i j = ⊎_elim
     (λ a. ⊎_elim (λ b. half_off t h.0 k a b) (λ b. keys_off second_in second_own t ts k d.0 h.1 (first_own t h.0 k a) b) (in_append k (second_in t) (flat_map second_in ts) j))
@@ -217,11 +217,11 @@ halves_off (t ∷ ts) d h k i j = ⊎_elim
     (in_append k (first_in t) (flat_map first_in ts) i)
 
 -- of a definition
-group_once : (b : Bool) (ts : List Target) → DontMeet ts → HaveNames ts → AreDistinct (target_keys b ts)
+group_once : (b : Bool) (ts : List Target) → DontMeet ts → TargetsHaveNames ts → AreDistinct (target_keys b ts)
 group_once true ts d h = once_both (flat_map first_in ts) (flat_map second_in ts) (half_once first_in first_own first_once ts d h) (half_once second_in second_own second_once ts d h) (halves_off ts d h)
 group_once false ts d h = half_once both_in both_own both_once ts d h
 
-group_own : (b : Bool) (ts : List Target) (k : Key) → HaveNames ts → IsIn k (target_keys b ts) → IsOfSome ts k
+group_own : (b : Bool) (ts : List Target) (k : Key) → TargetsHaveNames ts → IsIn k (target_keys b ts) → IsOfSome ts k
 group_own true ts k h i = ⊎_elim (λ a. some_own first_in first_own ts k h a) (λ b. some_own second_in second_own ts k h b) (in_append k (flat_map first_in ts) (flat_map second_in ts) i)
 group_own false ts k h i = some_own both_in both_own ts k h i
 
@@ -230,7 +230,7 @@ group_own false ts k h i = some_own both_in both_own ts k h i
 abbrev all_of : List (List Target) → List Target
 all_of groups = flat_map (λ (ts : List Target). ts) groups
 
-names_split : (xs ys : List Target) → HaveNames (xs ++ ys) → HaveNames xs × HaveNames ys
+names_split : (xs ys : List Target) → TargetsHaveNames (xs ++ ys) → TargetsHaveNames xs × TargetsHaveNames ys
 names_split [] ys h = (tt, h)
 names_split (x ∷ xs) ys h = let r = names_split xs ys h.1 in ((h.0, r.0), r.1)
 
@@ -252,7 +252,7 @@ off_split (x ∷ xs) ys d = let r = off_split xs ys d.1 in (
       (λ l. r.2 t u l j m) i,
 )
 
-groups_own : (groups : List (List Target)) (sets : List SetPlan) (k : Key) → HaveNames (all_of groups) → IsIn k (groups_keys groups sets) → IsOfSome (all_of groups) k
+groups_own : (groups : List (List Target)) (sets : List SetPlan) (k : Key) → TargetsHaveNames (all_of groups) → IsIn k (groups_keys groups sets) → IsOfSome (all_of groups) k
 groups_own [] ss k h i = absurd i
 groups_own (g ∷ gs) [] k h i = absurd i
 groups_own (g ∷ gs) (s ∷ ss) k h i = let n = names_split g (all_of gs) h in ⊎_elim
@@ -260,7 +260,7 @@ groups_own (g ∷ gs) (s ∷ ss) k h i = let n = names_split g (all_of gs) h in 
     (λ b. let r = groups_own gs ss k n.1 b in (r.0, in_back r.0 g (all_of gs) r.1, r.2))
     (in_append k (target_keys s.shared g) (groups_keys gs ss) i)
 
-groups_once : (groups : List (List Target)) (sets : List SetPlan) → DontMeet (all_of groups) → HaveNames (all_of groups) → AreDistinct (groups_keys groups sets)
+groups_once : (groups : List (List Target)) (sets : List SetPlan) → DontMeet (all_of groups) → TargetsHaveNames (all_of groups) → AreDistinct (groups_keys groups sets)
 groups_once [] ss d h = tt
 groups_once (g ∷ gs) [] d h = tt
 groups_once (g ∷ gs) (s ∷ ss) d h =
@@ -281,7 +281,7 @@ module _ {reserved : List Path} (rules : Rules) (sets : List SetLooks) (faults :
   keys_are : keys_of (all_of_sets (map steps_of_set (all_plans clock mailer decide rules.sets sets))) ≡ groups_keys (groups_of clock decide rules.sets sets) (all_plans clock mailer decide rules.sets sets)
   keys_are = sets_are plans ∙ groups_are groups plans (plans_have_logs rules.sets sets faults ts clock mailer decide shown)
 
-  names : HaveNames (all_targets clock decide rules.sets sets)
+  names : TargetsHaveNames (all_targets clock decide rules.sets sets)
   names = targets_have_names rules sets faults ts clock decide shown
 
   pub plan_once : AreDistinct (keys_of (all_of_sets (map steps_of_set (all_plans clock mailer decide rules.sets sets))))

@@ -23,7 +23,7 @@ use Rattle.lr_plan.specs.Asked.{Asked}
 use Rattle.lr_plan.specs.declared.looks.LogLook.{LogLook}
 use Rattle.lr_plan.specs.declared.looks.SetLooks.{SetLooks}
 use Rattle.lr_plan.specs.declared.plan.LogPlan.{LogPlan}
-use Rattle.lr_plan.specs.Planned.{decision, dir_of, stand_for, standing, or_else, takes_up, first_path, aside_by, aside_hinders, hindrances, make_of, make_for, ready_for, job_by, plan_with, log_plan, none_hinders, plans_of, where_due, log_plans, unfinished, faults_of, log_faults, set_plan, all_plans, all_faults}
+use Rattle.lr_plan.specs.Planned.{decision, dir_of, stand_for, standing, or_else, takes_up, first_path, aside_by, aside_hinders, hindrances, make_of, make_for, ready_for, job_by, plan_with, log_plan, none_hinders, plans_of, where_due, log_plans, unfinished, due_faults, log_faults, set_plan, all_plans, all_faults}
 use Rattle.lr_looks.specs.Families.{LookedLog}
 use Rattle.lr_looks.specs.Sets.{looked_in}
 use Rattle.lr_fixed.specs.Alike.{AreAlikeFrom, AreAlike}
@@ -104,7 +104,7 @@ module _ (set : ℕ) (x y : LogLook) (e : looked_in set x ≡ looked_in set y) w
   hindered_same clock rule = either_same (what_hinders x.family.naming rule.count clock (stand_for rule x)) (what_hinders y.family.naming rule.count clock (stand_for rule y)) (aside_hinders rule.way x.path x.tmp) (aside_hinders rule.way y.path y.tmp)
       (members_same clock rule) (beside_same set x y e (aside_hinders rule.way))
 
-  told_same : (clock : Clock) (rule : Rule) → faults_of clock rule x ≡ faults_of clock rule y
+  told_same : (clock : Clock) (rule : Rule) → due_faults clock rule x ≡ due_faults clock rule y
   told_same clock rule = either_same (hindrances clock rule x) (hindrances clock rule y) (unfinished rule.way x.path x.tmp) (unfinished rule.way y.path y.tmp) (hindered_same clock rule) (beside_same set x y e (unfinished rule.way))
 
   rotated_same : (clock : Clock) (rule : Rule) → ready_for clock rule x ≡ ready_for clock rule y
@@ -148,7 +148,7 @@ module _ (table : List Row) (clock : Clock) (asked : Asked) where
   decide = decision table clock.now asked.force
 
   faults_same : (set : ℕ) (rule : Rule) (xs ys : List LogLook) → map (looked_in set) xs ≡ map (looked_in set) ys → log_faults clock rule (decide rule) xs ≡ log_faults clock rule (decide rule) ys
-  faults_same set rule xs ys e = all_same set (λ (l : LogLook). where_due (decide rule l) (faults_of clock rule l)) (λ x y h. where_same set x y h table clock.now asked.force rule (faults_of clock rule x) (faults_of clock rule y) (told_same set x y h clock rule)) xs ys e
+  faults_same set rule xs ys e = all_same set (λ (l : LogLook). where_due (decide rule l) (due_faults clock rule l)) (λ x y h. where_same set x y h table clock.now asked.force rule (due_faults clock rule x) (due_faults clock rule y) (told_same set x y h clock rule)) xs ys e
 
   logs_same : (set : ℕ) (rule : Rule) (xs ys : List LogLook) → map (looked_in set) xs ≡ map (looked_in set) ys → log_plans clock asked.mailer rule (decide rule) xs ≡ log_plans clock asked.mailer rule (decide rule) ys
   logs_same set rule xs ys e = all_same set (λ (l : LogLook). where_due (decide rule l) (plans_of clock asked.mailer rule l)) (λ x y h. where_same set x y h table clock.now asked.force rule (plans_of clock asked.mailer rule x) (plans_of clock asked.mailer rule y) (plans_same set x y h clock asked.mailer rule)) xs ys e

@@ -28,7 +28,7 @@ use Rattle.lr_due.specs.Zone.{IsClockIn}
 use Rattle.lr_host.specs.Counted.{call_in, calls_in}
 use Rattle.lr_plan.specs.Asked.{Asked, asking}
 use Rattle.lr_plan.specs.declared.plan.Plan.{Plan}
-use Rattle.lr_run.specs.Answers.{Leaves}
+use Rattle.lr_run.specs.Answers.{RunLeaves}
 use Rattle.lr_run.specs.Runs.{Runs, no_directory, not_seen, not_begun, began}
 use Rattle.lr_report.specs.declared.outcome.Outcome.TheVariants.{Done}
 use Rattle.lr_report.specs.declared.outcome.Report.{Report}
@@ -88,11 +88,11 @@ module _ (request : Request) (dry : request.settings.debug ≡ false) (clock : C
 
   -- the one run, and the other, over the rules and the entries of the one
   one_run : Runs request.settings.state (asking request.settings.force request.settings.mailer) clock p.rules plan p.own p.entries.back
-  one_run = subst (λ (b : Bool). Leaves b request.settings.state (asking request.settings.force request.settings.mailer) clock p.rules plan p.own p.entries.back) dry p.entries.second
+  one_run = subst (λ (b : Bool). RunLeaves b request.settings.state (asking request.settings.force request.settings.mailer) clock p.rules plan p.own p.entries.back) dry p.entries.second
 
   as_run : Runs request.settings.state (asking request.settings.force request.settings.mailer) clock p.rules another q.own p.entries.back
   as_run = subst (λ (r : Rules). Runs request.settings.state (asking request.settings.force request.settings.mailer) clock r another q.own p.entries.back) (sym rules_is) (subst (λ vs. Runs request.settings.state (asking request.settings.force request.settings.mailer) clock q.rules another q.own vs) (sym back_is)
-      (subst (λ (b : Bool). Leaves b request.settings.state (asking request.settings.force request.settings.mailer) clock q.rules another q.own q.entries.back) dry q.entries.second))
+      (subst (λ (b : Bool). RunLeaves b request.settings.state (asking request.settings.force request.settings.mailer) clock q.rules another q.own q.entries.back) dry q.entries.second))
 
   own_is : p.own ≡ q.own
   own_is = runs_one request.settings.state (asking request.settings.force request.settings.mailer) clock p.rules plan another p.own q.own p.entries.back one_run as_run
@@ -108,7 +108,7 @@ module _ (request : Request) (dry : request.settings.debug ≡ false) (clock : C
 
 reports_some : (request : Request) → request.settings.debug ≡ false → (clock : Clock) (plan : Option Plan) (notices : List Notice) (faults : List Fault) (ts : List Entry) → Reports request clock plan notices faults ts → calls_in faults ≡ 0 → ts ≡ [] → ⊥
 reports_some request dry clock plan notices faults ts p c none =
-    let l = run_look request.settings.state (asking request.settings.force request.settings.mailer) clock p.rules plan p.own p.entries.back (subst (λ (b : Bool). Leaves b request.settings.state (asking request.settings.force request.settings.mailer) clock p.rules plan p.own p.entries.back) dry p.entries.second) (none_behind faults p.meaning.faults p.own p.faults_are c) in
+    let l = run_look request.settings.state (asking request.settings.force request.settings.mailer) clock p.rules plan p.own p.entries.back (subst (λ (b : Bool). RunLeaves b request.settings.state (asking request.settings.force request.settings.mailer) clock p.rules plan p.own p.entries.back) dry p.entries.second) (none_behind faults p.meaning.faults p.own p.faults_are c) in
     let n : length ts ≡ 0 = ap (λ (l : List Entry). length l) none in
     let j : length ts ≡ length (p.entries.front ++ p.entries.back) = ap (λ (l : List Entry). length l) p.entries.joined in
     let m : length (p.entries.front ++ p.entries.back) ≡ length p.entries.front + length p.entries.back = length-append p.entries.front p.entries.back in

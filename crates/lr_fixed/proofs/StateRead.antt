@@ -11,9 +11,9 @@ use Rattle.lr_host.specs.declared.entry.Entry.{Entry}
 use Rattle.lr_host.specs.declared.entry.Entry.TheVariants as entry
 use Rattle.lr_host.specs.Counted.{call_in}
 use Rattle.lr_reading.specs.declared.look.LookStop.{LookStop}
-use Rattle.lr_reading.specs.Answers.{Known, IsKnownBy, IsKnownBehind, IsKnownOf, IsKnown, text_of}
+use Rattle.lr_reading.specs.Answers.{Known, IsKnownBy, IsKnownBehind, IsKnownOf, IsKnown, text_read}
 use Rattle.lr_reading.specs.Pieces.{Reading, Whole, Broken, AreSome, IsLast, IsReading, bytes_of, reads_from}
-use Rattle.lr_reading.specs.Sights.{Sight, Failed, Nothing, Saw, StateSights, ShowsState, found, look_of, text_entries, behind_part, part_entries, behind_state, entries_of}
+use Rattle.lr_reading.specs.Sights.{StateSight, Failed, Nothing, Saw, StateSights, ShowsState, found, state_look, text_entries, behind_part, part_entries, behind_state, state_entries}
 use Rattle.lr_reading.proofs.One.{one_answer}
 use Rattle.lr_fixed.proofs.Peeled.{front_same, saw_same}
 
@@ -34,11 +34,11 @@ pub record OnePart (ts us vs ws : List Entry) : Type 0 where
 -- ---- one look
 
 -- What two looks at a path have in common, and what follows them.
-record SameSight (a b : Sight) (vs ws : List Entry) : Type 0 where
+record SameSight (a b : StateSight) (vs ws : List Entry) : Type 0 where
   sight_is : a ≡ b
   rest_is : vs ≡ ws
 
-same_sight : (path : Path) (a b : Sight) (vs ws : List Entry) → (a ≡ Failed → ⊥) → (b ≡ Failed → ⊥) → look_of path a ++ vs ≡ look_of path b ++ ws → SameSight a b vs ws
+same_sight : (path : Path) (a b : StateSight) (vs ws : List Entry) → (a ≡ Failed → ⊥) → (b ≡ Failed → ⊥) → state_look path a ++ vs ≡ state_look path b ++ ws → SameSight a b vs ws
 same_sight path Failed b vs ws f g e = absurd (f refl)
 same_sight path Nothing Failed vs ws f g e = absurd (g refl)
 same_sight path (Saw s) Failed vs ws f g e = absurd (g refl)
@@ -117,7 +117,7 @@ from_begin size pieces last h = record { some = h.0.0; within = let w : length (
     start : length (bytes_of pieces) ≡ 0 + length (bytes_of pieces)
     start = omega arith
 
-text_one : (state : Path) (size : ℕ) (there stale : Bool) (r s : Reading) (k l : Known) (vs ws : List Entry) → IsReading size r → IsReading size s → IsKnownBy stale (text_of state there r) k → IsKnownBy stale (text_of state there s) l → NoCall k → NoCall l
+text_one : (state : Path) (size : ℕ) (there stale : Bool) (r s : Reading) (k l : Known) (vs ws : List Entry) → IsReading size r → IsReading size s → IsKnownBy stale (text_read state there r) k → IsKnownBy stale (text_read state there s) l → NoCall k → NoCall l
     → text_entries state there r ++ vs ≡ text_entries state there s ++ ws → OnePart (text_entries state there r) (text_entries state there s) vs ws
 text_one state size false stale r s k l vs ws h g x y c d e = record { entries_are = refl; rest_is = e }
 text_one state size true stale (Broken ps) s k l vs ws h g x y c d e = absurd (failed_call k (fault.Call call.Read state) x refl c)
@@ -133,46 +133,46 @@ behind_one state size there (Ok stale) r s k l vs ws h g x y c d e = text_one st
 behind_one state size there (Err why) r s k l vs ws h g x y c d e = record { entries_are = refl; rest_is = e }
 
 -- the part file's look didn't fail
-part_looked : (state : Path) (there : Bool) (p : Sight) (r : Reading) (k : Known) → IsKnownBehind state there (found p) r k → NoCall k → p ≡ Failed → ⊥
+part_looked : (state : Path) (there : Bool) (p : StateSight) (r : Reading) (k : Known) → IsKnownBehind state there (found p) r k → NoCall k → p ≡ Failed → ⊥
 part_looked state there Failed r k x c e = failed_call k (fault.Call call.Look (state_part state)) x refl c
 part_looked state there Nothing r k x c e = cc
 part_looked state there (Saw seen) r k x c e = cc
 
-part_one : (state : Path) (size : ℕ) (there : Bool) (p q : Sight) (r s : Reading) (k l : Known) (vs ws : List Entry) → IsReading size r → IsReading size s → IsKnownBehind state there (found p) r k → IsKnownBehind state there (found q) s l → NoCall k → NoCall l
+part_one : (state : Path) (size : ℕ) (there : Bool) (p q : StateSight) (r s : Reading) (k l : Known) (vs ws : List Entry) → IsReading size r → IsReading size s → IsKnownBehind state there (found p) r k → IsKnownBehind state there (found q) s l → NoCall k → NoCall l
     → part_entries state there p r ++ vs ≡ part_entries state there q s ++ ws → OnePart (part_entries state there p r) (part_entries state there q s) vs ws
-part_one state size there p q r s k l vs ws h g x y c d e = record { entries_are = ap (λ (f : Sight). part_entries state there f r) look.sight_is ∙ ap (λ us. look_of (state_part state) q ++ us) rest.entries_are; rest_is = rest.rest_is }
+part_one state size there p q r s k l vs ws h g x y c d e = record { entries_are = ap (λ (f : StateSight). part_entries state there f r) look.sight_is ∙ ap (λ us. state_look (state_part state) q ++ us) rest.entries_are; rest_is = rest.rest_is }
   where
     look : SameSight p q (behind_part state there (found p) r ++ vs) (behind_part state there (found q) s ++ ws)
     look = same_sight (state_part state) p q (behind_part state there (found p) r ++ vs) (behind_part state there (found q) s ++ ws) (part_looked state there p r k x c) (part_looked state there q s l y d)
-        (sym (append_assoc (look_of (state_part state) p) (behind_part state there (found p) r) vs) ∙ (e ∙ append_assoc (look_of (state_part state) q) (behind_part state there (found q) s) ws))
+        (sym (append_assoc (state_look (state_part state) p) (behind_part state there (found p) r) vs) ∙ (e ∙ append_assoc (state_look (state_part state) q) (behind_part state there (found q) s) ws))
 
     rest : OnePart (behind_part state there (found q) r) (behind_part state there (found q) s) vs ws
-    rest = behind_one state size there (found q) r s k l vs ws h g (subst (λ (f : Sight). IsKnownBehind state there (found f) r k) look.sight_is x) y c d
-        (subst (λ (f : Sight). behind_part state there (found f) r ++ vs ≡ behind_part state there (found q) s ++ ws) look.sight_is look.rest_is)
+    rest = behind_one state size there (found q) r s k l vs ws h g (subst (λ (f : StateSight). IsKnownBehind state there (found f) r k) look.sight_is x) y c d
+        (subst (λ (f : StateSight). behind_part state there (found f) r ++ vs ≡ behind_part state there (found q) s ++ ws) look.sight_is look.rest_is)
 
-of_one : (state : Path) (size : ℕ) (f : Result Bool LookStop) (p q : Sight) (r s : Reading) (k l : Known) (vs ws : List Entry) → IsReading size r → IsReading size s → IsKnownOf state f (found p) r k → IsKnownOf state f (found q) s l → NoCall k → NoCall l
+of_one : (state : Path) (size : ℕ) (f : Result Bool LookStop) (p q : StateSight) (r s : Reading) (k l : Known) (vs ws : List Entry) → IsReading size r → IsReading size s → IsKnownOf state f (found p) r k → IsKnownOf state f (found q) s l → NoCall k → NoCall l
     → behind_state state f p r ++ vs ≡ behind_state state f q s ++ ws → OnePart (behind_state state f p r) (behind_state state f q s) vs ws
 of_one state size (Ok there) p q r s k l vs ws h g x y c d e = part_one state size there p q r s k l vs ws h g x y c d e
 of_one state size (Err why) p q r s k l vs ws h g x y c d e = record { entries_are = refl; rest_is = e }
 
 -- nor did the look at the state's file
-state_looked : (state : Path) (f : Sight) (p : Result Bool LookStop) (r : Reading) (k : Known) → IsKnownOf state (found f) p r k → NoCall k → f ≡ Failed → ⊥
+state_looked : (state : Path) (f : StateSight) (p : Result Bool LookStop) (r : Reading) (k : Known) → IsKnownOf state (found f) p r k → NoCall k → f ≡ Failed → ⊥
 state_looked state Failed p r k x c e = failed_call k (fault.Call call.Look state) x refl c
 state_looked state Nothing p r k x c e = cc
 state_looked state (Saw seen) p r k x c e = cc
 
 entries_one : (state : Path) (size : ℕ) (a b : StateSights) (k l : Known) (vs ws : List Entry) → IsReading size a.reading → IsReading size b.reading → IsKnown state a k → IsKnown state b l → NoCall k → NoCall l
-    → entries_of state a ++ vs ≡ entries_of state b ++ ws → OnePart (entries_of state a) (entries_of state b) vs ws
+    → state_entries state a ++ vs ≡ state_entries state b ++ ws → OnePart (state_entries state a) (state_entries state b) vs ws
 entries_one state size a b k l vs ws h g x y c d e =
-    record { entries_are = ap (λ (f : Sight). look_of state f ++ behind_state state (found f) a.part a.reading) look.sight_is ∙ ap (λ us. look_of state b.state ++ us) rest.entries_are; rest_is = rest.rest_is }
+    record { entries_are = ap (λ (f : StateSight). state_look state f ++ behind_state state (found f) a.part a.reading) look.sight_is ∙ ap (λ us. state_look state b.state ++ us) rest.entries_are; rest_is = rest.rest_is }
   where
     look : SameSight a.state b.state (behind_state state (found a.state) a.part a.reading ++ vs) (behind_state state (found b.state) b.part b.reading ++ ws)
     look = same_sight state a.state b.state (behind_state state (found a.state) a.part a.reading ++ vs) (behind_state state (found b.state) b.part b.reading ++ ws) (state_looked state a.state (found a.part) a.reading k x c) (state_looked state b.state (found b.part) b.reading l y d)
-        (sym (append_assoc (look_of state a.state) (behind_state state (found a.state) a.part a.reading) vs) ∙ (e ∙ append_assoc (look_of state b.state) (behind_state state (found b.state) b.part b.reading) ws))
+        (sym (append_assoc (state_look state a.state) (behind_state state (found a.state) a.part a.reading) vs) ∙ (e ∙ append_assoc (state_look state b.state) (behind_state state (found b.state) b.part b.reading) ws))
 
     rest : OnePart (behind_state state (found b.state) a.part a.reading) (behind_state state (found b.state) b.part b.reading) vs ws
-    rest = of_one state size (found b.state) a.part b.part a.reading b.reading k l vs ws h g (subst (λ (f : Sight). IsKnownOf state (found f) (found a.part) a.reading k) look.sight_is x) y c d
-        (subst (λ (f : Sight). behind_state state (found f) a.part a.reading ++ vs ≡ behind_state state (found b.state) b.part b.reading ++ ws) look.sight_is look.rest_is)
+    rest = of_one state size (found b.state) a.part b.part a.reading b.reading k l vs ws h g (subst (λ (f : StateSight). IsKnownOf state (found f) (found a.part) a.reading k) look.sight_is x) y c d
+        (subst (λ (f : StateSight). behind_state state (found f) a.part a.reading ++ vs ≡ behind_state state (found b.state) b.part b.reading ++ ws) look.sight_is look.rest_is)
 
 -- What two readings of the state that begin the same entries have in common.
 pub record OneState (k l : Known) (vs ws : List Entry) : Type 0 where
@@ -182,8 +182,8 @@ pub record OneState (k l : Known) (vs ws : List Entry) : Type 0 where
 pub state_one : (state : Path) (size : ℕ) (a b : StateSights) (k l : Known) (ts us vs ws : List Entry) → ShowsState state size a ts → ShowsState state size b us → IsKnown state a k → IsKnown state b l → NoCall k → NoCall l → ts ++ vs ≡ us ++ ws → OneState k l vs ws
 state_one state size a b k l ts us vs ws h g x y c d e = record { known_is = one_answer state size a b us k l (record { reading = h.reading; entries = sym same ∙ h.entries }) g x y; rest_is = both.rest_is }
   where
-    both : OnePart (entries_of state a) (entries_of state b) vs ws
-    both = entries_one state size a b k l vs ws h.reading g.reading x y c d (front_same ts us (entries_of state a) (entries_of state b) vs ws h.entries g.entries e)
+    both : OnePart (state_entries state a) (state_entries state b) vs ws
+    both = entries_one state size a b k l vs ws h.reading g.reading x y c d (front_same ts us (state_entries state a) (state_entries state b) vs ws h.entries g.entries e)
 
     same : ts ≡ us
     same = h.entries ∙ (both.entries_are ∙ sym g.entries)

@@ -9,12 +9,12 @@ use Rattle.lr_host.specs.declared.entry.Entry.{Entry}
 use Rattle.lr_plan.specs.declared.looks.SetLooks.{SetLooks}
 use Rattle.lr_host.specs.Counted.{calls_in}
 use Rattle.lr_looks.specs.Asked.{asked_by}
-use Rattle.lr_looks.specs.Choices.{choice_faults, kind_fault, kept_of, where_file, Keeps}
+use Rattle.lr_looks.specs.Choices.{choice_faults, kind_fault, kept_of, where_file, KeepsLogs}
 use Rattle.lr_looks.specs.Families.{LookedLog, ShowFamilies, family_faults, looked_of}
 use Rattle.lr_looks.specs.Found.{FoundLog, paths_of}
 use Rattle.lr_looks.specs.Sets.{HaveLooksFrom}
 use Rattle.lr_looks.specs.Shown.{ShowsLooks}
-use Rattle.lr_looks.specs.Sights.{faults_of, found_of}
+use Rattle.lr_looks.specs.Sights.{all_sight_faults, found_of}
 use Rattle.lr_looks.proofs.Holding.{kept_bounds}
 use Rattle.lr_looks.proofs.Built.{asks_all}
 use Rattle.lr_run.proofs.Called.{none_before, none_behind}
@@ -34,10 +34,10 @@ record OneKept (faults more : List Fault) (kept others : List FoundLog) : Type 0
   kept_are : kept ≡ others
 
 -- the same logs, so the same are kept, and the same faults are added
-kept_one : (reserved : List Path) (found others : List FoundLog) (a a' b b' : List Fault) (kept kept' : List FoundLog) → found ≡ others → a ≡ a' → Keeps reserved found a b kept → Keeps reserved others a' b' kept' → OneKept b b' kept kept'
-kept_one reserved found others a a' b b' kept kept' e f h g = go (subst (λ l. Keeps reserved l a' b' kept') (sym e) g)
+kept_one : (reserved : List Path) (found others : List FoundLog) (a a' b b' : List Fault) (kept kept' : List FoundLog) → found ≡ others → a ≡ a' → KeepsLogs reserved found a b kept → KeepsLogs reserved others a' b' kept' → OneKept b b' kept kept'
+kept_one reserved found others a a' b b' kept kept' e f h g = go (subst (λ l. KeepsLogs reserved l a' b' kept') (sym e) g)
   where
-    go : Keeps reserved found a' b' kept' → OneKept b b' kept kept'
+    go : KeepsLogs reserved found a' b' kept' → OneKept b b' kept kept'
     go k = record {
       faults_are = h.faults_are ∙ (ap (λ l. l ++ (choice_faults reserved found found h.choices ++ flat_map kind_fault (kept_of found h.choices))) f ∙ (ap (λ cs. a' ++ (choice_faults reserved found found cs ++ flat_map kind_fault (kept_of found cs))) one ∙ sym k.faults_are));
       kept_are = h.left_are ∙ (ap (λ cs. flat_map where_file (kept_of found cs)) one ∙ sym k.left_are);
@@ -80,7 +80,7 @@ module _ (reserved : List Path) (rules : List Rule) (sets others : List SetLooks
   kept_is : OneKept h.of_kept g.of_kept h.kept g.kept
   kept_is = kept_one reserved h.found g.found h.of_words g.of_words h.of_kept g.of_kept h.kept g.kept
       (h.entries.first.found_are ∙ (ap (found_of (asked_by rules)) words.sights_are ∙ sym g.entries.first.found_are))
-      (h.entries.first.faults_are ∙ (ap (faults_of (asked_by rules)) words.sights_are ∙ sym g.entries.first.faults_are)) h.keeps g.keeps
+      (h.entries.first.faults_are ∙ (ap (all_sight_faults (asked_by rules)) words.sights_are ∙ sym g.entries.first.faults_are)) h.keeps g.keeps
 
   -- the looks at the families are the same, and so are their entries
   families : (h.entries.second.families.sights ≡ g.entries.second.families.sights) × (h.entries.back ≡ g.entries.back) × (vs ≡ ws)

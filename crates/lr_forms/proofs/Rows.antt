@@ -4,7 +4,7 @@ use Rattle.std.specs.List.{find}
 use Rattle.std.specs.Option.{option_map}
 use Rattle.std.proofs.lemmas.Slice.Eq.{bytes_eq-Decides}
 use Rattle.lr_tables.specs.declared.keyed.Row.{Row}
-use Rattle.lr_tables.specs.Directives.{Says, contents, directive_table}
+use Rattle.lr_tables.specs.Directives.{RowSays, contents, directive_table}
 use Rattle.lr_tables.specs.Table.{words, IsRowOf}
 use Rattle.lr_forms.specs.Says.{directive_of}
 
@@ -13,7 +13,7 @@ all_rows : map (λ s. directive_of s.word) directive_table ≡ map (λ s. Some s
 unfolding directive_of
 all_rows = refl
 
-through : {A : Type 0} (f : Says → A) (rows : List Row) → map (λ r. f (record { word = r.word.now; directive = r.directive; undoes = r.undoes })) rows ≡ map f (contents rows)
+through : {A : Type 0} (f : RowSays → A) (rows : List Row) → map (λ r. f (record { word = r.word.now; directive = r.directive; undoes = r.undoes })) rows ≡ map f (contents rows)
 through f [] = refl
 through f (r ∷ rs) = ap (λ xs. f (record { word = r.word.now; directive = r.directive; undoes = r.undoes }) ∷ xs) (through f rs)
 

@@ -18,7 +18,7 @@ use Rattle.lr_plan.specs.Appending.{Appended, no_more, piece_more}
 use Rattle.lr_plan.specs.Course.{Course}
 use Rattle.lr_plan.specs.Done.{EachDone, LogsDone, SetDone, broke_off, went_on, SetsDone, if_rotated, is_rotated}
 use Rattle.lr_plan.specs.Outcomes.{Succeeds, marks_of}
-use Rattle.lr_fulfilled.specs.Acts.{is_act, ActsBy, AreActsOf}
+use Rattle.lr_fulfilled.specs.Acts.{is_act, StepActs, AreActsOf}
 use Rattle.lr_weave.proofs.Whole.{one_none, nil_split}
 
 -- ---- one step
@@ -38,7 +38,7 @@ appended_none : (to : Path) (text : List ℕ) (ts : List Entry) → Appended to 
 appended_none to _ _ no_more = refl
 appended_none to _ _ (piece_more piece text {ts = ts} a) = appended_none to text ts a
 
-step_acts : (s : Step) (ts : List Entry) → Succeeds s ts → ActsBy s (filter is_act ts)
+step_acts : (s : Step) (ts : List Entry) → Succeeds s ts → StepActs s (filter is_act ts)
 step_acts (Runs phase on command) ts h = ap (filter is_act) h
 step_acts (Removes path) ts h = ap (filter is_act) h
 step_acts (MakesDir path mode) ts (inl one) = inr (ap (filter is_act) one)

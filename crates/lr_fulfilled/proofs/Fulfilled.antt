@@ -20,7 +20,7 @@ use Rattle.lr_host.specs.World.{Past, world, names}
 use Rattle.lr_host.proofs.Lists.{in_front, in_back}
 use Rattle.lr_host.proofs.Each.{each_as, none_pass}
 use Rattle.lr_host.proofs.Quiet.{quiet_both}
-use Rattle.lr_durable.specs.Renewing.{IsAsideOf, MayRenew, left_alone, renewed, HasText}
+use Rattle.lr_durable.specs.Renewing.{LeavesAlone, MayRenew, left_alone, renewed, HasText}
 use Rattle.lr_durable.proofs.Behind.{renewed_text}
 use Rattle.lr_acts.specs.Making.{all_of_sets}
 use Rattle.lr_acts.specs.Named.{OneCreates}
@@ -35,7 +35,7 @@ use Rattle.lr_state.specs.Written.{text_of}
 use Rattle.lr_laws_family.proofs.Weaving.{each_in}
 use Rattle.lr_weave.proofs.Whole.{nil_split}
 use Rattle.lr_writing.specs.Directories.{AreDirectoriesOf}
-use Rattle.lr_writing.specs.Named.{IsNamed}
+use Rattle.lr_writing.specs.Named.{StateIsNamed}
 use Rattle.lr_writing.proofs.Named.{named_whole}
 use Rattle.lr_synced.specs.Synced.{all_changed_of}
 use Rattle.lr_synced.proofs.Laws.{all_synced}
@@ -132,7 +132,7 @@ module _ (state : Path) (asked : Asked) (clock : Clock) (rules : Rules) (w : Wor
       (worked_may state rules clock asked (faults_of w) work (turned.worked state asked clock rules w shows out) (between_made state rules clock asked (reads ++ w.dir) work (reverse es) whole (are_made p q es made journal)) (λ bytes. bytes ≡ text) (sym text_is)
       (entry.Starts state clock.now rules ∷ []) ((λ h. h), tt) ((λ x h. absurd h), tt)))
 
-  wrote : IsNamed state w.acts.dirs text out.entries.back
+  wrote : StateIsNamed state w.acts.dirs text out.entries.back
   wrote = named_whole state w.saw.stale w.acts.dirs text out.entries.back
       (subst (λ (fs : List Fault). Course (state_steps_of state clock w) [] fs out.entries.back) (nil_split (act_faults w.acts) w.acts.of_logs w.acts.of_state refl none).1 out.entries.second)
 
@@ -151,7 +151,7 @@ module _ (state : Path) (asked : Asked) (clock : Clock) (rules : Rules) (w : Wor
   written only = subst (λ (logs : List Path). HasText state (text_by w.saw clock logs) q) (logs_planned w.plan state w.saw.stale (λ marks. w.acts.dirs) (text_by w.saw clock) w.acts.marks w.did done) (go may_renew)
     where
       go : MayRenew state (λ bytes. bytes ≡ text) (reverse es) → HasText state text q
-      go (left_alone a) = absurd (each_in (IsAsideOf state) (reverse es) (entry.Renames (state_part state) state) a renames (inr (inl refl)))
+      go (left_alone a) = absurd (each_in (LeavesAlone state) (reverse es) (entry.Renames (state_part state) state) a renames (inr (inl refl)))
       go (renewed dirs bytes is r) = subst (λ (bs : List ℕ). HasText state bs q) is (renewed_text state dirs bytes p q es made journal r only)
 
   dirs_synced : AreDirectoriesOf (all_changed_of w.plan.sets ++ dirs_in w.plan) w.acts.dirs

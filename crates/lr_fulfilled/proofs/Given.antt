@@ -12,13 +12,13 @@ use Rattle.lr_host.proofs.Made.{Cut, cut}
 use Rattle.lr_plan.specs.Asked.{Asked}
 use Rattle.lr_plan.specs.Planned.{decision}
 use Rattle.lr_laws_targets.specs.Seen.{IsLogSeen}
-use Rattle.lr_laws_targets.specs.Target.{Target, Gives}
+use Rattle.lr_laws_targets.specs.Target.{Target, GivesLog}
 use Rattle.lr_laws_targets.proofs.Given.{Stretch, stretch}
 use Rattle.lr_laws_targets.proofs.LogSeen.{log_among}
 use Rattle.lr_seen.proofs.Quiet.{whole_quiet}
 use Rattle.lr_seen.proofs.Seen.{targets_seen}
 use Rattle.lr_run.specs.Logs.{IsGivenBy, AreGivenBy}
-use Rattle.lr_run.specs.Rotated.{rotated_logs}
+use Rattle.lr_run.specs.Rotated.{rotated_targets}
 use Rattle.lr_run.specs.Saw.{ShowsSets}
 use Rattle.lr_run.specs.Work.{Work, IsPlanOf, run_entries, first_entries}
 use Rattle.lr_run.proofs.Turned.{logs_are}
@@ -45,9 +45,9 @@ module _ (debug : Bool) (state : Path) (asked : Asked) (clock : Clock) (rules : 
     way_is = s.given.way_is;
   }
     where
-      at : Stretch c.mid (Gives rules.sets s.given.rule s.given.word t.log)
-      at = stretch c.mid l.looked w.looks (Gives rules.sets s.given.rule s.given.word t.log) (whole_quiet rules.sets w.saw.sets w.saw.faults w.looks shows.shown) c.second s.given.given
+      at : Stretch c.mid (GivesLog rules.sets s.given.rule s.given.word t.log)
+      at = stretch c.mid l.looked w.looks (GivesLog rules.sets s.given.rule s.given.word t.log) (whole_quiet rules.sets w.saw.sets w.saw.faults w.looks shows.shown) c.second s.given.given
 
   pub logs_given : AreGivenBy rules.sets w.plan
   logs_given = subst (λ (ts : List Target). (t : Target) → IsIn t ts → IsGivenBy rules.sets t) (logs_are rules.sets clock asked w planned)
-      (λ t one. given t (log_among rules clock w.looks (rotated_logs rules.sets w.saw.table clock asked w.saw.sets) (targets_seen rules w.saw.sets w.saw.faults w.looks clock (decision w.saw.table clock.now asked.force) shows.shown) t one))
+      (λ t one. given t (log_among rules clock w.looks (rotated_targets rules.sets w.saw.table clock asked w.saw.sets) (targets_seen rules w.saw.sets w.saw.faults w.looks clock (decision w.saw.table clock.now asked.force) shows.shown) t one))

@@ -14,14 +14,14 @@ use Rattle.lr_host.specs.Quiet.{AreQuiet, ChangeNothing}
 use Rattle.lr_host.specs.Told.{Each, Made, Maybe}
 use Rattle.lr_host.specs.World.{Past}
 use Rattle.lr_host.proofs.Quiet.{quiet_still, sees_quiet, still_both, still_in_order, then_still}
-use Rattle.lr_durable.specs.Renewing.{IsAsideOf}
+use Rattle.lr_durable.specs.Renewing.{LeavesAlone}
 use Rattle.lr_plan.specs.Asked.{Asked}
 use Rattle.lr_looks.specs.Shown.{ShowsSomeLooks}
 use Rattle.lr_reading.proofs.Quiet.{state_quiet}
 use Rattle.lr_looks.specs.Reserved.{reserved_by}
 use Rattle.lr_seen.proofs.Quiet.{whole_quiet, part_quiet}
 use Rattle.lr_run.specs.Halt as halt
-use Rattle.lr_run.specs.Halt.{Bars, Halt, Halts, LacksState, Within}
+use Rattle.lr_run.specs.Halt.{DirBars, Halt, Halts, LacksState, Within}
 use Rattle.lr_run.specs.Runs.{SomeSeen}
 use Rattle.lr_run.specs.Saw.{ShowsStateFile, by_dir, by_none}
 use Rattle.lr_run.specs.Work.{entries_of}
@@ -58,7 +58,7 @@ file_still debug state text stale dir reads (by_none dry saw empty none) = sees_
 
 halt_still : (debug : Bool) (state : Path) (asked : Asked) (clock : Clock) (rules : Rules) (h : Halt) (ts : List Entry) → Halts debug state rules clock asked h ts → ChangeNothing ts
 halt_still debug state asked clock rules h ts (halt.not_seen is e) = none_still ts e
-halt_still debug state asked clock rules h ts (halt.no_directory is s) = sees_still (parent_of state) (Bars debug) ts s
+halt_still debug state asked clock rules h ts (halt.no_directory is s) = sees_still (parent_of state) (DirBars debug) ts s
 halt_still debug state asked clock rules h ts (halt.held acts is s) = sees_still (parent_of state) IsDir ts s
 halt_still debug state asked clock rules h ts (halt.not_begun acts is t) = then_still (Sees (parent_of state) IsDir) (Maybe (entry.Starts state clock.now rules)) ts (sees_still (parent_of state) IsDir) (maybe_still state clock rules) t
 halt_still debug state asked clock rules h ts (halt.unknown f is i) = within_still debug state clock rules (LacksState state f) ts (λ us l. quiet_still us (state_quiet state 65_536 l.sights us l.shown)) i
@@ -75,7 +75,7 @@ module _ (debug : Bool) (state : Path) (asked : Asked) (clock : Clock) (rules : 
   all_still = subst ChangeNothing (sym joined) (still_both reads ts (quiet_still reads quiet) (halt_still debug state asked clock rules h ts halts))
 
   pub paths_alone : (x : Path) → IsLeftAlone p q x
-  paths_alone x = left_alone p q es x made journal (subst (Each (IsAsideOf x)) (sym (still_in_order es all_still)) tt)
+  paths_alone x = left_alone p q es x made journal (subst (Each (LeavesAlone x)) (sym (still_in_order es all_still)) tt)
 
   pub sets_alone : LeavesSets [] p q
   sets_alone s none safe steady y k key = still_member s p q (reverse es) all_still (subst (λ (us : List Entry). Made p us q) (sym (reverse-reverse es)) made) steady y k key

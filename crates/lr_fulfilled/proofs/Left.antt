@@ -16,7 +16,7 @@ use Rattle.lr_host.proofs.Looked.{nothing_no_file}
 use Rattle.lr_host.proofs.Made.{made_journal}
 use Rattle.lr_host.proofs.Quiet.{looked_names, before_last, wrote_same}
 use Rattle.lr_laws.specs.Follow.{changed_paths}
-use Rattle.lr_durable.specs.Renewing.{IsAsideOf}
+use Rattle.lr_durable.specs.Renewing.{LeavesAlone}
 use Rattle.lr_durable.proofs.Parts.{named_drawn, named_once}
 use Rattle.lr_laws_family.specs.Moments.{fed}
 use Rattle.lr_laws_family.specs.Beside.{IsOn, IsAtNone, IsNeverAt, not_here, nor_then}
@@ -26,7 +26,7 @@ use Rattle.lr_fulfilled.specs.Left.{IsLeftAlone}
 
 -- ---- what spares the path
 
-spares_one : (x : Path) (e : Entry) → is_disk_change e ≡ true → IsAsideOf x e → Spares x e
+spares_one : (x : Path) (e : Entry) → is_disk_change e ≡ true → LeavesAlone x e → Spares x e
 spares_one x (entry.Renames from to) h a = (λ e. a (inl (sym e)), λ e. a (inr (inl (sym e))))
 spares_one x (entry.Makes y mode) h a = λ e. a (inl (sym e))
 spares_one x (entry.MakesDir y mode) h a = λ e. a (inl (sym e))
@@ -35,16 +35,16 @@ spares_one x (entry.Appends y bytes) h a = tt
 spares_one x (entry.Truncates y) h a = tt
 spares_one x _ h a = absurd (cc)
 
-spares_all : (x : Path) (es : List Entry) → Each (IsAsideOf x) (filter is_disk_change es) → Each (Spares x) (filter is_disk_change es)
+spares_all : (x : Path) (es : List Entry) → Each (LeavesAlone x) (filter is_disk_change es) → Each (Spares x) (filter is_disk_change es)
 spares_all x [] a = tt
 spares_all x (e ∷ es) a = go (is_disk_change e) refl (λ b. spares_all x es b) a
   where
-    go : (b : Bool) → is_disk_change e ≡ b → (Each (IsAsideOf x) (filter is_disk_change es) → Each (Spares x) (filter is_disk_change es)) → Each (IsAsideOf x) (cond b (e ∷ filter is_disk_change es) (filter is_disk_change es)) → Each (Spares x) (cond b (e ∷ filter is_disk_change es) (filter is_disk_change es))
+    go : (b : Bool) → is_disk_change e ≡ b → (Each (LeavesAlone x) (filter is_disk_change es) → Each (Spares x) (filter is_disk_change es)) → Each (LeavesAlone x) (cond b (e ∷ filter is_disk_change es) (filter is_disk_change es)) → Each (Spares x) (cond b (e ∷ filter is_disk_change es) (filter is_disk_change es))
     go true h rest a = (spares_one x e h a.0, rest a.1)
     go false h rest a = rest a
 
 -- the paths that they change don't have it
-far : (x y : Path) (es : List Entry) → Each (IsAsideOf x) es → IsIn y (flat_map changed_paths es) → y ≢ x
+far : (x y : Path) (es : List Entry) → Each (LeavesAlone x) es → IsIn y (flat_map changed_paths es) → y ≢ x
 far x y [] a i same = i
 far x y (e ∷ es) a i same = ⊎_elim (λ h. a.0 (subst (λ (z : Path). IsIn z (changed_paths e)) same h)) (λ h. far x y es a.1 h same) (in_append y (changed_paths e) (flat_map changed_paths es) i)
 
@@ -105,7 +105,7 @@ old_bytes d g bytes lt = go (nat_le (d + 1) (g + 1)) refl
     go true e = absurd (let le : d + 1 ≤ g + 1 = leb-true (d + 1) (g + 1) e in omega (arith, lt, le))
     go false e = refl
 
-pub left_alone : (p q : Past) (es : List Entry) (x : Path) → Made p es q → IsJournal p → Each (IsAsideOf x) (filter is_disk_change es) → IsLeftAlone p q x
+pub left_alone : (p q : Past) (es : List Entry) (x : Path) → Made p es q → IsJournal p → Each (LeavesAlone x) (filter is_disk_change es) → IsLeftAlone p q x
 left_alone p q es x m j a = record {
   stands = spared_or_made p q es x m spares;
   same = λ only. same_walk x p q es m spares only;

@@ -30,7 +30,7 @@ use Rattle.lr_run.specs.declared.answer.Ran.{Ran}
 use Rattle.lr_run.specs.declared.answer.RunStop.{RunStop}
 use Rattle.lr_run.specs.declared.answer.RunStop.TheVariants as stop
 use Rattle.lr_run.specs.Halt as halt
-use Rattle.lr_run.specs.Halt.{Bars, Halt, Halts, LacksState, Within}
+use Rattle.lr_run.specs.Halt.{DirBars, Halt, Halts, LacksState, Within}
 use Rattle.lr_run.specs.Ran.{AnswersWork, RunEnds, halted, came}
 use Rattle.lr_run.specs.Runs.{SomeSeen, of_state, of_looks}
 use Rattle.lr_run.specs.Saw.{ShowsSets, ShowsSaw, ShowsStateFile, by_dir, by_none, plan_by, text_by}
@@ -179,7 +179,7 @@ module _ (p q : Past) (debug : Bool) (state : Path) (clock : Clock) (rules : Rul
 
   halt_once : (asked : Asked) (h : Halt) → Halts debug state rules clock asked h ts → (dir : Path) → listings_of dir ts ≤ wildcards_of rules.sets + 1
   halt_once asked h (halt.not_seen is e) dir = none_once (wildcards_of rules.sets) dir ts (none_empty ts e)
-  halt_once asked h (halt.no_directory is s) dir = none_once (wildcards_of rules.sets) dir ts (sees_none (parent_of state) (Bars debug) ts s)
+  halt_once asked h (halt.no_directory is s) dir = none_once (wildcards_of rules.sets) dir ts (sees_none (parent_of state) (DirBars debug) ts s)
   halt_once asked h (halt.held acts is s) dir = none_once (wildcards_of rules.sets) dir ts (sees_none (parent_of state) IsDir ts s)
   halt_once asked h (halt.not_begun acts is t) dir = none_once (wildcards_of rules.sets) dir ts (none_both ts (sees_none (parent_of state) IsDir) (maybe_starts state clock rules) t)
   halt_once asked h (halt.unknown f is i) dir = within_once (wildcards_of rules.sets + 1) p q debug state clock rules (LacksState state f) ts dir (λ u v us m l. none_once (wildcards_of rules.sets) dir us (state_read_none state l.sights us l.shown)) made i

@@ -12,7 +12,7 @@ use Rattle.lr_plan.specs.Done.{rotated_logs, is_rotated}
 use Rattle.lr_plan.specs.Outcomes.{marks_of}
 use Rattle.lr_plan.specs.Steps.{directory, steps_of_log, by_logs, steps_of_set, steps_of_plan}
 use Rattle.lr_synced.proofs.Telling.{told_by, of_logs, each_tells, sets_tell}
-use Rattle.lr_run.specs.Runs.{logs_of, all_logs_of, logs_in}
+use Rattle.lr_run.specs.Runs.{logs_rotated, all_logs_of, logs_in}
 use Rattle.lr_fulfilled.proofs.Acts.{LastStands, LastsStand}
 
 -- ---- the logs that marks tell of
@@ -36,18 +36,18 @@ log_told : (dir : Option (Path × Option ℕ)) (log : Path) → told_by rotated_
 log_told None log = refl
 log_told (Some (path, mode)) log = refl
 
-logs_told : (logs : List LogPlan) → of_logs rotated_by no_log_anew logs ≡ logs_of logs
+logs_told : (logs : List LogPlan) → of_logs rotated_by no_log_anew logs ≡ logs_rotated logs
 logs_told [] = refl
 logs_told (l ∷ ls) = ap (λ zs. zs ++ of_logs rotated_by no_log_anew ls) (log_told l.ready.dir l.log) ∙ ap (λ zs. l.log ∷ zs) (logs_told ls)
 
 sets_told : (sets : List SetPlan) → flat_map (λ set. of_logs rotated_by no_log_anew set.logs) sets ≡ all_logs_of sets
 sets_told [] = refl
-sets_told (set ∷ sets) = ap (λ zs. zs ++ flat_map (λ s. of_logs rotated_by no_log_anew s.logs) sets) (logs_told set.logs) ∙ ap (λ zs. logs_of set.logs ++ zs) (sets_told sets)
+sets_told (set ∷ sets) = ap (λ zs. zs ++ flat_map (λ s. of_logs rotated_by no_log_anew s.logs) sets) (logs_told set.logs) ∙ ap (λ zs. logs_rotated set.logs ++ zs) (sets_told sets)
 
 pub plan_logs : (plan : Plan) → rotated_logs (flat_map marks_of (all_of_sets (steps_of_plan plan))) ≡ logs_in plan
 plan_logs plan = rotated_are (flat_map marks_of (all_of_sets (steps_of_plan plan))) ∙ (sets_tell rotated_by no_log_anew plan.sets ∙ sets_told plan.sets)
 
-each_logs : (logs : List LogPlan) → rotated_logs (flat_map marks_of (all_of_each (map steps_of_log logs))) ≡ logs_of logs
+each_logs : (logs : List LogPlan) → rotated_logs (flat_map marks_of (all_of_each (map steps_of_log logs))) ≡ logs_rotated logs
 each_logs logs = rotated_are (flat_map marks_of (all_of_each (map steps_of_log logs))) ∙ (each_tells rotated_by no_log_anew logs ∙ logs_told logs)
 
 -- ---- the last steps of a definition
@@ -64,7 +64,7 @@ set_stands set = go set.shared set.logs refl
     go : (shared : Bool) (logs : List LogPlan) → set.logs ≡ logs → LastStands (by_logs shared logs set)
     go shared [] e = inl refl
     go true (l ∷ ls) e = inl refl
-    go false (l ∷ ls) e = inr (some_rotated (flat_map marks_of (all_of_each (map steps_of_log set.logs))) l.log (logs_of ls) (each_logs set.logs ∙ ap logs_of e))
+    go false (l ∷ ls) e = inr (some_rotated (flat_map marks_of (all_of_each (map steps_of_log set.logs))) l.log (logs_rotated ls) (each_logs set.logs ∙ ap logs_rotated e))
 
 pub sets_stand : (sets : List SetPlan) → LastsStand (map steps_of_set sets)
 sets_stand [] = tt

@@ -17,13 +17,13 @@ use Rattle.lr_family.specs.declared.stand.StandStop.{StandStop}
 use Rattle.lr_family.specs.declared.stand.StandStop.TheVariants as stop
 use Rattle.lr_family.specs.Among.{StandsAmong, ShowsMembers, ShowsIn, ShowsNoneIn}
 use Rattle.lr_family.specs.Listed.{NotListedAt, NotListed}
-use Rattle.lr_family.specs.Looks.{Sight, look_of, ShowsTo}
+use Rattle.lr_family.specs.Looks.{MemberSight, spot_look, ShowsTo}
 use Rattle.lr_family.specs.Parts.{PartSight, part_look, ShowsParts, ShowsNoParts}
 use Rattle.lr_family.specs.Stops.{SomeStopped}
 use Rattle.lr_glob.specs.declared.found.Found.{Found as Match}
 use Rattle.lr_glob.specs.declared.found.GlobStop.TheVariants as glob
 use Rattle.lr_glob.specs.Sights.{seen_at}
-use Rattle.lr_glob.specs.Words.{Gave, CallFailed, Begun}
+use Rattle.lr_glob.specs.Words.{WordGave, WordCallFailed, WordBegun}
 use Rattle.lr_looks.specs.Asked.{Word}
 use Rattle.lr_looks.specs.Families.{FamilySight, Stood, Stopped, ShowsAside, ShowsNoAside, ShowsMembersIn}
 use Rattle.lr_looks.specs.Sights.{WordSight, ShowsWord}
@@ -37,23 +37,23 @@ sees_none x P ts s = subst AreNoListings (sym s.look) (tt, tt)
 no_wildcard : (word : List ℕ) → is_wildcard word ≡ false → is_wildcard word ≡ true → ⊥
 no_wildcard word plain wild = let t = sym wild ∙ plain in cc
 
-gave_none : (word : List ℕ) (found : List Match) (ts : List Entry) → is_wildcard word ≡ false → Gave word found ts → AreNoListings ts
-gave_none word found ts plain (Gave.literal is s) = sees_none (literal_path word) (λ seen. found ≡ seen_at (literal_path word) seen) ts s
-gave_none word found ts plain (Gave.no_path is other none e) = none_empty ts e
-gave_none word found ts plain (Gave.wildcard wild absolute s) = absurd (no_wildcard word plain wild)
-gave_none word found ts plain (Gave.relative wild relative none e) = absurd (no_wildcard word plain wild)
+gave_none : (word : List ℕ) (found : List Match) (ts : List Entry) → is_wildcard word ≡ false → WordGave word found ts → AreNoListings ts
+gave_none word found ts plain (WordGave.literal is s) = sees_none (literal_path word) (λ seen. found ≡ seen_at (literal_path word) seen) ts s
+gave_none word found ts plain (WordGave.no_path is other none e) = none_empty ts e
+gave_none word found ts plain (WordGave.wildcard wild absolute s) = absurd (no_wildcard word plain wild)
+gave_none word found ts plain (WordGave.relative wild relative none e) = absurd (no_wildcard word plain wild)
 
-failed_none : (word : List ℕ) (k : CallKind) (path : Path) (ts : List Entry) → is_wildcard word ≡ false → CallFailed word k path ts → AreNoListings ts
-failed_none word k path ts plain (CallFailed.at_literal is look at e) = none_empty ts e
-failed_none word k path ts plain (CallFailed.at_visit wild n) = absurd (no_wildcard word plain wild)
-failed_none word k path ts plain (CallFailed.at_look wild look s) = absurd (no_wildcard word plain wild)
+failed_none : (word : List ℕ) (k : CallKind) (path : Path) (ts : List Entry) → is_wildcard word ≡ false → WordCallFailed word k path ts → AreNoListings ts
+failed_none word k path ts plain (WordCallFailed.at_literal is look at e) = none_empty ts e
+failed_none word k path ts plain (WordCallFailed.at_visit wild n) = absurd (no_wildcard word plain wild)
+failed_none word k path ts plain (WordCallFailed.at_look wild look s) = absurd (no_wildcard word plain wild)
 
-begun_none : (word : List ℕ) (ts : List Entry) → is_wildcard word ≡ false → Begun word ts → AreNoListings ts
-begun_none word ts plain (Begun.not_at_all e) = none_empty ts e
-begun_none word ts plain (Begun.at_literal is s) = sees_none (literal_path word) (λ seen. Unit {0}) ts s
-begun_none word ts plain (Begun.at_visit wild n) = absurd (no_wildcard word plain wild)
-begun_none word ts plain (Begun.between wild paths l) = absurd (no_wildcard word plain wild)
-begun_none word ts plain (Begun.at_look wild s) = absurd (no_wildcard word plain wild)
+begun_none : (word : List ℕ) (ts : List Entry) → is_wildcard word ≡ false → WordBegun word ts → AreNoListings ts
+begun_none word ts plain (WordBegun.not_at_all e) = none_empty ts e
+begun_none word ts plain (WordBegun.at_literal is s) = sees_none (literal_path word) (λ seen. Unit {0}) ts s
+begun_none word ts plain (WordBegun.at_visit wild n) = absurd (no_wildcard word plain wild)
+begun_none word ts plain (WordBegun.between wild paths l) = absurd (no_wildcard word plain wild)
+begun_none word ts plain (WordBegun.at_look wild s) = absurd (no_wildcard word plain wild)
 
 pub literal_none : (w : Word) (room : ℕ) (s : WordSight) (ts : List Entry) → is_wildcard w.text ≡ false → ShowsWord w room s ts → AreNoListings ts
 literal_none w room (Ok found) ts plain h = gave_none w.text h.all ts plain h.gave
@@ -64,7 +64,7 @@ literal_none w room (Err glob.Memory) ts plain h = begun_none w.text ts plain h
 
 -- ---- the looks at members
 
-sights_none : (gs : List Sight) → AreNoListings (map look_of gs)
+sights_none : (gs : List MemberSight) → AreNoListings (map spot_look gs)
 sights_none [] = tt
 sights_none (g ∷ gs) = (tt, sights_none gs)
 

@@ -56,7 +56,7 @@ use Rattle.lr_run.proofs.Shape.{ended, seen_later, written}
 use Rattle.lr_run.proofs.Stating.{state_writing, changes_of_state}
 use Rattle.lr_run.proofs.Turned.{logs_are}
 use Rattle.lr_fulfilled.specs.Left.{IsLeftAlone}
-use Rattle.lr_fulfilled.specs.Rest.{ChangesOnly, IsElsewhere, HasNone, LeavesRest, LeavesSets}
+use Rattle.lr_fulfilled.specs.Rest.{ChangesOnly, IsOfTheRest, NoTargetHas, LeavesRest, LeavesSets}
 use Rattle.lr_fulfilled.proofs.Elsewhere.{turns_leave, kept_elsewhere}
 use Rattle.lr_fulfilled.proofs.Looking.{Looking, looking}
 use Rattle.lr_fulfilled.proofs.Truth.{file_quiet}
@@ -172,12 +172,12 @@ module _ (state : Path) (asked : Asked) (clock : Clock) (rules : Rules) (w : Wor
     rest_by : (tail : List Entry) → ((w.reads ++ w.looks) ++ w.did) ++ Ends ∷ [] ≡ tail → (t : AllTurnsBy state clock rules tail) → t.targets ≡ targets → LeavesRest state w.saw.kept (targets_in w.plan) p q
     rest_by tail parts t same = subst (λ (ts : List Target). LeavesRest state w.saw.kept ts p q) (same ∙ logs_are rules.sets clock asked w shows.plan) (record { paths = paths; others = others })
       where
-        paths : (x : Path) → IsElsewhere state t.targets x → IsLeftAlone p q x
+        paths : (x : Path) → IsOfTheRest state t.targets x → IsLeftAlone p q x
         paths x away = turns_leave state clock rules p q es (reads ++ w.dir) tail x t made journal (whole ∙ ap (λ (us : List Entry). (reads ++ w.dir) ++ (Starts state clock.now rules ∷ us)) parts) front_quiet away
 
-        others : (f : FoundLog) → IsIn f w.saw.kept → HasNone t.targets f.log.path → (x : Path) → IsOwnName f.log.path f.log.naming x → IsLeftAlone p q x
-        others f kept none x own = paths x (subst (λ (ts : List Target). IsElsewhere state ts x) (sym same)
-            (kept_elsewhere state rules.sets w.saw.sets w.saw.faults w.looks clock decide f x shown (subst (IsIn f) shows.seen.sets.kept_are kept) (subst (λ (ts : List Target). HasNone ts f.log.path) same none) own))
+        others : (f : FoundLog) → IsIn f w.saw.kept → NoTargetHas t.targets f.log.path → (x : Path) → IsOwnName f.log.path f.log.naming x → IsLeftAlone p q x
+        others f kept none x own = paths x (subst (λ (ts : List Target). IsOfTheRest state ts x) (sym same)
+            (kept_elsewhere state rules.sets w.saw.sets w.saw.faults w.looks clock decide f x shown (subst (IsIn f) shows.seen.sets.kept_are kept) (subst (λ (ts : List Target). NoTargetHas ts f.log.path) same none) own))
 
     sets_by : (tail : List Entry) → ((w.reads ++ w.looks) ++ w.did) ++ Ends ∷ [] ≡ tail → (t : AllTurnsBy state clock rules tail) → t.targets ≡ targets → LeavesSets (targets_in w.plan) p q
     sets_by tail parts t same = subst (λ (ts : List Target). LeavesSets ts p q) (same ∙ logs_are rules.sets clock asked w shows.plan)

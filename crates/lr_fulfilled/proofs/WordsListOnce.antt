@@ -13,7 +13,7 @@ use Rattle.lr_host.specs.World.{Past}
 use Rattle.lr_host.proofs.Made.{Cut, cut}
 use Rattle.lr_glob.specs.Listings.{listings_of}
 use Rattle.lr_glob.proofs.ListsOnce.{comes_once, stopped_once}
-use Rattle.lr_looks.specs.Asked.{Word, word_of, words_of, words_from, asked_by}
+use Rattle.lr_looks.specs.Asked.{Word, word_of, rule_words, words_from, asked_by}
 use Rattle.lr_looks.specs.Sights.{WordSight, found_by, ShowsWord, ShowWords}
 use Rattle.lr_fulfilled.specs.Listings.{wildcards_of}
 use Rattle.lr_fulfilled.proofs.CountedListings.{count_none, count_joined, none_empty}
@@ -71,7 +71,7 @@ wild_of set rule (w ∷ ws) = go (is_wildcard w) (wild_of set rule ws)
 wild_from : (k : ℕ) (rules : List Rule) → wild_words (words_from k rules) ≡ wildcards_of rules
 wild_from k [] = refl
 wild_from k (rule ∷ rules) =
-    let a = wild_both (words_of k rule) (words_from (k + 1) rules) in
+    let a = wild_both (rule_words k rule) (words_from (k + 1) rules) in
     let b = wild_of k rule rule.words in
     let c = wild_from (k + 1) rules in
     let d : wildcards_of (rule ∷ rules) ≡ length (filter is_wildcard rule.words) + wildcards_of rules =

@@ -24,19 +24,19 @@ is_act _ = false
 
 -- The acts of a step that was made: its one, a program's with the end 0; the making of a log or of a directory may have none, where
 -- the path is named. A copy of bytes, an append and a mark have none.
-abbrev pub ActsBy : Step → List Entry → Type 0
-ActsBy (Runs phase on command) ts = One (runs command (ended.Exit (pos 0))) ts
-ActsBy (Removes path) ts = One (entry.Unlinks path) ts
-ActsBy (MakesDir path mode) ts = Maybe (entry.MakesDir path mode) ts
-ActsBy (Renames from to) ts = One (entry.Renames from to) ts
-ActsBy (Creates path mode) ts = Maybe (entry.Makes path mode) ts
-ActsBy (Takes path mode) ts = One (entry.Makes path mode) ts
-ActsBy (SyncsFile path) ts = One (entry.SyncsFile path) ts
-ActsBy (SyncsDir path) ts = One (entry.SyncsDir path) ts
-ActsBy (Truncates path) ts = One (entry.Truncates path) ts
-ActsBy _ ts = ts ≡ []
+abbrev pub StepActs : Step → List Entry → Type 0
+StepActs (Runs phase on command) ts = One (runs command (ended.Exit (pos 0))) ts
+StepActs (Removes path) ts = One (entry.Unlinks path) ts
+StepActs (MakesDir path mode) ts = Maybe (entry.MakesDir path mode) ts
+StepActs (Renames from to) ts = One (entry.Renames from to) ts
+StepActs (Creates path mode) ts = Maybe (entry.Makes path mode) ts
+StepActs (Takes path mode) ts = One (entry.Makes path mode) ts
+StepActs (SyncsFile path) ts = One (entry.SyncsFile path) ts
+StepActs (SyncsDir path) ts = One (entry.SyncsDir path) ts
+StepActs (Truncates path) ts = One (entry.Truncates path) ts
+StepActs _ ts = ts ≡ []
 
 -- these are the acts of the steps, each of which was made, in order
 abbrev pub AreActsOf : List Step → List Entry → Type 0
 AreActsOf [] ts = ts ≡ []
-AreActsOf (step ∷ steps) ts = Then (ActsBy step) (AreActsOf steps) ts
+AreActsOf (step ∷ steps) ts = Then (StepActs step) (AreActsOf steps) ts

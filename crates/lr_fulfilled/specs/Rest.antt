@@ -17,26 +17,26 @@ use Rattle.lr_laws_targets.specs.Target.{Target}
 use Rattle.lr_fulfilled.specs.Left.{IsLeftAlone}
 
 -- The path is none of the state's, no name of these logs, and no directory that their rotations make.
-pub record IsElsewhere (state : Path) (targets : List Target) (x : Path) : Type 0 where
+pub record IsOfTheRest (state : Path) (targets : List Target) (x : Path) : Type 0 where
   pub no_state : x ≢ state
   pub no_part : x ≢ state_part state
   pub no_name : (t : Target) → IsIn t targets → IsOwnName t.log t.naming x → ⊥
   pub no_dir : (t : Target) → IsIn t targets → IsItsDir t x → ⊥
 
 -- none of these has the log
-abbrev pub HasNone : List Target → Path → Type 0
-HasNone targets log = (t : Target) → IsIn t targets → t.log ≢ log
+abbrev pub NoTargetHas : List Target → Path → Type 0
+NoTargetHas targets log = (t : Target) → IsIn t targets → t.log ≢ log
 
 -- A run that rotates these logs, of which it kept those, leaves alone each path elsewhere, and each name of another log that it
 -- kept.
 pub record LeavesRest (state : Path) (kept : List FoundLog) (targets : List Target) (before after : Past) : Type 0 where
-  pub paths : (x : Path) → IsElsewhere state targets x → IsLeftAlone before after x
-  pub others : (f : FoundLog) → IsIn f kept → HasNone targets f.log.path → (x : Path) → IsOwnName f.log.path f.log.naming x
+  pub paths : (x : Path) → IsOfTheRest state targets x → IsLeftAlone before after x
+  pub others : (f : FoundLog) → IsIn f kept → NoTargetHas targets f.log.path → (x : Path) → IsOwnName f.log.path f.log.naming x
       → IsLeftAlone before after x
 
 -- Each safe and steady set of another log names what it named.
 abbrev pub LeavesSets : List Target → Past → Past → Type 0
-LeavesSets targets before after = (s : LogSet) → HasNone targets s.log → IsSafe s before → IsSteady s after
+LeavesSets targets before after = (s : LogSet) → NoTargetHas targets s.log → IsSafe s before → IsSteady s after
     → (y : Path) (k : ℤ) → s.key y ≡ Some k → names (world after) y ≡ names (world before) y
 
 -- Each change among these entries is one of the rotation of one of these logs, or of the state's writing.

@@ -9,7 +9,7 @@ use Rattle.lr_host.specs.Lists.{IsIn, IsNotIn, AreDistinct}
 use Rattle.lr_host.proofs.Lists.{in_map, in_append}
 use Rattle.lr_glob.specs.Gathers.{Gathers}
 use Rattle.lr_glob.specs.Parts.{JoinOf, PickOf}
-use Rattle.lr_glob.specs.Visits.{Visit, names_of}
+use Rattle.lr_glob.specs.Visits.{Visit, visit_names}
 use Rattle.lr_glob.specs.Rounds.{Picks}
 use Rattle.lr_glob.proofs.Levels.{IsAt, level_of, joined_at, part_at, dirs_same, names_same, both_same}
 
@@ -111,17 +111,17 @@ abbrev pub dir_of : Visit → Path
 dir_of v = v.dir
 
 abbrev pub AreTrue : List Visit → Type 0
-AreTrue visits = (v : Visit) → IsIn v visits → AreNames (names_of v)
+AreTrue visits = (v : Visit) → IsIn v visits → AreNames (visit_names v)
 
 pub record VisitedIn (part : List ℕ) (visits : List Visit) (x : Path) : Type 0 where
   pub visit : Visit
   pub there : IsIn visit visits
-  pub picked : PickedIn part visit.dir (names_of visit) x
+  pub picked : PickedIn part visit.dir (visit_names visit) x
 
 pub visited_in : (part : List ℕ) (visits : List Visit) (paths : List Path) (x : Path) → Gathers (Picks part) visits paths → IsIn x paths → VisitedIn part visits x
 visited_in part _ _ x Gathers.none i = absurd i
 visited_in part _ _ x (Gathers.more v visits its paths p g) i = ⊎_elim
-    (λ (a : IsIn x its). record { visit = v; there = inl refl; picked = picked_in part v.dir (names_of v) its x p a })
+    (λ (a : IsIn x its). record { visit = v; there = inl refl; picked = picked_in part v.dir (visit_names v) its x p a })
     (λ (b : IsIn x paths). let r = visited_in part visits paths x g b in record { visit = r.visit; there = inr r.there; picked = r.picked })
     (in_append x its paths i)
 
@@ -133,9 +133,9 @@ picks_at k part visits paths g t all = λ x i.
 
 pub picks_once : (k : ℕ) (part : List ℕ) (visits : List Visit) (paths : List Path) → Gathers (Picks part) visits paths → AreTrue visits → AllAt k (map dir_of visits) → AreDistinct (map dir_of visits) → AreDistinct paths
 picks_once k part _ _ Gathers.none t all d = tt
-picks_once k part _ _ (Gathers.more v visits its paths p g) t all d = both_distinct its paths (names_once part v.dir (names_of v) its p (t v (inl refl))) (picks_once k part visits paths g (λ w i. t w (inr i)) (λ x i. all x (inr i)) d.1) (λ x y i e h.
+picks_once k part _ _ (Gathers.more v visits its paths p g) t all d = both_distinct its paths (names_once part v.dir (visit_names v) its p (t v (inl refl))) (picks_once k part visits paths g (λ w i. t w (inr i)) (λ x i. all x (inr i)) d.1) (λ x y i e h.
     let r = visited_in part visits paths y g e in
-    let a = picked_in part v.dir (names_of v) its x p i in
+    let a = picked_in part v.dir (visit_names v) its x p i in
     let b = r.picked in
     let there = in_map dir_of r.visit visits r.there in
     differs v.dir r.visit.dir (map dir_of visits) d.0 there (both_same k v.dir r.visit.dir a.name b.name (all v.dir (inl refl)) (all r.visit.dir (inr there)) ((t v (inl refl)).parts a.name a.there) ((t r.visit (inr r.there)).parts b.name b.there) (sym a.is ∙ (h ∙ b.is))))

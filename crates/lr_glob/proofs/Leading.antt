@@ -9,10 +9,10 @@ use Rattle.lr_host.specs.declared.journal.Journal.{Journal}
 use Rattle.lr_host.specs.Told.{Left}
 use Rattle.lr_host.proofs.Left.{left_then, left_first}
 use Rattle.lr_glob.specs.declared.found.GlobStop.{GlobStop}
-use Rattle.lr_glob.specs.Rounds.{Round, round_entries, Follows, Leads, there, on, Followed, Led}
+use Rattle.lr_glob.specs.Rounds.{Round, round_entries, FollowsPart, Leads, there, on, Followed, Led}
 use Rattle.lr_glob.specs.Stops.{NotFollowed, NotLed}
 
-leads_more : (parts : List (List ℕ)) (start between paths : List Path) (rounds : List Round) (part : List ℕ) (round : Round) → Leads parts start rounds between → Follows part between round paths → Leads (parts ++ part ∷ []) start (rounds ++ round ∷ []) paths
+leads_more : (parts : List (List ℕ)) (start between paths : List Path) (rounds : List Round) (part : List ℕ) (round : Round) → Leads parts start rounds between → FollowsPart part between round paths → Leads (parts ++ part ∷ []) start (rounds ++ round ∷ []) paths
 leads_more _ _ _ paths _ part round (there dirs) f = on part [] dirs paths paths round [] f (there paths)
 leads_more _ _ _ paths _ part round (on p ps dirs next between r rs g l) f = on p (ps ++ part ∷ []) dirs next paths r (rs ++ round ∷ []) g (leads_more ps next between paths rs part round l f)
 

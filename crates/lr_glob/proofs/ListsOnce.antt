@@ -25,11 +25,11 @@ use Rattle.lr_glob.specs.declared.visit.VisitStop.TheVariants as visit
 use Rattle.lr_glob.specs.Gathers.{Gathers}
 use Rattle.lr_glob.specs.Listings.{is_listing_of, listings_of}
 use Rattle.lr_glob.specs.Parts.{JoinOf, parts_in}
-use Rattle.lr_glob.specs.Visits.{Visit, names_of, visit_entries}
+use Rattle.lr_glob.specs.Visits.{Visit, visit_names, visit_entries}
 use Rattle.lr_glob.specs.Rounds.{Picks, Round, Went, Asked, round_entries, FollowsBy, Leads, Led}
-use Rattle.lr_glob.specs.Sights.{Sight, look_of}
+use Rattle.lr_glob.specs.Sights.{PathSight, look_of}
 use Rattle.lr_glob.specs.Stops.{NotVisited, RoundBroken, NotFollowed, NotLed}
-use Rattle.lr_glob.specs.Words.{root, Gave, Comes, Stopped, Begun, CallFailed, SearchThen}
+use Rattle.lr_glob.specs.Words.{root, WordGave, Comes, Stopped, WordBegun, WordCallFailed, SearchThen}
 use Rattle.lr_glob.proofs.Levels.{IsAt, at_one, level_of, level_on}
 use Rattle.lr_glob.proofs.Apart.{AreNames, AllAt, AreTrue, dir_of, differs, joins_at, joins_once, picks_at, picks_once}
 
@@ -53,7 +53,7 @@ pub each_last : (P : Entry → Type 0) (xs ys : List Entry) → Each P (xs ++ ys
 each_last P [] ys a = a
 each_last P (x ∷ xs) ys a = each_last P xs ys a.1
 
-visit_true : (v : Visit) → Each IsTrue (visit_entries v) → AreNames (names_of v)
+visit_true : (v : Visit) → Each IsTrue (visit_entries v) → AreNames (visit_names v)
 visit_true v a = by (is_dir v.seen) a.1
   where
     by : (b : Bool) → Each IsTrue (cond b (entry.List v.dir v.listed ∷ []) []) → AreNames (cond b v.listed [])
@@ -62,7 +62,7 @@ visit_true v a = by (is_dir v.seen) a.1
 
 pub visits_true : (visits : List Visit) → Each IsTrue (flat_map visit_entries visits) → AreTrue visits
 visits_true [] a v i = absurd i
-visits_true (w ∷ visits) a v (inl e) = subst (λ x. AreNames (names_of x)) e (visit_true w (each_first IsTrue (visit_entries w) (flat_map visit_entries visits) a))
+visits_true (w ∷ visits) a v (inl e) = subst (λ x. AreNames (visit_names x)) e (visit_true w (each_first IsTrue (visit_entries w) (flat_map visit_entries visits) a))
 visits_true (w ∷ visits) a v (inr i) = visits_true visits (each_last IsTrue (visit_entries w) (flat_map visit_entries visits) a) v i
 
 -- ---- counts
@@ -217,7 +217,7 @@ module _ (dir : Path) where
   sees_none : (x : Path) (P : Option Seen → Type 0) (ts : List Entry) → Sees x P ts → listings_of dir ts ≡ 0
   sees_none x P ts s = count_as ts (entry.Look x s.seen ∷ []) s.look refl
 
-  sights_none : (ts : List Entry) (sights : List Sight) → ts ≡ map look_of sights → listings_of dir ts ≡ 0
+  sights_none : (ts : List Entry) (sights : List PathSight) → ts ≡ map look_of sights → listings_of dir ts ≡ 0
   sights_none ts sights e = count_as ts (map look_of sights) e (ap (λ (es : List Entry). length es) (none_pass (is_listing_of dir) (map look_of sights) (each_map (λ e. is_listing_of dir e ≡ false) look_of sights (λ s. refl))))
 
   not_visited : (x : Path) (why : VisitStop) (ts : List Entry) → NotVisited x why ts → listings_of dir ts ≡ 0
@@ -260,23 +260,23 @@ module _ (dir : Path) where
   at_most : (ts : List Entry) → listings_of dir ts ≡ 0 → listings_of dir ts ≤ 1
   at_most ts z = omega (arith, z)
 
-  gave_once : (word : List ℕ) (found : List Found) (ts : List Entry) → Each IsTrue ts → Gave word found ts → listings_of dir ts ≤ 1
-  gave_once word found ts a (Gave.literal plain s) = at_most ts (sees_none _ _ ts s)
-  gave_once word found ts a (Gave.no_path plain other none e) = at_most ts (count_as ts [] e refl)
-  gave_once word found ts a (Gave.wildcard wild absolute s) = searched word _ ts a (λ ordered us l. sights_none us l.sights l.looks) s
-  gave_once word found ts a (Gave.relative wild relative none e) = at_most ts (count_as ts [] e refl)
+  gave_once : (word : List ℕ) (found : List Found) (ts : List Entry) → Each IsTrue ts → WordGave word found ts → listings_of dir ts ≤ 1
+  gave_once word found ts a (WordGave.literal plain s) = at_most ts (sees_none _ _ ts s)
+  gave_once word found ts a (WordGave.no_path plain other none e) = at_most ts (count_as ts [] e refl)
+  gave_once word found ts a (WordGave.wildcard wild absolute s) = searched word _ ts a (λ ordered us l. sights_none us l.sights l.looks) s
+  gave_once word found ts a (WordGave.relative wild relative none e) = at_most ts (count_as ts [] e refl)
 
-  failed_once : (word : List ℕ) (kind : CallKind) (path : Path) (ts : List Entry) → Each IsTrue ts → CallFailed word kind path ts → listings_of dir ts ≤ 1
-  failed_once word kind path ts a (CallFailed.at_literal plain k is e) = at_most ts (count_as ts [] e refl)
-  failed_once word kind path ts a (CallFailed.at_visit wild n) = not_led _ _ ts a n
-  failed_once word kind path ts a (CallFailed.at_look wild k s) = searched word _ ts a (λ ordered us l. sights_none us l.sights l.looks) s
+  failed_once : (word : List ℕ) (kind : CallKind) (path : Path) (ts : List Entry) → Each IsTrue ts → WordCallFailed word kind path ts → listings_of dir ts ≤ 1
+  failed_once word kind path ts a (WordCallFailed.at_literal plain k is e) = at_most ts (count_as ts [] e refl)
+  failed_once word kind path ts a (WordCallFailed.at_visit wild n) = not_led _ _ ts a n
+  failed_once word kind path ts a (WordCallFailed.at_look wild k s) = searched word _ ts a (λ ordered us l. sights_none us l.sights l.looks) s
 
-  begun_once : (word : List ℕ) (ts : List Entry) → Each IsTrue ts → Begun word ts → listings_of dir ts ≤ 1
-  begun_once word ts a (Begun.not_at_all e) = at_most ts (count_as ts [] e refl)
-  begun_once word ts a (Begun.at_literal plain s) = at_most ts (sees_none _ _ ts s)
-  begun_once word ts a (Begun.at_visit wild n) = not_led _ _ ts a n
-  begun_once word ts a (Begun.between wild paths l) = (led (parts_in word) paths ts l a).stage.once
-  begun_once word ts a (Begun.at_look wild s) = searched word _ ts a (λ ordered us l. sights_none us l.sights l.looks) s
+  begun_once : (word : List ℕ) (ts : List Entry) → Each IsTrue ts → WordBegun word ts → listings_of dir ts ≤ 1
+  begun_once word ts a (WordBegun.not_at_all e) = at_most ts (count_as ts [] e refl)
+  begun_once word ts a (WordBegun.at_literal plain s) = at_most ts (sees_none _ _ ts s)
+  begun_once word ts a (WordBegun.at_visit wild n) = not_led _ _ ts a n
+  begun_once word ts a (WordBegun.between wild paths l) = (led (parts_in word) paths ts l a).stage.once
+  begun_once word ts a (WordBegun.at_look wild s) = searched word _ ts a (λ ordered us l. sights_none us l.sights l.looks) s
 
   stopped_by : (word : List ℕ) (room : ℕ) (why : GlobStop) (ts : List Entry) → Each IsTrue ts → Stopped word room why ts → listings_of dir ts ≤ 1
   stopped_by word room (stop.Call kind path) ts a s = failed_once word kind path ts a s

@@ -12,7 +12,7 @@ use Rattle.lr_rules.specs.Path.{is_slash, is_absolute}
 use Rattle.lr_host.specs.Lists.{IsIn}
 use Rattle.lr_glob.specs.Parts.{parts_in}
 use Rattle.lr_glob.proofs.Names.{Parts, some_parts, split_parts}
-use Rattle.lr_rules.specs.Match.{Matches, IsPlain, is_sign, has_sign, is_wildcard, literal_path}
+use Rattle.lr_rules.specs.Match.{Matches, IsPlain, is_wild_sign, has_sign, is_wildcard, literal_path}
 
 -- ---- the bytes of a character
 
@@ -50,7 +50,7 @@ spelt c = by (nat_lt c 128) refl
 no_escape : (b : ℕ) → 128 ≤ b → (b == 92) ≡ false
 no_escape b m = grind (arith, nat_tests, m)
 
-no_sign_byte : (b : ℕ) → 128 ≤ b → is_sign b ≡ false
+no_sign_byte : (b : ℕ) → 128 ≤ b → is_wild_sign b ≡ false
 no_sign_byte b m = grind (arith, nat_tests, m)
 
 no_slash_byte : (b : ℕ) → 128 ≤ b → is_slash b ≡ false
@@ -119,8 +119,8 @@ no_sign true (c ∷ cs) h = no_sign false cs (by c (encode c) (spelt c) h)
 no_sign false (c ∷ cs) h = by c (encode c) (spelt c) (λ e. no_sign e cs) h
   where
     by : (x : ℕ) (bs : List ℕ) → Spelt x bs → ((e : Bool) → has_sign e (encodes cs) ≡ false → has_sign e cs ≡ false) → has_sign false (bs ++ encodes cs) ≡ false → has_sign false (x ∷ cs) ≡ false
-    by _ _ (low x) f g = let p = or_parts (is_sign x) (has_sign (x == 92) (encodes cs)) g in or_from (is_sign x) (has_sign (x == 92) cs) p.0 (f (x == 92) p.1)
-    by _ _ (high x b bs m n s) f g = or_from (is_sign x) (has_sign (x == 92) cs) (no_sign_byte x m) (ap (λ t. has_sign t cs) (no_escape x m) ∙ f false (sym (sign_highs (b ∷ bs) (encodes cs) (n, s)) ∙ g))
+    by _ _ (low x) f g = let p = or_parts (is_wild_sign x) (has_sign (x == 92) (encodes cs)) g in or_from (is_wild_sign x) (has_sign (x == 92) cs) p.0 (f (x == 92) p.1)
+    by _ _ (high x b bs m n s) f g = or_from (is_wild_sign x) (has_sign (x == 92) cs) (no_sign_byte x m) (ap (λ t. has_sign t cs) (no_escape x m) ∙ f false (sym (sign_highs (b ∷ bs) (encodes cs) (n, s)) ∙ g))
 
 no_slash : (cs : List ℕ) → list_any is_slash (encodes cs) ≡ false → list_any is_slash cs ≡ false
 no_slash [] h = refl
@@ -132,19 +132,19 @@ no_slash (c ∷ cs) h = let p = or_parts (list_any is_slash (encode c)) (list_an
 
 -- ---- matching
 
-is_plain : (c : ℕ) (behind : List ℕ) → is_sign c ≡ false → (c ≡ 92 → behind ≡ []) → IsPlain c behind
+is_plain : (c : ℕ) (behind : List ℕ) → is_wild_sign c ≡ false → (c ≡ 92 → behind ≡ []) → IsPlain c behind
 is_plain c behind none last = record { no_one = λ e. other 63 e refl; no_run = λ e. other 42 e refl; no_class = λ e t signs rest k. other 91 e refl; no_escape = last }
   where
-    other : (x : ℕ) → c ≡ x → is_sign x ≡ true → ⊥
-    other x e t = let g = sym (ap is_sign e ∙ t) ∙ none in absurd (cc)
+    other : (x : ℕ) → c ≡ x → is_wild_sign x ≡ true → ⊥
+    other x e t = let g = sym (ap is_wild_sign e ∙ t) ∙ none in absurd (cc)
 
 matches_itself : (f : Bool) (cs : List ℕ) → has_sign false cs ≡ false → list_any is_slash cs ≡ false → Matches f cs (literal_path cs)
 matches_itself f [] h s = Matches.ends
-matches_itself f (c ∷ []) h s = Matches.itself (is_plain c [] (or_parts (is_sign c) (has_sign (c == 92) []) h).0 (λ e. refl)) Matches.ends
+matches_itself f (c ∷ []) h s = Matches.itself (is_plain c [] (or_parts (is_wild_sign c) (has_sign (c == 92) []) h).0 (λ e. refl)) Matches.ends
 matches_itself f (c ∷ d ∷ cs) h s = by (c == 92) refl p.1 (λ g. matches_itself false (d ∷ cs) g rest.1) (λ g. matches_itself false cs g next.1)
   where
-    p : (is_sign c ≡ false) × (has_sign (c == 92) (d ∷ cs) ≡ false)
-    p = or_parts (is_sign c) (has_sign (c == 92) (d ∷ cs)) h
+    p : (is_wild_sign c ≡ false) × (has_sign (c == 92) (d ∷ cs) ≡ false)
+    p = or_parts (is_wild_sign c) (has_sign (c == 92) (d ∷ cs)) h
 
     rest : (is_slash c ≡ false) × (list_any is_slash (d ∷ cs) ≡ false)
     rest = or_parts (is_slash c) (list_any is_slash (d ∷ cs)) s
@@ -204,8 +204,8 @@ literal_matches part u plain s = subst (λ xs. Matches true xs (chars (literal_p
 
 -- ---- one name alone
 
-sign_none : (c : ℕ) (cs : List ℕ) (s : ℕ) → has_sign false (c ∷ cs) ≡ false → c ≡ s → is_sign s ≡ true → ⊥
-sign_none c cs s none is t = let g = sym (ap is_sign is ∙ t) ∙ (or_parts (is_sign c) (has_sign (c == 92) cs) none).0 in absurd (cc)
+sign_none : (c : ℕ) (cs : List ℕ) (s : ℕ) → has_sign false (c ∷ cs) ≡ false → c ≡ s → is_wild_sign s ≡ true → ⊥
+sign_none c cs s none is t = let g = sym (ap is_wild_sign is ∙ t) ∙ (or_parts (is_wild_sign c) (has_sign (c == 92) cs) none).0 in absurd (cc)
 
 itself_is : (c : ℕ) (part name : List ℕ) → IsPlain c part → name ≡ literal_path part → c ∷ name ≡ literal_path (c ∷ part)
 itself_is c part name p e = by (c == 92) refl
@@ -227,10 +227,10 @@ behind_itself c part p none = by (c == 92) refl none
 matched_is : (f : Bool) (cs name : List ℕ) → has_sign false cs ≡ false → list_any is_slash cs ≡ false → Matches f cs name → name ≡ literal_path cs
 matched_is f _ _ none plain Matches.ends = refl
 matched_is f _ _ none plain (Matches.itself {c = c} {part = part} {name = name} p m) =
-    itself_is c part name p (matched_is false part name (behind_itself c part p (or_parts (is_sign c) (has_sign (c == 92) part) none).1) (or_parts (is_slash c) (list_any is_slash part) plain).1 m)
+    itself_is c part name p (matched_is false part name (behind_itself c part p (or_parts (is_wild_sign c) (has_sign (c == 92) part) none).1) (or_parts (is_slash c) (list_any is_slash part) plain).1 m)
 matched_is f _ _ none plain (Matches.escaped {sign = sign} {c = c} {part = part} {name = name} is m) =
     let slashes = or_parts (is_slash c) (list_any is_slash part) (or_parts (is_slash sign) (list_any is_slash (c ∷ part)) plain).1 in
-    let signs = subst (λ t. has_sign t (c ∷ part) ≡ false) ((Decides-eqb sign 92).1 is) (or_parts (is_sign sign) (has_sign (sign == 92) (c ∷ part)) none).1 in
+    let signs = subst (λ t. has_sign t (c ∷ part) ≡ false) ((Decides-eqb sign 92).1 is) (or_parts (is_wild_sign sign) (has_sign (sign == 92) (c ∷ part)) none).1 in
     subst (λ x. c ∷ name ≡ literal_path (x ∷ c ∷ part)) (sym is) (ap (λ xs. c ∷ xs) (matched_is false part name signs slashes.1 m) ∙ sym (drops c part slashes.0))
 matched_is f _ _ none plain (Matches.any_one {sign = sign} {part = part} is opens m) = absurd (sign_none sign part 63 none is refl)
 matched_is f _ _ none plain (Matches.run_ends {sign = sign} {part = part} is m) = absurd (sign_none sign part 42 none is refl)

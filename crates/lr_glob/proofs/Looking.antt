@@ -18,7 +18,7 @@ use Rattle.lr_host.proofs.Left.{left_as, left_then, left_first}
 use Rattle.lr_glob.specs.declared.found.Found.{Found}
 use Rattle.lr_glob.specs.declared.found.GlobStop.{GlobStop}
 use Rattle.lr_glob.specs.declared.found.GlobStop.TheVariants as stop
-use Rattle.lr_glob.specs.Sights.{Sight, look_of, file_at, file_of, is_whole, LookedAt, LooksBroken}
+use Rattle.lr_glob.specs.Sights.{PathSight, look_of, file_at, found_file, is_whole, LookedAt, LooksBroken}
 
 -- ---- one look
 
@@ -30,7 +30,7 @@ look_lost path look l = left_as l (λ ts e. record { sights = record { path = pa
 
 -- ---- one after another
 
-abbrev path_of : Sight → Path
+abbrev path_of : PathSight → Path
 path_of s = s.path
 
 pub looked_none : (found : List Found) (o : Option Journal) → found ≡ [] → Left (LookedAt [] found) o o
@@ -38,15 +38,15 @@ looked_none found o e = left_first (LookedAt [] found) o (record { sights = []; 
 
 pub looked_more : (done : List Path) (before now : List Found) (path : Path) {o m n : Option Journal} → Left (LookedAt done before) o m → Left (Sees path (λ seen. now ≡ before ++ file_at path seen)) m n → Left (LookedAt (done ++ path ∷ []) now) o n
 looked_more done before now path l k = left_then l k (λ xs ys h s.
-    let sight : Sight = record { path = path; seen = s.seen } in
+    let sight : PathSight = record { path = path; seen = s.seen } in
     record {
       sights = h.sights ++ sight ∷ [];
       each = map-append path_of h.sights (sight ∷ []) ∙ ap (λ ps. ps ++ path ∷ []) h.each;
-      found_are = s.is ∙ (ap (λ fs. fs ++ file_at path s.seen) h.found_are ∙ (ap (λ fs. flat_map file_of h.sights ++ fs) (sym (append-nil (file_at path s.seen))) ∙ sym (flat_map-append file_of h.sights (sight ∷ []))));
+      found_are = s.is ∙ (ap (λ fs. fs ++ file_at path s.seen) h.found_are ∙ (ap (λ fs. flat_map found_file h.sights ++ fs) (sym (append-nil (file_at path s.seen))) ∙ sym (flat_map-append found_file h.sights (sight ∷ []))));
       looks = ap (λ us. us ++ ys) h.looks ∙ (ap (λ us. map look_of h.sights ++ us) s.look ∙ sym (map-append look_of h.sights (sight ∷ [])));
     })
 
-seam : (all done : List Path) (path : Path) (rest one : List Path) (sights more : List Sight) → all ≡ done ++ path ∷ rest → map path_of sights ≡ done → path ∷ [] ≡ map path_of more ++ one → all ≡ map path_of (sights ++ more) ++ (one ++ rest)
+seam : (all done : List Path) (path : Path) (rest one : List Path) (sights more : List PathSight) → all ≡ done ++ path ∷ rest → map path_of sights ≡ done → path ∷ [] ≡ map path_of more ++ one → all ≡ map path_of (sights ++ more) ++ (one ++ rest)
 seam all done path rest one sights more e each its =
     e
     ∙ (ap (λ ds. ds ++ path ∷ rest) (sym each)
@@ -54,7 +54,7 @@ seam all done path rest one sights more e each its =
     ∙ (ap (λ ps. map path_of sights ++ ps) (append_assoc (map path_of more) one rest)
     ∙ (sym (append_assoc (map path_of sights) (map path_of more) (one ++ rest)) ∙ ap (λ ps. ps ++ (one ++ rest)) (sym (map-append path_of sights more))))))
 
-looks_joined : (sights more : List Sight) (xs ys : List Entry) → xs ≡ map look_of sights → ys ≡ map look_of more → xs ++ ys ≡ map look_of (sights ++ more)
+looks_joined : (sights more : List PathSight) (xs ys : List Entry) → xs ≡ map look_of sights → ys ≡ map look_of more → xs ++ ys ≡ map look_of (sights ++ more)
 looks_joined sights more xs ys ex ey = ap (λ us. us ++ ys) ex ∙ (ap (λ us. map look_of sights ++ us) ey ∙ sym (map-append look_of sights more))
 
 broken_on : (all done : List Path) (before : List Found) (path : Path) (rest : List Path) (why : GlobStop) (xs ys : List Entry) → all ≡ done ++ path ∷ rest → LookedAt done before xs → LooksBroken (path ∷ []) why ys → LooksBroken all why (xs ++ ys)

@@ -19,9 +19,9 @@ use Rattle.lr_glob.specs.declared.visit.VisitStop.TheVariants as visit
 use Rattle.lr_glob.specs.Looking.{IsLooking, AreLooking}
 use Rattle.lr_glob.specs.Visits.{Visit, visit_entries}
 use Rattle.lr_glob.specs.Rounds.{Round, Went, Asked, round_entries, Led}
-use Rattle.lr_glob.specs.Sights.{Sight, look_of}
+use Rattle.lr_glob.specs.Sights.{PathSight, look_of}
 use Rattle.lr_glob.specs.Stops.{NotVisited, RoundBroken, NotFollowed, NotLed}
-use Rattle.lr_glob.specs.Words.{Gave, Comes, Stopped, Begun, CallFailed, SearchThen}
+use Rattle.lr_glob.specs.Words.{WordGave, Comes, Stopped, WordBegun, WordCallFailed, SearchThen}
 
 both : {P Q : List Entry → Type 0} (ts : List Entry) → ((us : List Entry) → P us → AreLooking us) → ((us : List Entry) → Q us → AreLooking us) → Then P Q ts → AreLooking ts
 both ts f g t = subst AreLooking (sym t.joined) (each_append IsLooking t.front t.back (f t.front t.first) (g t.back t.second))
@@ -75,32 +75,32 @@ not_followed part dirs why ts n = by n.asked
 not_led : (parts : List (List ℕ)) (dirs : List Path) (why : GlobStop) (ts : List Entry) → NotLed parts dirs why ts → AreLooking ts
 not_led parts dirs why ts n = both ts (λ us l. led_looks n.before dirs n.between us l) (λ us f. not_followed n.part n.between why us f) n.entries
 
-sights_look : (ts : List Entry) (sights : List Sight) → ts ≡ map look_of sights → AreLooking ts
+sights_look : (ts : List Entry) (sights : List PathSight) → ts ≡ map look_of sights → AreLooking ts
 sights_look ts sights e = as_these ts (map look_of sights) e (each_map IsLooking look_of sights (λ s. tt))
 
 searched : (word : List ℕ) (P : List Path → List Entry → Type 0) (ts : List Entry) → ((ordered : List Path) (us : List Entry) → P ordered us → AreLooking us) → SearchThen word P ts → AreLooking ts
 searched word P ts f s = both ts (λ us l. led_looks _ _ s.paths us l) (λ us p. f s.ordered us p) s.entries
 
-gave_looks : (word : List ℕ) (found : List Found) (ts : List Entry) → Gave word found ts → AreLooking ts
-gave_looks word found ts (Gave.literal plain s) = sees_looks _ _ ts s
-gave_looks word found ts (Gave.no_path plain other none e) = none_looks ts e
-gave_looks word found ts (Gave.wildcard wild absolute s) = searched word _ ts (λ ordered us l. sights_look us l.sights l.looks) s
-gave_looks word found ts (Gave.relative wild relative none e) = none_looks ts e
+gave_looks : (word : List ℕ) (found : List Found) (ts : List Entry) → WordGave word found ts → AreLooking ts
+gave_looks word found ts (WordGave.literal plain s) = sees_looks _ _ ts s
+gave_looks word found ts (WordGave.no_path plain other none e) = none_looks ts e
+gave_looks word found ts (WordGave.wildcard wild absolute s) = searched word _ ts (λ ordered us l. sights_look us l.sights l.looks) s
+gave_looks word found ts (WordGave.relative wild relative none e) = none_looks ts e
 
 pub comes_looks : (word : List ℕ) (room : ℕ) (result : Result (List Found) GlobStop) (ts : List Entry) → Comes word room result ts → AreLooking ts
 comes_looks word room result ts c = gave_looks word c.all ts c.gave
 
-failed_looks : (word : List ℕ) (kind : CallKind) (path : Path) (ts : List Entry) → CallFailed word kind path ts → AreLooking ts
-failed_looks word kind path ts (CallFailed.at_literal plain k is e) = none_looks ts e
-failed_looks word kind path ts (CallFailed.at_visit wild n) = not_led _ _ _ ts n
-failed_looks word kind path ts (CallFailed.at_look wild k s) = searched word _ ts (λ ordered us l. sights_look us l.sights l.looks) s
+failed_looks : (word : List ℕ) (kind : CallKind) (path : Path) (ts : List Entry) → WordCallFailed word kind path ts → AreLooking ts
+failed_looks word kind path ts (WordCallFailed.at_literal plain k is e) = none_looks ts e
+failed_looks word kind path ts (WordCallFailed.at_visit wild n) = not_led _ _ _ ts n
+failed_looks word kind path ts (WordCallFailed.at_look wild k s) = searched word _ ts (λ ordered us l. sights_look us l.sights l.looks) s
 
-begun_looks : (word : List ℕ) (ts : List Entry) → Begun word ts → AreLooking ts
-begun_looks word ts (Begun.not_at_all e) = none_looks ts e
-begun_looks word ts (Begun.at_literal plain s) = sees_looks _ _ ts s
-begun_looks word ts (Begun.at_visit wild n) = not_led _ _ _ ts n
-begun_looks word ts (Begun.between wild paths l) = led_looks _ _ paths ts l
-begun_looks word ts (Begun.at_look wild s) = searched word _ ts (λ ordered us l. sights_look us l.sights l.looks) s
+begun_looks : (word : List ℕ) (ts : List Entry) → WordBegun word ts → AreLooking ts
+begun_looks word ts (WordBegun.not_at_all e) = none_looks ts e
+begun_looks word ts (WordBegun.at_literal plain s) = sees_looks _ _ ts s
+begun_looks word ts (WordBegun.at_visit wild n) = not_led _ _ _ ts n
+begun_looks word ts (WordBegun.between wild paths l) = led_looks _ _ paths ts l
+begun_looks word ts (WordBegun.at_look wild s) = searched word _ ts (λ ordered us l. sights_look us l.sights l.looks) s
 
 pub stopped_looks : (word : List ℕ) (room : ℕ) (why : GlobStop) (ts : List Entry) → Stopped word room why ts → AreLooking ts
 stopped_looks word room (stop.Call kind path) ts s = failed_looks word kind path ts s

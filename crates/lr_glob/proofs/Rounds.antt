@@ -12,27 +12,27 @@ use Rattle.lr_host.proofs.Left.{left_as, left_then, left_first}
 use Rattle.lr_glob.specs.declared.found.GlobStop.{GlobStop}
 use Rattle.lr_glob.specs.declared.found.GlobStop.TheVariants as stop
 use Rattle.lr_glob.specs.declared.visit.VisitStop.{VisitStop}
-use Rattle.lr_glob.specs.Gathers.{Gathers, Adds}
+use Rattle.lr_glob.specs.Gathers.{Gathers, AddsPaths}
 use Rattle.lr_glob.specs.Parts.{PickOf, JoinOf}
-use Rattle.lr_glob.specs.Visits.{Visit, names_of, visit_entries, Visited}
-use Rattle.lr_glob.specs.Rounds.{Picks, Round, Went, Asked, FollowsBy, Follows, Followed}
-use Rattle.lr_glob.specs.Stops.{NotVisited, stop_of, RoundBroken, NotFollowed}
+use Rattle.lr_glob.specs.Visits.{Visit, visit_names, visit_entries, Visited}
+use Rattle.lr_glob.specs.Rounds.{Picks, Round, Went, Asked, FollowsBy, FollowsPart, Followed}
+use Rattle.lr_glob.specs.Stops.{NotVisited, glob_stop, RoundBroken, NotFollowed}
 use Rattle.lr_glob.specs.Turns.{VisitAdds, VisitsGive, VisitBroken}
 use Rattle.lr_glob.proofs.Gathering.{gathers_more}
 
 -- ---- one visit
 
-pub visit_early : (dir : Path) (why : GlobStop) (cause : VisitStop) {o n : Option Journal} → why ≡ stop_of cause dir → Left (NotVisited dir cause) o n → Left (VisitBroken dir why) o n
+pub visit_early : (dir : Path) (why : GlobStop) (cause : VisitStop) {o n : Option Journal} → why ≡ glob_stop cause dir → Left (NotVisited dir cause) o n → Left (VisitBroken dir why) o n
 visit_early dir why cause e l = left_as l (λ ts h. VisitBroken.early cause e h)
 
 pub visit_late : (dir : Path) (names : List (List ℕ)) {o n : Option Journal} → Left (Visited dir names) o n → Left (VisitBroken dir stop.Memory) o n
 visit_late dir names l = left_as l (λ ts v. VisitBroken.late v.visit v.at refl v.entries)
 
-pub visit_adds : (part : List ℕ) (dir : Path) (names : List (List ℕ)) (before now : List Path) {o n : Option Journal} → Left (Visited dir names) o n → Adds (Gathers (PickOf part dir) names) before now → Left (VisitAdds part dir before now) o n
+pub visit_adds : (part : List ℕ) (dir : Path) (names : List (List ℕ)) (before now : List Path) {o n : Option Journal} → Left (Visited dir names) o n → AddsPaths (Gathers (PickOf part dir) names) before now → Left (VisitAdds part dir before now) o n
 visit_adds part dir names before now l a = left_as l (λ ts v. record {
   visit = v.visit;
   at = v.at;
-  adds = (a.0, subst (λ d. Gathers (PickOf part d) (names_of v.visit) a.0) (sym v.at) (subst (λ ns. Gathers (PickOf part dir) ns a.0) (sym v.names_are) a.1), a.2);
+  adds = (a.0, subst (λ d. Gathers (PickOf part d) (visit_names v.visit) a.0) (sym v.at) (subst (λ ns. Gathers (PickOf part dir) ns a.0) (sym v.names_are) a.1), a.2);
   entries = v.entries;
 })
 
@@ -81,7 +81,7 @@ round_broken part all done before rest dir why e l k = left_then l k (λ xs ys g
 
 -- ---- one part
 
-followed_by : (part : List ℕ) (dirs paths : List Path) (round : Round) (b : Bool) → is_wildcard part ≡ b → FollowsBy b part dirs round paths → Follows part dirs round paths
+followed_by : (part : List ℕ) (dirs paths : List Path) (round : Round) (b : Bool) → is_wildcard part ≡ b → FollowsBy b part dirs round paths → FollowsPart part dirs round paths
 followed_by part dirs paths round b e f = subst (λ c. FollowsBy c part dirs round paths) (sym e) f
 
 pub asked_told : {T : Type 0} (items : T → List Path) (part : List ℕ) (dirs : List Path) (r : Result T GlobStop) (o n : Option Journal) → is_wildcard part ≡ true → IfOk r (λ p. Left (VisitsGive part dirs (items p)) o n) → IfOk r (λ p. Left (Followed part dirs (items p)) o n)

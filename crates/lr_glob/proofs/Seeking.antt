@@ -24,9 +24,9 @@ use Rattle.lr_glob.specs.declared.found.Found.{Found}
 use Rattle.lr_glob.specs.declared.found.GlobStop.TheVariants as stop
 use Rattle.lr_glob.specs.Parts.{parts_in}
 use Rattle.lr_glob.specs.Rounds.{Round, Went, Asked, round_entries, FollowsBy, Leads, Led}
-use Rattle.lr_glob.specs.Sights.{Sight, is_whole, is_file_kind, is_long, file_at, file_of, look_of, seen_at, judged, LookedAt}
+use Rattle.lr_glob.specs.Sights.{PathSight, is_whole, is_file_kind, is_long, file_at, found_file, look_of, seen_at, judged, LookedAt}
 use Rattle.lr_glob.specs.Sought.{IsSought}
-use Rattle.lr_glob.specs.Words.{root, Gave, Comes, SearchThen}
+use Rattle.lr_glob.specs.Words.{root, WordGave, Comes, SearchThen}
 use Rattle.lr_glob.proofs.Apart.{dir_of, joined_in, visited_in}
 use Rattle.lr_glob.proofs.ListsOnce.{IsTrue, each_last, visits_true, made_true}
 use Rattle.lr_glob.proofs.Names.{behind, under, AreParts, under_root, word_behind, literal_part, word_parts}
@@ -119,17 +119,17 @@ file_seen : (path : Path) (look : Option Seen) (f : Found) → IsIn f (file_at p
 file_seen path None f i = absurd i
 file_seen path (Some seen) f i = file_there path seen f seen.kind refl i
 
-record FileIn (sights : List Sight) (f : Found) : Type 0 where
-  sight : Sight
+record FileIn (sights : List PathSight) (f : Found) : Type 0 where
+  sight : PathSight
   there : IsIn sight sights
   file : FileAt sight.path sight.seen f
 
-file_in : (sights : List Sight) (f : Found) → IsIn f (flat_map file_of sights) → FileIn sights f
+file_in : (sights : List PathSight) (f : Found) → IsIn f (flat_map found_file sights) → FileIn sights f
 file_in [] f i = absurd i
 file_in (s ∷ sights) f i = ⊎_elim
-    (λ (a : IsIn f (file_of s)). record { sight = s; there = inl refl; file = file_seen s.path s.seen f a })
-    (λ (b : IsIn f (flat_map file_of sights)). let r = file_in sights f b in record { sight = r.sight; there = inr r.there; file = r.file })
-    (in_append f (file_of s) (flat_map file_of sights) i)
+    (λ (a : IsIn f (found_file s)). record { sight = s; there = inl refl; file = file_seen s.path s.seen f a })
+    (λ (b : IsIn f (flat_map found_file sights)). let r = file_in sights f b in record { sight = r.sight; there = inr r.there; file = r.file })
+    (in_append f (found_file s) (flat_map found_file sights) i)
 
 left_in : (paths : List Path) (x : Path) → IsIn x (filter is_whole paths) → IsIn x paths × (is_whole x ≡ true)
 left_in [] x i = absurd i
@@ -157,7 +157,7 @@ search_seeks : (word : List ℕ) (found : List Found) (ts : List Entry) (f : Fou
 search_seeks word found ts f wild absolute full u t s i =
     let l = s.entries.second in
     let r = file_in l.sights f (subst (IsIn f) l.found_are i) in
-    let ordered = subst (IsIn r.sight.path) l.each (in_map (λ (x : Sight). x.path) r.sight l.sights r.there) in
+    let ordered = subst (IsIn r.sight.path) l.each (in_map (λ (x : PathSight). x.path) r.sight l.sights r.there) in
     let whole = in_from r.sight.path (filter is_whole s.paths) (Contains-permutation s.ordered (filter is_whole s.paths) r.sight.path (IsPermutation-sym (filter is_whole s.paths) s.ordered s.order.same) (in_to r.sight.path s.ordered ordered)) in
     let path = left_in s.paths r.sight.path whole in
     let seeks_it = led_seeks word s.paths s.entries.front r.sight.path wild absolute full u s.entries.first (each_first IsTrue s.entries.front s.entries.back (subst (Each IsTrue) s.entries.joined t)) path.0 in
@@ -166,11 +166,11 @@ search_seeks word found ts f wild absolute full u t s i =
 none_in : (f : Found) (found : List Found) → found ≡ [] → IsIn f found → ⊥
 none_in f found e i = subst (IsIn f) e i
 
-gave_seeks : (word : List ℕ) (found : List Found) (ts : List Entry) (f : Found) → is_wildcard word ≡ true → has_empty_part word ≡ false → IsUtf8 word → Each IsTrue ts → Gave word found ts → IsIn f found → IsSought word f
-gave_seeks word found ts f wild full u t (Gave.literal plain s) i = absurd (let h = sym wild ∙ plain in cc)
-gave_seeks word found ts f wild full u t (Gave.no_path plain other none e) i = absurd (none_in f found none i)
-gave_seeks word found ts f wild full u t (Gave.wildcard is absolute s) i = search_seeks word found ts f wild absolute full u t s i
-gave_seeks word found ts f wild full u t (Gave.relative is relative none e) i = absurd (none_in f found none i)
+gave_seeks : (word : List ℕ) (found : List Found) (ts : List Entry) (f : Found) → is_wildcard word ≡ true → has_empty_part word ≡ false → IsUtf8 word → Each IsTrue ts → WordGave word found ts → IsIn f found → IsSought word f
+gave_seeks word found ts f wild full u t (WordGave.literal plain s) i = absurd (let h = sym wild ∙ plain in cc)
+gave_seeks word found ts f wild full u t (WordGave.no_path plain other none e) i = absurd (none_in f found none i)
+gave_seeks word found ts f wild full u t (WordGave.wildcard is absolute s) i = search_seeks word found ts f wild absolute full u t s i
+gave_seeks word found ts f wild full u t (WordGave.relative is relative none e) i = absurd (none_in f found none i)
 
 pub wildcards_seek : (p q : Past) (es : List Entry) (word : List ℕ) (room : ℕ) (found : List Found) → IsUtf8 word → is_wildcard word ≡ true → has_empty_part word ≡ false
     → Made p es q → Comes word room (Ok found) (reverse es) → (f : Found) → IsIn f found → IsSought word f
@@ -181,11 +181,11 @@ seen_there path None f i = absurd i
 seen_there path (Some seen) f (inl e) = is_there path seen f e
 seen_there path (Some seen) f (inr i) = absurd i
 
-gave_gives : (word : List ℕ) (found : List Found) (ts : List Entry) (f : Found) → is_wildcard word ≡ false → Gave word found ts → IsIn f found → WordGives word f.path
-gave_gives word found ts f plain (Gave.literal is s) i = WordGives.literal plain (seen_there (literal_path word) s.seen f (subst (IsIn f) s.is i)).at
-gave_gives word found ts f plain (Gave.no_path is other none e) i = absurd (none_in f found none i)
-gave_gives word found ts f plain (Gave.wildcard wild absolute s) i = absurd (let h = sym wild ∙ plain in cc)
-gave_gives word found ts f plain (Gave.relative wild relative none e) i = absurd (none_in f found none i)
+gave_gives : (word : List ℕ) (found : List Found) (ts : List Entry) (f : Found) → is_wildcard word ≡ false → WordGave word found ts → IsIn f found → WordGives word f.path
+gave_gives word found ts f plain (WordGave.literal is s) i = WordGives.literal plain (seen_there (literal_path word) s.seen f (subst (IsIn f) s.is i)).at
+gave_gives word found ts f plain (WordGave.no_path is other none e) i = absurd (none_in f found none i)
+gave_gives word found ts f plain (WordGave.wildcard wild absolute s) i = absurd (let h = sym wild ∙ plain in cc)
+gave_gives word found ts f plain (WordGave.relative wild relative none e) i = absurd (none_in f found none i)
 
 pub literals_give : (word : List ℕ) (room : ℕ) (found : List Found) (ts : List Entry) → is_wildcard word ≡ false → Comes word room (Ok found) ts → (f : Found) → IsIn f found → WordGives word f.path
 literals_give word room found ts plain c f i = gave_gives word c.all ts f plain c.gave (subst (IsIn f) (sym (all_are room c.all found c.is)) i)
@@ -202,11 +202,11 @@ search_saw word found ts f s i =
     let look = subst (IsIn (look_of r.sight)) (sym l.looks) (in_map look_of r.sight l.sights r.there) in
     subst (IsIn (entry.Look f.path (Some f.seen))) (sym s.entries.joined) (in_back (entry.Look f.path (Some f.seen)) s.entries.front s.entries.back (look_in r.sight.path r.sight.seen f s.entries.back r.file.seen_at look))
 
-gave_saw : (word : List ℕ) (found : List Found) (ts : List Entry) (f : Found) → Gave word found ts → IsIn f found → IsIn (entry.Look f.path (Some f.seen)) ts
-gave_saw word found ts f (Gave.literal is s) i = look_in (literal_path word) s.seen f ts (seen_there (literal_path word) s.seen f (subst (IsIn f) s.is i)) (subst (IsIn (entry.Look (literal_path word) s.seen)) (sym s.look) (inl refl))
-gave_saw word found ts f (Gave.no_path is other none e) i = absurd (none_in f found none i)
-gave_saw word found ts f (Gave.wildcard wild absolute s) i = search_saw word found ts f s i
-gave_saw word found ts f (Gave.relative wild relative none e) i = absurd (none_in f found none i)
+gave_saw : (word : List ℕ) (found : List Found) (ts : List Entry) (f : Found) → WordGave word found ts → IsIn f found → IsIn (entry.Look f.path (Some f.seen)) ts
+gave_saw word found ts f (WordGave.literal is s) i = look_in (literal_path word) s.seen f ts (seen_there (literal_path word) s.seen f (subst (IsIn f) s.is i)) (subst (IsIn (entry.Look (literal_path word) s.seen)) (sym s.look) (inl refl))
+gave_saw word found ts f (WordGave.no_path is other none e) i = absurd (none_in f found none i)
+gave_saw word found ts f (WordGave.wildcard wild absolute s) i = search_saw word found ts f s i
+gave_saw word found ts f (WordGave.relative wild relative none e) i = absurd (none_in f found none i)
 
 pub found_were_seen : (word : List ℕ) (room : ℕ) (found : List Found) (ts : List Entry) → Comes word room (Ok found) ts → (f : Found) → IsIn f found → IsIn (entry.Look f.path (Some f.seen)) ts
 found_were_seen word room found ts c f i = gave_saw word c.all ts f c.gave (subst (IsIn f) (sym (all_are room c.all found c.is)) i)

@@ -8,5 +8,5 @@ pub data Gathers {X : Type 0} (P : X → List Path → Type 0) : List X → List
   more : (x : X) (xs : List X) (its paths : List Path) → P x its → Gathers P xs paths → Gathers P (x ∷ xs) (its ++ paths)
 
 -- the paths that P says of were added
-abbrev pub Adds : (List Path → Type 0) → List Path → List Path → Type 0
-Adds P before now = (its : List Path) × P its × (now ≡ before ++ its)
+abbrev pub AddsPaths : (List Path → Type 0) → List Path → List Path → Type 0
+AddsPaths P before now = (its : List Path) × P its × (now ≡ before ++ its)

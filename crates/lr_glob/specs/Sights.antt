@@ -20,11 +20,11 @@ use Rattle.lr_glob.specs.declared.found.GlobStop.{GlobStop}
 use Rattle.lr_glob.specs.declared.found.GlobStop.TheVariants as stop
 
 -- A look at a path, and what it saw.
-pub record Sight : Type 0 where
+pub record PathSight : Type 0 where
   pub path : Path
   pub seen : Option Seen
 
-abbrev pub look_of : Sight → Entry
+abbrev pub look_of : PathSight → Entry
 look_of s = entry.Look s.path s.seen
 
 abbrev pub is_file_kind : Kind → Bool
@@ -41,8 +41,8 @@ abbrev pub file_at : Path → Option Seen → List Found
 file_at path None = []
 file_at path (Some seen) = if is_file_kind seen.kind then record { path = path; seen = seen } ∷ [] else []
 
-abbrev pub file_of : Sight → List Found
-file_of s = file_at s.path s.seen
+abbrev pub found_file : PathSight → List Found
+found_file s = file_at s.path s.seen
 
 -- no copy that isn't whole yet
 abbrev pub is_whole : Path → Bool
@@ -55,21 +55,21 @@ pub record InOrder (paths ordered : List Path) : Type 0 where
 
 -- One look at each of these paths, in order; the regular files that they saw are these.
 pub record LookedAt (paths : List Path) (found : List Found) (ts : List Entry) : Type 0 where
-  pub sights : List Sight
+  pub sights : List PathSight
   pub each : map (λ s. s.path) sights ≡ paths
-  pub found_are : found ≡ flat_map file_of sights
+  pub found_are : found ≡ flat_map found_file sights
   pub looks : ts ≡ map look_of sights
 
 -- The look at this path failed, behind looks at those before it.
 pub record FailedAt (paths : List Path) (path : Path) (ts : List Entry) : Type 0 where
-  pub sights : List Sight
+  pub sights : List PathSight
   pub after : List Path
   pub each : paths ≡ map (λ s. s.path) sights ++ path ∷ after
   pub looks : ts ≡ map look_of sights
 
 -- a first part of them was looked at
 pub record LookedAtSome (paths : List Path) (ts : List Entry) : Type 0 where
-  pub sights : List Sight
+  pub sights : List PathSight
   pub after : List Path
   pub each : paths ≡ map (λ s. s.path) sights ++ after
   pub looks : ts ≡ map look_of sights

@@ -21,14 +21,14 @@ NotVisited dir visit.List ts = Sees dir IsDir ts
 NotVisited dir visit.Memory ts = Sees dir IsDir ts
 
 -- what the caller is told of it
-abbrev pub stop_of : VisitStop → Path → GlobStop
-stop_of visit.Look dir = stop.Call call.Look dir
-stop_of visit.List dir = stop.Call call.List dir
-stop_of visit.Memory dir = stop.Memory
+abbrev pub glob_stop : VisitStop → Path → GlobStop
+glob_stop visit.Look dir = stop.Call call.Look dir
+glob_stop visit.List dir = stop.Call call.List dir
+glob_stop visit.Memory dir = stop.Memory
 
-abbrev pub IsFailedCall : GlobStop → Type 0
-IsFailedCall (stop.Call kind path) = Unit {0}
-IsFailedCall _ = ⊥
+abbrev pub IsFailedGlob : GlobStop → Type 0
+IsFailedGlob (stop.Call kind path) = Unit {0}
+IsFailedGlob _ = ⊥
 
 -- The first of these directories were visited, and the visit of the next ended so.
 pub record BrokenAt (dirs : List Path) (why : GlobStop) (ts : List Entry) : Type 0 where
@@ -37,7 +37,7 @@ pub record BrokenAt (dirs : List Path) (why : GlobStop) (ts : List Entry) : Type
   pub after : List Path
   pub each : dirs ≡ map (λ v. v.dir) visits ++ dir ∷ after
   pub cause : VisitStop
-  pub told : why ≡ stop_of cause dir
+  pub told : why ≡ glob_stop cause dir
   pub entries : Then (Are (flat_map visit_entries visits)) (NotVisited dir cause) ts
 
 -- The first of these directories were visited, and there was no memory for what they gave.

@@ -13,8 +13,8 @@ pub record Visit : Type 0 where
   pub listed : List (List ℕ)
 
 -- the names in it: none where it is no directory
-abbrev pub names_of : Visit → List (List ℕ)
-names_of v = if is_dir v.seen then v.listed else []
+abbrev pub visit_names : Visit → List (List ℕ)
+visit_names v = if is_dir v.seen then v.listed else []
 
 -- the entries that it left
 abbrev pub visit_entries : Visit → List Entry
@@ -24,5 +24,5 @@ visit_entries v = entry.Look v.dir v.seen ∷ (if is_dir v.seen then entry.List 
 pub record Visited (dir : Path) (names : List (List ℕ)) (ts : List Entry) : Type 0 where
   pub visit : Visit
   pub at : visit.dir ≡ dir
-  pub names_are : names_of visit ≡ names
+  pub names_are : visit_names visit ≡ names
   pub entries : ts ≡ visit_entries visit

@@ -28,34 +28,35 @@ pub record SearchThen (word : List ℕ) (P : List Path → List Entry → Type 0
   pub entries : Then (Led (parts_in word) (root ∷ []) paths) (P ordered) ts
 
 -- What the word gives: a literal one what stands at its path, of any kind; a wildcard the regular files to which its parts lead.
-pub data Gave (word : List ℕ) (found : List Found) (ts : List Entry) : Type 0 where
+pub data WordGave (word : List ℕ) (found : List Found) (ts : List Entry) : Type 0 where
   literal : is_wildcard word ≡ false → Sees (literal_path word) (λ seen. found ≡ seen_at (literal_path word) seen) ts
-      → Gave word found ts
-  no_path : is_wildcard word ≡ false → (path_fault (literal_path word) ≡ None → ⊥) → found ≡ [] → ts ≡ [] → Gave word found ts
+      → WordGave word found ts
+  no_path : is_wildcard word ≡ false → (path_fault (literal_path word) ≡ None → ⊥) → found ≡ [] → ts ≡ [] → WordGave word found ts
   wildcard : is_wildcard word ≡ true → is_absolute word ≡ true → SearchThen word (λ ordered us. LookedAt ordered found us) ts
-      → Gave word found ts
-  relative : is_wildcard word ≡ true → is_absolute word ≡ false → found ≡ [] → ts ≡ [] → Gave word found ts
+      → WordGave word found ts
+  relative : is_wildcard word ≡ true → is_absolute word ≡ false → found ≡ [] → ts ≡ [] → WordGave word found ts
 
 -- All that the word gives was looked at, and is judged to be that.
 pub record Comes (word : List ℕ) (room : ℕ) (result : Result (List Found) GlobStop) (ts : List Entry) : Type 0 where
   pub all : List Found
-  pub gave : Gave word all ts
+  pub gave : WordGave word all ts
   pub is : judged room all ≡ result
 
 -- A call failed: the look at a literal word's path, a visit of a directory, or the look at a path.
-pub data CallFailed (word : List ℕ) (kind : CallKind) (path : Path) (ts : List Entry) : Type 0 where
-  at_literal : is_wildcard word ≡ false → kind ≡ call.Look → path ≡ literal_path word → ts ≡ [] → CallFailed word kind path ts
-  at_visit : is_wildcard word ≡ true → NotLed (parts_in word) (root ∷ []) (stop.Call kind path) ts → CallFailed word kind path ts
+pub data WordCallFailed (word : List ℕ) (kind : CallKind) (path : Path) (ts : List Entry) : Type 0 where
+  at_literal : is_wildcard word ≡ false → kind ≡ call.Look → path ≡ literal_path word → ts ≡ [] → WordCallFailed word kind path ts
+  at_visit : is_wildcard word ≡ true → NotLed (parts_in word) (root ∷ []) (stop.Call kind path) ts
+      → WordCallFailed word kind path ts
   at_look : is_wildcard word ≡ true → kind ≡ call.Look → SearchThen word (λ ordered us. FailedAt ordered path us) ts
-      → CallFailed word kind path ts
+      → WordCallFailed word kind path ts
 
 -- Where there was no memory, a first part of these looks and listings was made.
-pub data Begun (word : List ℕ) (ts : List Entry) : Type 0 where
-  not_at_all : ts ≡ [] → Begun word ts
-  at_literal : is_wildcard word ≡ false → Sees (literal_path word) (λ seen. Unit {0}) ts → Begun word ts
-  at_visit : is_wildcard word ≡ true → NotLed (parts_in word) (root ∷ []) stop.Memory ts → Begun word ts
-  between : is_wildcard word ≡ true → (paths : List Path) → Led (parts_in word) (root ∷ []) paths ts → Begun word ts
-  at_look : is_wildcard word ≡ true → SearchThen word (λ ordered us. LookedAtSome ordered us) ts → Begun word ts
+pub data WordBegun (word : List ℕ) (ts : List Entry) : Type 0 where
+  not_at_all : ts ≡ [] → WordBegun word ts
+  at_literal : is_wildcard word ≡ false → Sees (literal_path word) (λ seen. Unit {0}) ts → WordBegun word ts
+  at_visit : is_wildcard word ≡ true → NotLed (parts_in word) (root ∷ []) stop.Memory ts → WordBegun word ts
+  between : is_wildcard word ≡ true → (paths : List Path) → Led (parts_in word) (root ∷ []) paths ts → WordBegun word ts
+  at_look : is_wildcard word ≡ true → SearchThen word (λ ordered us. LookedAtSome ordered us) ts → WordBegun word ts
 
 -- The parts were not followed to their end; or there was no memory before.
 abbrev pub NotSought : List ℕ → GlobStop → List Entry → Type 0
@@ -63,8 +64,8 @@ NotSought word why ts = NotLed (parts_in word) (root ∷ []) why ts ⊎ ((why �
 
 -- It was not known what the word gives: a call failed, or there was no memory.
 abbrev pub Halted : List ℕ → GlobStop → List Entry → Type 0
-Halted word (stop.Call kind path) ts = CallFailed word kind path ts
-Halted word stop.Memory ts = Begun word ts
+Halted word (stop.Call kind path) ts = WordCallFailed word kind path ts
+Halted word stop.Memory ts = WordBegun word ts
 Halted word _ ts = ⊥
 
 -- The look at a path failed; or there was no memory behind it.
@@ -75,6 +76,6 @@ LiteralBroken at _ ts = ⊥
 
 -- Why a word gives nothing: that, or what it gives is judged so.
 abbrev pub Stopped : List ℕ → ℕ → GlobStop → List Entry → Type 0
-Stopped word room (stop.Call kind path) ts = CallFailed word kind path ts
-Stopped word room stop.Memory ts = Begun word ts
+Stopped word room (stop.Call kind path) ts = WordCallFailed word kind path ts
+Stopped word room stop.Memory ts = WordBegun word ts
 Stopped word room why ts = Comes word room (Err why) ts

@@ -3,7 +3,7 @@ ghost use Rattle.std.specs.Prelude.{◌≡◌, ◌∷◌, [], ◌++◌, OnOk, If
 ghost use Rattle.lr_host.specs.Told.{Left, Onward, Rose};
 ghost use Rattle.lr_glob.specs.Parts.{parts_in};
 ghost use Rattle.lr_glob.specs.Rounds.{Led};
-ghost use Rattle.lr_glob.specs.Stops.{IsFailedCall, NotLed};
+ghost use Rattle.lr_glob.specs.Stops.{IsFailedGlob, NotLed};
 ghost use Rattle.lr_rules.specs.Path.{is_slash};
 ghost use Rattle.std.specs.List.{slice_split};
 
@@ -43,7 +43,7 @@ pub fn lead<H: Host>(
 ) -> Result<Vec<Path>, GlobStop>
     ensures told { IfOk result (λ paths. Left (Led parts.now start.items paths.items) (H.told host.old) (H.told host.new)) }
     ensures stopped { IfErr result (λ why. Left (NotLed parts.now start.items why) (H.told host.old) (H.told host.new)) }
-    ensures cause { IfErr result (λ why. IsFailedCall why → Rose (H.counts host.old).faults (H.counts host.new).faults) }
+    ensures cause { IfErr result (λ why. IsFailedGlob why → Rose (H.counts host.old).faults (H.counts host.new).faults) }
     ensures counts { Onward (H.counts host.old) (H.counts host.new) }
 {
     let mut dirs = start;

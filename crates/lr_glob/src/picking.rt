@@ -3,7 +3,7 @@ ghost use Rattle.std.specs.Prelude.{◌≡◌, ◌≢◌, OnOk, IfOk};
 ghost use Rattle.std.specs.List.{slice_split};
 ghost use Rattle.lr_rules.specs.Path.{is_slash};
 ghost use Rattle.lr_rules.specs.Match.{literal_path};
-ghost use Rattle.lr_glob.specs.Gathers.{Gathers, Adds};
+ghost use Rattle.lr_glob.specs.Gathers.{Gathers, AddsPaths};
 ghost use Rattle.lr_glob.specs.Parts.{JoinOf, PickOf};
 
 use lr_match::matches;
@@ -28,7 +28,7 @@ pub(crate) fn passed_over(fault: PathFault) -> Result<(), Memory>
 
 // Adds the path of this name in the directory, where that is a path.
 fn add_join(alloc: Global, dir: &Path, name: &[u8], into: &mut Vec<Path>) -> Result<(), Memory>
-    ensures { OnOk result (Adds (JoinOf dir.now name.now) into.old.items into.new.items) }
+    ensures { OnOk result (AddsPaths (JoinOf dir.now name.now) into.old.items into.new.items) }
 {
     match dir.join(alloc, name) {
         Ok(path) => Ok(into.push(path)?),
@@ -44,7 +44,7 @@ fn add_match(
     name: &Text,
     into: &mut Vec<Path>,
 ) -> Result<(), Memory>
-    ensures { OnOk result (Adds (PickOf part.now dir.now name.now) into.old.items into.new.items) }
+    ensures { OnOk result (AddsPaths (PickOf part.now dir.now name.now) into.old.items into.new.items) }
 {
     if matches(part.as_str(), name.as_str()) {
         add_join(alloc, dir, name.bytes(), into)
@@ -61,7 +61,7 @@ pub fn add_matches(
     names: &[Text],
     into: &mut Vec<Path>,
 ) -> Result<(), Memory>
-    ensures { OnOk result (Adds (Gathers (PickOf part.now dir.now) names.now) into.old.items into.new.items) }
+    ensures { OnOk result (AddsPaths (Gathers (PickOf part.now dir.now) names.now) into.old.items into.new.items) }
 {
     for name in names {
         add_match(alloc, part, dir, name, into)?;
@@ -70,7 +70,7 @@ pub fn add_matches(
 }
 
 fn join_each(alloc: Global, name: &[u8], dirs: &[Path], into: &mut Vec<Path>) -> Result<(), Memory>
-    ensures { OnOk result (Adds (Gathers (λ dir its. JoinOf dir name.now its) dirs.now) into.old.items into.new.items) }
+    ensures { OnOk result (AddsPaths (Gathers (λ dir its. JoinOf dir name.now its) dirs.now) into.old.items into.new.items) }
 {
     for dir in dirs {
         add_join(alloc, dir, name, into)?;

@@ -2,7 +2,7 @@
 ghost use Rattle.std.specs.Prelude.{◌≡◌, OnOk, IfOk, IfErr};
 ghost use Rattle.lr_host.specs.Told.{Left, Onward, Rose};
 ghost use Rattle.lr_glob.specs.Rounds.{Followed};
-ghost use Rattle.lr_glob.specs.Stops.{stop_of, IsFailedCall, RoundBroken, NotFollowed};
+ghost use Rattle.lr_glob.specs.Stops.{glob_stop, IsFailedGlob, RoundBroken, NotFollowed};
 ghost use Rattle.lr_glob.specs.Turns.{VisitAdds, VisitsGive, VisitBroken};
 
 use crate::found::GlobStop;
@@ -14,7 +14,7 @@ use lr_words::is_wildcard;
 use std::alloc::Global;
 
 fn stop_at(stop: VisitStop, dir: Path) -> GlobStop
-    ensures { result ≡ stop_of stop dir }
+    ensures { result ≡ glob_stop stop dir }
 {
     match stop {
         VisitStop::Look => GlobStop::Call(CallKind::Look, dir),
@@ -33,7 +33,7 @@ fn visit_one<H: Host>(
 ) -> Result<(), GlobStop>
     ensures told { OnOk result (Left (VisitAdds part.now dir into.old.items into.new.items) (H.told host.old) (H.told host.new)) }
     ensures stopped { IfErr result (λ why. Left (VisitBroken dir why) (H.told host.old) (H.told host.new)) }
-    ensures cause { IfErr result (λ why. IsFailedCall why → Rose (H.counts host.old).faults (H.counts host.new).faults) }
+    ensures cause { IfErr result (λ why. IsFailedGlob why → Rose (H.counts host.old).faults (H.counts host.new).faults) }
     ensures counts { Onward (H.counts host.old) (H.counts host.new) }
 {
     let names = match visit(alloc, host, &dir) {
@@ -55,7 +55,7 @@ fn visit_each<H: Host>(
 ) -> Result<Vec<Path>, GlobStop>
     ensures told { IfOk result (λ paths. Left (VisitsGive part.now dirs.items paths.items) (H.told host.old) (H.told host.new)) }
     ensures stopped { IfErr result (λ why. Left (RoundBroken dirs.items why) (H.told host.old) (H.told host.new)) }
-    ensures cause { IfErr result (λ why. IsFailedCall why → Rose (H.counts host.old).faults (H.counts host.new).faults) }
+    ensures cause { IfErr result (λ why. IsFailedGlob why → Rose (H.counts host.old).faults (H.counts host.new).faults) }
     ensures counts { Onward (H.counts host.old) (H.counts host.new) }
 {
     let mut paths = Vec::new(alloc);
@@ -77,7 +77,7 @@ pub fn follow<H: Host>(
 ) -> Result<Vec<Path>, GlobStop>
     ensures told { IfOk result (λ paths. Left (Followed part.now dirs.items paths.items) (H.told host.old) (H.told host.new)) }
     ensures stopped { IfErr result (λ why. Left (NotFollowed part.now dirs.items why) (H.told host.old) (H.told host.new)) }
-    ensures cause { IfErr result (λ why. IsFailedCall why → Rose (H.counts host.old).faults (H.counts host.new).faults) }
+    ensures cause { IfErr result (λ why. IsFailedGlob why → Rose (H.counts host.old).faults (H.counts host.new).faults) }
     ensures counts { Onward (H.counts host.old) (H.counts host.new) }
 {
     if is_wildcard(part.bytes()) {

@@ -7,7 +7,7 @@ ghost use Rattle.lr_host.specs.Told.{Left, Onward, Rose};
 ghost use Rattle.lr_rules.specs.Names.{ends_with};
 ghost use Rattle.lr_rules.specs.Match.{part_end};
 ghost use Rattle.lr_glob.specs.Sights.{InOrder, is_whole, file_at, LookedAt, LooksBroken};
-ghost use Rattle.lr_glob.specs.Stops.{IsFailedCall};
+ghost use Rattle.lr_glob.specs.Stops.{IsFailedGlob};
 
 use crate::found::{Found, GlobStop};
 use lr_host::{Host, Kind, Seen};
@@ -82,7 +82,7 @@ fn look_at<H: Host>(host: &mut H, path: Path, found: &mut Vec<Found>) -> Result<
     ensures told { OnOk result (Left (Sees path (λ seen. found.new.items ≡ found.old.items ++ file_at path seen)) (H.told host.old)
         (H.told host.new)) }
     ensures stopped { IfErr result (λ why. Left (LooksBroken (path ∷ []) why) (H.told host.old) (H.told host.new)) }
-    ensures cause { IfErr result (λ why. IsFailedCall why → Rose (H.counts host.old).faults (H.counts host.new).faults) }
+    ensures cause { IfErr result (λ why. IsFailedGlob why → Rose (H.counts host.old).faults (H.counts host.new).faults) }
     ensures counts { Onward (H.counts host.old) (H.counts host.new) }
 {
     let Ok(look) = host.look(&path, false) else {
@@ -102,7 +102,7 @@ pub fn look_at_each<H: Host>(
 ) -> Result<Vec<Found>, GlobStop>
     ensures told { IfOk result (λ found. Left (LookedAt paths.items found.items) (H.told host.old) (H.told host.new)) }
     ensures stopped { IfErr result (λ why. Left (LooksBroken paths.items why) (H.told host.old) (H.told host.new)) }
-    ensures cause { IfErr result (λ why. IsFailedCall why → Rose (H.counts host.old).faults (H.counts host.new).faults) }
+    ensures cause { IfErr result (λ why. IsFailedGlob why → Rose (H.counts host.old).faults (H.counts host.new).faults) }
     ensures counts { Onward (H.counts host.old) (H.counts host.new) }
 {
     let mut found = Vec::new(alloc);

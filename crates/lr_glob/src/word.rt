@@ -8,8 +8,8 @@ ghost use Rattle.lr_rules.specs.Match.{is_wildcard, literal_path};
 ghost use Rattle.lr_glob.specs.Rounds.{Led};
 ghost use Rattle.lr_glob.specs.Parts.{parts_in};
 ghost use Rattle.lr_glob.specs.Sights.{InOrder, is_whole, is_long, judged, seen_at};
-ghost use Rattle.lr_glob.specs.Stops.{IsFailedCall};
-ghost use Rattle.lr_glob.specs.Words.{root, Gave, Halted, Comes, Stopped, NotSought, LiteralBroken};
+ghost use Rattle.lr_glob.specs.Stops.{IsFailedGlob};
+ghost use Rattle.lr_glob.specs.Words.{root, WordGave, Halted, Comes, Stopped, NotSought, LiteralBroken};
 
 use crate::found::{Found, GlobStop};
 use crate::lead::{lead, parts_of};
@@ -39,7 +39,7 @@ fn judge(room: usize, found: Vec<Found>) -> Result<Vec<Found>, GlobStop>
     ensures ok { IfOk result (λ all. judged room found.items ≡ Ok all.items) }
     ensures short { IfOk result (λ all. list_any is_long all.items ≡ false) }
     ensures stopped { IfErr result (λ why. judged room found.items ≡ Err why) }
-    ensures no_call { IfErr result (λ why. IsFailedCall why → ⊥) }
+    ensures no_call { IfErr result (λ why. IsFailedGlob why → ⊥) }
 {
     if any_long(found.as_slice()) {
         return Err(GlobStop::LongName);
@@ -86,7 +86,7 @@ fn paths_of<H: Host>(alloc: Global, host: &mut H, word: &[u8]) -> Result<Vec<Pat
     ensures told { IfOk result (λ paths. Left (Led (parts_in word.now) (root ∷ []) paths.items) (H.told host.old)
         (H.told host.new)) }
     ensures stopped { IfErr result (λ why. Left (NotSought word.now why) (H.told host.old) (H.told host.new)) }
-    ensures cause { IfErr result (λ why. IsFailedCall why → Rose (H.counts host.old).faults (H.counts host.new).faults) }
+    ensures cause { IfErr result (λ why. IsFailedGlob why → Rose (H.counts host.old).faults (H.counts host.new).faults) }
     ensures counts { Onward (H.counts host.old) (H.counts host.new) }
 {
     match beginning(alloc, word) {
@@ -108,9 +108,9 @@ fn ordered(alloc: Global, paths: Vec<Path>) -> Result<Vec<Path>, Memory>
 fn search<H: Host>(alloc: Global, host: &mut H, word: &[u8]) -> Result<Vec<Found>, GlobStop>
     requires wild { is_wildcard word.now ≡ true }
     requires absolute { is_absolute word.now ≡ true }
-    ensures told { IfOk result (λ found. Left (Gave word.now found.items) (H.told host.old) (H.told host.new)) }
+    ensures told { IfOk result (λ found. Left (WordGave word.now found.items) (H.told host.old) (H.told host.new)) }
     ensures stopped { IfErr result (λ why. Left (Halted word.now why) (H.told host.old) (H.told host.new)) }
-    ensures cause { IfErr result (λ why. IsFailedCall why → Rose (H.counts host.old).faults (H.counts host.new).faults) }
+    ensures cause { IfErr result (λ why. IsFailedGlob why → Rose (H.counts host.old).faults (H.counts host.new).faults) }
     ensures counts { Onward (H.counts host.old) (H.counts host.new) }
 {
     let paths = match paths_of(alloc, host, word) {
@@ -147,7 +147,7 @@ fn look_at_literal<H: Host>(alloc: Global, host: &mut H, path: Path) -> Result<V
     ensures told { IfOk result (λ found. Left (Sees path (λ seen. found.items ≡ seen_at path seen)) (H.told host.old)
         (H.told host.new)) }
     ensures stopped { IfErr result (λ why. Left (LiteralBroken path why) (H.told host.old) (H.told host.new)) }
-    ensures cause { IfErr result (λ why. IsFailedCall why → Rose (H.counts host.old).faults (H.counts host.new).faults) }
+    ensures cause { IfErr result (λ why. IsFailedGlob why → Rose (H.counts host.old).faults (H.counts host.new).faults) }
     ensures counts { Onward (H.counts host.old) (H.counts host.new) }
 {
     let Ok(look) = host.look(&path, false) else {
@@ -181,9 +181,9 @@ fn literal_of(alloc: Global, word: &[u8]) -> Result<Option<Path>, Memory>
 // What a literal word gives.
 fn literal_found<H: Host>(alloc: Global, host: &mut H, word: &[u8]) -> Result<Vec<Found>, GlobStop>
     requires plain { is_wildcard word.now ≡ false }
-    ensures told { IfOk result (λ found. Left (Gave word.now found.items) (H.told host.old) (H.told host.new)) }
+    ensures told { IfOk result (λ found. Left (WordGave word.now found.items) (H.told host.old) (H.told host.new)) }
     ensures stopped { IfErr result (λ why. Left (Halted word.now why) (H.told host.old) (H.told host.new)) }
-    ensures cause { IfErr result (λ why. IsFailedCall why → Rose (H.counts host.old).faults (H.counts host.new).faults) }
+    ensures cause { IfErr result (λ why. IsFailedGlob why → Rose (H.counts host.old).faults (H.counts host.new).faults) }
     ensures counts { Onward (H.counts host.old) (H.counts host.new) }
 {
     match literal_of(alloc, word) {
@@ -206,9 +206,9 @@ fn is_absolute(word: &[u8]) -> bool
 
 // All that a word gives.
 fn all_found<H: Host>(alloc: Global, host: &mut H, word: &[u8]) -> Result<Vec<Found>, GlobStop>
-    ensures told { IfOk result (λ found. Left (Gave word.now found.items) (H.told host.old) (H.told host.new)) }
+    ensures told { IfOk result (λ found. Left (WordGave word.now found.items) (H.told host.old) (H.told host.new)) }
     ensures stopped { IfErr result (λ why. Left (Halted word.now why) (H.told host.old) (H.told host.new)) }
-    ensures cause { IfErr result (λ why. IsFailedCall why → Rose (H.counts host.old).faults (H.counts host.new).faults) }
+    ensures cause { IfErr result (λ why. IsFailedGlob why → Rose (H.counts host.old).faults (H.counts host.new).faults) }
     ensures counts { Onward (H.counts host.old) (H.counts host.new) }
 {
     if !is_wildcard(word) {
@@ -234,7 +234,7 @@ pub fn expand<H: Host>(
     ensures told { IfOk result (λ found. Left (Comes word.now room (Ok found.items)) (H.told host.old) (H.told host.new)) }
     ensures short { IfOk result (λ found. list_any is_long found.items ≡ false) }
     ensures stopped { IfErr result (λ why. Left (Stopped word.now room why) (H.told host.old) (H.told host.new)) }
-    ensures cause { IfErr result (λ why. IsFailedCall why → Rose (H.counts host.old).faults (H.counts host.new).faults) }
+    ensures cause { IfErr result (λ why. IsFailedGlob why → Rose (H.counts host.old).faults (H.counts host.new).faults) }
     ensures counts { Onward (H.counts host.old) (H.counts host.new) }
 {
     match all_found(alloc, host, word.bytes()) {

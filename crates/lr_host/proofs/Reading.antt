@@ -7,7 +7,7 @@ use Rattle.lr_rules.proofs.Heads.{heads, tails}
 use Rattle.lr_host.specs.declared.entry.Entry.{Entry}
 use Rattle.lr_host.specs.declared.entry.Entry.TheVariants.{Reads}
 use Rattle.lr_host.specs.Told.{Each, Are, Then}
-use Rattle.lr_host.specs.Reading.{IsReadOf, text, is_end, ReadsOf, ReadsAll, to_limit, to_end}
+use Rattle.lr_host.specs.Reading.{IsReadOf, text, is_last_read, ReadsOf, ReadsAll, to_limit, to_end}
 use Rattle.lr_host.proofs.Each.{each_append}
 
 -- all of them are reads of the path
@@ -17,9 +17,9 @@ reads_only path limit bytes ts (to_end lt t) =
     subst (Each (IsReadOf path)) (sym (t.joined ∙ ap (λ us. t.front ++ us) t.second)) (each_append (IsReadOf path) t.front (Reads path (length bytes) [] ∷ []) t.first.only (refl, tt))
 
 -- one read more that gave some
-pub some_more : (ts : List Entry) (e : Entry) → list_any is_end ts ≡ false → is_end e ≡ false → list_any is_end (ts ++ e ∷ []) ≡ false
+pub some_more : (ts : List Entry) (e : Entry) → list_any is_last_read ts ≡ false → is_last_read e ≡ false → list_any is_last_read (ts ++ e ∷ []) ≡ false
 some_more [] e p q = ap (λ t. t || false) q
-some_more (t ∷ ts) e p q = by (is_end t) (λ r. some_more ts e r q) p
+some_more (t ∷ ts) e p q = by (is_last_read t) (λ r. some_more ts e r q) p
   where
     by : (t : Bool) {u v : Bool} → (u ≡ false → v ≡ false) → (t || u) ≡ false → (t || v) ≡ false
     by true k p = absurd (cc p)
@@ -52,7 +52,7 @@ or_false : (t : Bool) {u : Bool} → (t || u) ≡ false → (t ≡ false) × (u 
 or_false true e = absurd (cc e)
 or_false false e = (refl, e)
 
-limit_ends : (path : Path) (limit size : ℕ) (ts : List Entry) → Each (IsReadOf path) ts → list_any is_end ts ≡ false → size + length (text ts) ≡ limit → Ends limit size ts
+limit_ends : (path : Path) (limit size : ℕ) (ts : List Entry) → Each (IsReadOf path) ts → list_any is_last_read ts ≡ false → size + length (text ts) ≡ limit → Ends limit size ts
 limit_ends path limit size [] only some e = omega (arith, e)
 limit_ends path limit size (Reads x from piece ∷ ts) only some e =
     let s = or_false (is_empty piece) some in
@@ -61,7 +61,7 @@ limit_ends path limit size (Reads x from piece ∷ ts) only some e =
     (omega (arith, e, a, l), inr (s.0, limit_ends path limit (size + length piece) ts only.1 s.1 (omega (arith, e, a))))
 limit_ends path limit size (_ ∷ ts) only some e = absurd only.0
 
-end_ends : (path : Path) (limit size at : ℕ) (ts : List Entry) → Each (IsReadOf path) ts → list_any is_end ts ≡ false → size + length (text ts) < limit → Ends limit size (ts ++ Reads path at [] ∷ [])
+end_ends : (path : Path) (limit size at : ℕ) (ts : List Entry) → Each (IsReadOf path) ts → list_any is_last_read ts ≡ false → size + length (text ts) < limit → Ends limit size (ts ++ Reads path at [] ∷ [])
 end_ends path limit size at [] only some lt = (omega (arith, lt), inl (refl, refl))
 end_ends path limit size at (Reads x from piece ∷ ts) only some lt =
     let s = or_false (is_empty piece) some in

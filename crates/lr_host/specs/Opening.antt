@@ -8,17 +8,17 @@ use Rattle.lr_host.specs.World.{Past, Opens, ◌▸◌, world}
 use Rattle.lr_host.specs.Fits.{Fits}
 
 -- the paths that name something
-abbrev pub paths_of : Opening → List Path
-paths_of o = map (λ n. n.0) o.names ++ (o.dirs ++ o.others)
+abbrev pub opening_paths : Opening → List Path
+opening_paths o = map (λ n. n.0) o.names ++ (o.dirs ++ o.others)
 
 -- The opening is a disk.
 pub record IsValid (o : Opening) : Type 0 where
   -- no path names two things
-  pub once : AreDistinct (paths_of o)
+  pub once : AreDistinct (opening_paths o)
   -- `/` is a directory
   pub root : Contains o.dirs (47 ∷ [])
   -- each path stands in a directory
-  pub inside : All (λ x. Contains o.dirs (parent_of x)) (paths_of o)
+  pub inside : All (λ x. Contains o.dirs (parent_of x)) (opening_paths o)
   -- each file has exactly one name
   pub named : (g : ℕ) → g < length o.files → count_by (λ n. n.1 == g) o.names ≡ 1
   -- each named identity exists

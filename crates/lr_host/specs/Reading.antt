@@ -25,15 +25,15 @@ AreJoined place (Reads x from piece ∷ ts) = (from ≡ place) × AreJoined (pla
 AreJoined place (_ ∷ ts) = AreJoined place ts
 
 -- the read gave nothing, so the place was the end
-abbrev pub is_end : Entry → Bool
-is_end (Reads x from piece) = is_empty piece
-is_end _ = false
+abbrev pub is_last_read : Entry → Bool
+is_last_read (Reads x from piece) = is_empty piece
+is_last_read _ = false
 
 -- These bytes were read of the path from its first byte on, and each read gave some.
 pub record ReadsOf (path : Path) (bytes : List ℕ) (ts : List Entry) : Type 0 where
   pub only : Each (IsReadOf path) ts
   pub joined : AreJoined 0 ts
-  pub some : list_any is_end ts ≡ false
+  pub some : list_any is_last_read ts ≡ false
   pub bytes_are : text ts ≡ bytes
 
 -- They are as many as the limit; or all bytes of the path, fewer than the limit, and a last read gave nothing.

@@ -52,5 +52,5 @@ abbrev pub Upto : List Entry → Bool → List Entry → Type 0
 Upto steps is_ok ts = (ts ≡ take (length ts) steps) × (is_ok ≡ true → ts ≡ steps)
 
 -- the change entries among these are
-abbrev pub Took : List Entry → Bool → List Entry → Type 0
-Took steps is_ok ts = Upto steps is_ok (filter is_change ts)
+abbrev pub TookSteps : List Entry → Bool → List Entry → Type 0
+TookSteps steps is_ok ts = Upto steps is_ok (filter is_change ts)

@@ -18,7 +18,7 @@ use Rattle.lr_visits.specs.declared.visit.Visit.TheVariants as visit
 use Rattle.lr_visits.specs.Visits.{ReadsSome, ReadsPart, IsShortRead, ShowsNames, ShowsBytes, ShowsFile, ShowsDir, ShowsVisit, look_failed, nothing, exposed, directory, file, PartText, PartFile, PartVisit}
 use Rattle.lr_include.specs.declared.task.Task.{Task}
 use Rattle.lr_include.specs.declared.task.Task.TheVariants as task
-use Rattle.lr_include.specs.Stages.{Stage, settled, visited, at_visits, begun, is_shallow, room_for, ShowsNext, ShowsVisits, Reads}
+use Rattle.lr_include.specs.Stages.{Stage, settled_stage, visited, at_visits, begun, is_shallow, room_for, ShowsNext, ShowsVisits, Reads}
 use Rattle.lr_include.specs.Lacking.{PartNext, LacksReading}
 
 part_reads : (x : Path) (room : ℕ) (bytes : List ℕ) (how : TextEnd) (ts : List Entry) → ReadsPart x room bytes how ts → Each (IsReadOf x) ts
@@ -88,7 +88,7 @@ module _ (P : Entry → Type 0) (look : (x : Path) (seen : Option Seen) → P (e
 
   visits_so : (s : Stage) (vs : List (Option Visit)) (ts : List Entry) → ShowsVisits s vs ts → Each P ts
   visits_so s [] ts h = none_so ts h
-  visits_so s (v ∷ vs) ts h = then_so ts (λ us n. next_so (settled s) (settled s).todo v us n) (λ us m. visits_so (visited (settled s) v) vs us m) h
+  visits_so s (v ∷ vs) ts h = then_so ts (λ us n. next_so (settled_stage s) (settled_stage s).todo v us n) (λ us m. visits_so (visited (settled_stage s) v) vs us m) h
 
   pub all_so : (paths : List Path) (m : Meaning) (ts : List Entry) → Reads paths m ts → Each P ts
   all_so paths m ts r = visits_so (begun paths) r.visits ts r.shown

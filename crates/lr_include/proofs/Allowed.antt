@@ -19,7 +19,7 @@ use Rattle.lr_forms.specs.declared.said.Said.{Said}
 use Rattle.lr_forms.specs.declared.said.Said.TheVariants as says
 use Rattle.lr_fields.specs.Fields.{fields_of, last_or}
 use Rattle.lr_conf.specs.declared.stop.Include.{Include}
-use Rattle.lr_conf.specs.Meaning.{Line, Read, Spoiled, End, Cut, Past, stands, spoiled, Meaning, conf, nothing, file_of, first_pending, words_pending, words_with, settings, opened, opens, past, before, through, behind, ends, Within, states, broken, left_open, within, body_of, drops, set_in, fault_of, fault_in, broken_fault, spoilt_fault, told, at_line, left_names, stray_at, own_fault, line_faults, of_end, of_body, of_opening, meaning}
+use Rattle.lr_conf.specs.Meaning.{Line, Read, Spoiled, End, Cut, OutsideLine, stands, spoiled, Meaning, conf, nothing, line_file, first_pending, words_pending, words_with, settings, opened, opens, past, before, through, behind, ends, InsideLine, states, broken, left_open, within, body_of, drops, set_in, line_fault, fault_in, broken_fault, spoilt_fault, told, at_line, left_names, stray_at, own_fault, line_faults, of_end, of_body, of_opening, meaning}
 use Rattle.lr_conf.proofs.Each.{append, front, Given, one_more, mapped}
 use Rattle.lr_visits.specs.declared.part.TextEnd.{TextEnd}
 use Rattle.lr_visits.specs.declared.part.TextEnd.TheVariants as end
@@ -32,7 +32,7 @@ use Rattle.lr_include.specs.declared.task.Task.{Task}
 use Rattle.lr_include.specs.declared.task.Task.TheVariants as task
 use Rattle.lr_include.specs.Lines.{conf_kind}
 use Rattle.lr_include.specs.Allowed.{IsAllowed, IsAllowedVisit, AreAllowedVisits}
-use Rattle.lr_include.specs.Stages.{Stage, lines_in, lines_now, ask_of, asked_at, asks_in, asks_now, taken, before_asks, settled_from, settled, kind_piece, piece_of, last_piece, line_tasks, entering, name_task, name_tasks, telling_exposed, behind_names, after_ask, after_name, visited, visited_by, at_visits, begun, line_ask, visits_mean}
+use Rattle.lr_include.specs.Stages.{Stage, lines_in, lines_now, ask_of, asked_at, asks_in, asks_now, taken, before_asks, settled_from, settled_stage, kind_piece, piece_of, last_piece, line_tasks, entering, name_task, name_tasks, telling_exposed, behind_names, after_ask, after_name, visited, visited_by, at_visits, begun, line_ask, visits_mean}
 
 through_each : {A : Type 0} (P : A → Type 0) (p : A → Bool) (xs : List A) → Each P xs → Each P (through p xs)
 through_each P p [] a = tt
@@ -54,7 +54,7 @@ abbrev pub IsFine : Bool → Line → Type 0
 IsFine calls (Spoiled f) = (IsAllowed calls) f
 IsFine calls e = Unit {0}
 
-abbrev pub IsFinePast : Bool → Past → Type 0
+abbrev pub IsFinePast : Bool → OutsideLine → Type 0
 IsFinePast calls (spoiled f) = (IsAllowed calls) f
 IsFinePast calls p = Unit {0}
 
@@ -69,13 +69,13 @@ Faults calls m = Each (IsAllowed calls) m.faults
 
 -- ---- lines
 
-said_fine : (calls : Bool) (file : Path) (at : ℕ) (v : Said) → Given (IsAllowed calls) (fault_of file at v)
+said_fine : (calls : Bool) (file : Path) (at : ℕ) (v : Said) → Given (IsAllowed calls) (line_fault file at v)
 said_fine calls file at says.Unknown = tt
 said_fine calls file at (says.Bad k) = tt
 said_fine calls file at v = tt
 
 -- in a definition
-abbrev pub IsFineWithin : Bool → Within → Type 0
+abbrev pub IsFineWithin : Bool → InsideLine → Type 0
 IsFineWithin calls (broken f) = (IsAllowed calls) f
 IsFineWithin calls w = Unit {0}
 
@@ -89,12 +89,12 @@ lines_fine : (calls : Bool) (earlier es : List Line) → Each (IsFine calls) es 
 lines_fine calls earlier [] ok = tt
 lines_fine calls earlier (e ∷ es) ok = ((within_fine calls) earlier e ok.0, (lines_fine calls) (earlier ++ e ∷ []) es ok.1)
 
-inside_fine : (calls : Bool) (w : Within) → (IsFineWithin calls) w → Given (IsAllowed calls) (fault_in w)
+inside_fine : (calls : Bool) (w : InsideLine) → (IsFineWithin calls) w → Given (IsAllowed calls) (fault_in w)
 inside_fine calls (states file at v) ok = (said_fine calls) file at v
 inside_fine calls (broken f) ok = ok
 inside_fine calls left_open ok = tt
 
-broken_fine : (calls : Bool) (w : Within) → (IsFineWithin calls) w → Given (IsAllowed calls) (broken_fault w)
+broken_fine : (calls : Bool) (w : InsideLine) → (IsFineWithin calls) w → Given (IsAllowed calls) (broken_fault w)
 broken_fine calls (states file at v) ok = tt
 broken_fine calls (broken f) ok = ok
 broken_fine calls left_open ok = tt
@@ -113,7 +113,7 @@ stray_fine : (calls : Bool) (file : Path) (o : Option ℕ) (at : ℕ) → Each (
 stray_fine calls file None at = (tt, tt)
 stray_fine calls file (Some first) at = tt
 
-own_fine : (calls : Bool) (file : Path) (first : Option ℕ) (p : Past) → (IsFinePast calls) p → Each (IsAllowed calls) (own_fault file first p)
+own_fine : (calls : Bool) (file : Path) (first : Option ℕ) (p : OutsideLine) → (IsFinePast calls) p → Each (IsAllowed calls) (own_fault file first p)
 own_fine calls file first (stands at brace says.Close) ok = (stray_fine calls) file first at
 own_fine calls file first (stands at brace says.Open) ok = (stray_fine calls) file first at
 own_fine calls file first (stands at brace says.Unknown) ok = (tt, tt)
@@ -122,7 +122,7 @@ own_fine calls file first (stands at brace (says.BadNames k)) ok = (tt, tt)
 own_fine calls file first (spoiled f) ok = (ok, tt)
 own_fine calls file first p ok = tt
 
-line_fine : (calls : Bool) (file : Path) (first : Option ℕ) (p : Past) → (IsFinePast calls) p → Each (IsAllowed calls) (line_faults file first p)
+line_fine : (calls : Bool) (file : Path) (first : Option ℕ) (p : OutsideLine) → (IsFinePast calls) p → Each (IsAllowed calls) (line_faults file first p)
 line_fine calls file first p ok = append (IsAllowed calls) (at_line file kind.NoBrace (left_names first p)) (own_fault file first p) ((at_fine calls) file kind.NoBrace (left_names first p)) ((own_fine calls) file first p ok)
 
 -- ---- meanings
@@ -150,12 +150,12 @@ body_fine calls (Some at) words vs es ok =
     ((either calls) (list_any drops body) rest (of_end at words f (find ends es))
     (mapped (IsFineWithin calls) (IsAllowed calls) broken_fault (broken_fine calls) (behind drops body) (behind_each (IsFineWithin calls) drops body fine)) ((end_fine calls) at words f (find ends es)))
 
-opening_fine : (calls : Bool) (out : List Past) (p : Past) (es : List Line) → Each (IsFine calls) es → Faults calls (of_opening out p es)
+opening_fine : (calls : Bool) (out : List OutsideLine) (p : OutsideLine) (es : List Line) → Each (IsFine calls) es → Faults calls (of_opening out p es)
 opening_fine calls out p es ok =
     (either calls) (opens p) (of_body (opened (first_pending out) p) (words_with (words_pending out) p) (settings (out ++ p ∷ [])) es) nothing
     ((body_fine calls) (opened (first_pending out) p) (words_with (words_pending out) p) (settings (out ++ p ∷ [])) es ok) tt
 
-pub meaning_fine : (calls : Bool) (es : List Line) (inside : Bool) (out : List Past) → Each (IsFine calls) es → Faults calls (meaning inside out es)
+pub meaning_fine : (calls : Bool) (es : List Line) (inside : Bool) (out : List OutsideLine) → Each (IsFine calls) es → Faults calls (meaning inside out es)
 meaning_fine calls [] true out ok = tt
 meaning_fine calls [] false out ok = tt
 meaning_fine calls (e ∷ es) true out ok =
@@ -163,8 +163,8 @@ meaning_fine calls (e ∷ es) true out ok =
     (either calls) (ends e) (meaning false (out ++ p ∷ []) es) (meaning true out es) ((meaning_fine calls) es false (out ++ p ∷ []) ok.1) ((meaning_fine calls) es true out ok.1)
 meaning_fine calls (e ∷ es) false out ok =
     let p = past e in
-    append (IsAllowed calls) (line_faults (file_of e) (first_pending out) p) ((of_opening out p es).faults ++ (meaning (opens p) (out ++ p ∷ []) es).faults)
-    ((line_fine calls) (file_of e) (first_pending out) p ((past_fine calls) e ok.0))
+    append (IsAllowed calls) (line_faults (line_file e) (first_pending out) p) ((of_opening out p es).faults ++ (meaning (opens p) (out ++ p ∷ []) es).faults)
+    ((line_fine calls) (line_file e) (first_pending out) p ((past_fine calls) e ok.0))
     (append (IsAllowed calls) (of_opening out p es).faults (meaning (opens p) (out ++ p ∷ []) es).faults
     ((opening_fine calls) out p es ok.1) ((meaning_fine calls) es (opens p) (out ++ p ∷ []) ok.1))
 
@@ -296,10 +296,10 @@ visits_fine : (calls : Bool) (s : Stage) (vs : List (Option Visit)) → AreAllow
 visits_fine calls s [] ok f = settled_fine calls s s.todo f.0 f.1
 visits_fine calls s (Some v ∷ vs) ok f =
     let here = settled_fine calls s s.todo f.0 f.1 in
-    visits_fine calls (visited (settled s) (Some v)) vs ok.1 (visited_fine calls (settled s) (settled s).todo (Some v) (ok.0, tt) here here.1)
+    visits_fine calls (visited (settled_stage s) (Some v)) vs ok.1 (visited_fine calls (settled_stage s) (settled_stage s).todo (Some v) (ok.0, tt) here here.1)
 visits_fine calls s (None ∷ vs) ok f =
     let here = settled_fine calls s s.todo f.0 f.1 in
-    visits_fine calls (visited (settled s) None) vs ok.1 (visited_fine calls (settled s) (settled s).todo None (tt, tt) here here.1)
+    visits_fine calls (visited (settled_stage s) None) vs ok.1 (visited_fine calls (settled_stage s) (settled_stage s).todo None (tt, tt) here here.1)
 
 begun_fine : (calls : Bool) (paths : List Path) → Each (FineTask calls) (map line_ask paths)
 begun_fine calls [] = tt

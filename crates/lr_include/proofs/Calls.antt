@@ -18,7 +18,7 @@ use Rattle.lr_forms.specs.declared.set.Set.{Set}
 use Rattle.lr_fields.specs.declared.fields.Fields.{Fields}
 use Rattle.lr_fields.specs.Fields.{fields_of, last_or}
 use Rattle.lr_conf.specs.declared.stop.Include.{Include}
-use Rattle.lr_conf.specs.Meaning.{Line, Read, Spoiled, End, Cut, Past, stands, spoiled, Meaning, conf, nothing, file_of, first_pending, words_pending, words_with, settings, opened, opens, past, before, through, behind, ends, Within, states, broken, left_open, within, body_of, drops, set_in, fault_of, fault_in, broken_fault, spoilt_fault, told, at_line, left_names, stray_at, own_fault, line_faults, of_end, of_body, of_opening, meaning}
+use Rattle.lr_conf.specs.Meaning.{Line, Read, Spoiled, End, Cut, OutsideLine, stands, spoiled, Meaning, conf, nothing, line_file, first_pending, words_pending, words_with, settings, opened, opens, past, before, through, behind, ends, InsideLine, states, broken, left_open, within, body_of, drops, set_in, line_fault, fault_in, broken_fault, spoilt_fault, told, at_line, left_names, stray_at, own_fault, line_faults, of_end, of_body, of_opening, meaning}
 use Rattle.lr_host.specs.declared.entry.Entry.{Entry}
 use Rattle.lr_visits.specs.declared.part.TextEnd.{TextEnd}
 use Rattle.lr_visits.specs.declared.part.TextEnd.TheVariants as end
@@ -33,7 +33,7 @@ use Rattle.lr_include.specs.declared.task.Task.TheVariants as task
 use Rattle.lr_include.specs.Lines.{conf_kind}
 use Rattle.lr_host.specs.Counted.{call_in, calls_in, RoseBy}
 use Rattle.lr_include.specs.Allowed.{failed_read, failed_visit, failed_in}
-use Rattle.lr_include.specs.Stages.{Stage, lines_now, open_behind, ask_of, asked_at, asks_now, taken, before_asks, settled_from, settled, room_for, kind_piece, piece_of, last_piece, line_tasks, entering, name_tasks, telling_exposed, behind_names, visited, visited_by, at_visits, ShowsNext, ShowsVisits, begun, line_ask, visits_mean, Reads}
+use Rattle.lr_include.specs.Stages.{Stage, lines_now, open_behind, ask_of, asked_at, asks_now, taken, before_asks, settled_from, settled_stage, room_for, kind_piece, piece_of, last_piece, line_tasks, entering, name_tasks, telling_exposed, behind_names, visited, visited_by, at_visits, ShowsNext, ShowsVisits, begun, line_ask, visits_mean, Reads}
 
 -- ---- sums over lists
 
@@ -75,11 +75,11 @@ abbrev calls_line : Line → ℕ
 calls_line (Spoiled f) = call_in f
 calls_line e = 0
 
-abbrev calls_past : Past → ℕ
+abbrev calls_past : OutsideLine → ℕ
 calls_past (spoiled f) = call_in f
 calls_past p = 0
 
-abbrev calls_within : Within → ℕ
+abbrev calls_within : InsideLine → ℕ
 calls_within (broken f) = call_in f
 calls_within w = 0
 
@@ -99,17 +99,17 @@ body_total : (earlier es : List Line) → total calls_within (body_of earlier es
 body_total earlier [] = refl
 body_total earlier (e ∷ es) = let a = within_calls earlier e in let more = body_total (earlier ++ e ∷ []) es in omega (arith, a, more)
 
-said_calls : (file : Path) (at : ℕ) (v : Said) → given call_in (fault_of file at v) ≡ 0
+said_calls : (file : Path) (at : ℕ) (v : Said) → given call_in (line_fault file at v) ≡ 0
 said_calls file at says.Unknown = refl
 said_calls file at (says.Bad k) = refl
 said_calls file at v = refl
 
-in_calls : (w : Within) → given call_in (fault_in w) ≡ calls_within w
+in_calls : (w : InsideLine) → given call_in (fault_in w) ≡ calls_within w
 in_calls (states file at v) = said_calls file at v
 in_calls (broken f) = refl
 in_calls left_open = refl
 
-broken_calls : (w : Within) → given call_in (broken_fault w) ≡ calls_within w
+broken_calls : (w : InsideLine) → given call_in (broken_fault w) ≡ calls_within w
 broken_calls (states file at v) = refl
 broken_calls (broken f) = refl
 broken_calls left_open = refl
@@ -128,7 +128,7 @@ stray_calls : (file : Path) (o : Option ℕ) (at : ℕ) → calls_in (stray_at f
 stray_calls file None at = refl
 stray_calls file (Some first) at = refl
 
-own_calls : (file : Path) (first : Option ℕ) (p : Past) → calls_in (own_fault file first p) ≡ calls_past p
+own_calls : (file : Path) (first : Option ℕ) (p : OutsideLine) → calls_in (own_fault file first p) ≡ calls_past p
 own_calls file first (stands at brace says.Close) = stray_calls file first at
 own_calls file first (stands at brace says.Open) = stray_calls file first at
 own_calls file first (stands at brace says.Unknown) = refl
@@ -174,10 +174,10 @@ end_calls at words f (Some Cut) = refl
 mapped_calls : {A : Type 0} (v : A → ℕ) (f : A → Option Fault) → ((x : A) → given call_in (f x) ≡ v x) → (xs : List A) → calls_in (filter_map f xs) ≡ total v xs
 mapped_calls v f h xs = calls_total (filter_map f xs) ∙ total_mapped v call_in f h xs
 
-abbrev rest_of : List Within → Meaning
+abbrev rest_of : List InsideLine → Meaning
 rest_of body = told (filter_map broken_fault (behind drops body))
 
-closed_calls : (at : ℕ) (words : List (List ℕ)) (f : Fields) (o : Option Line) (body : List Within) (b : Bool) → list_any drops body ≡ b → calls_in (cond b (rest_of body) (of_end at words f o)).faults ≡ total calls_within (behind drops body)
+closed_calls : (at : ℕ) (words : List (List ℕ)) (f : Fields) (o : Option Line) (body : List InsideLine) (b : Bool) → list_any drops body ≡ b → calls_in (cond b (rest_of body) (of_end at words f o)).faults ≡ total calls_within (behind drops body)
 closed_calls at words f o body true e = mapped_calls calls_within broken_fault broken_calls (behind drops body)
 closed_calls at words f o body false e = end_calls at words f o ∙ sym (ap (total calls_within) (none_behind drops body e))
 
@@ -202,34 +202,34 @@ ends_none (End file) h = refl
 ends_none Cut h = refl
 
 -- Of lines outside definitions all are told; in one, those up to its end are told where it begins.
-abbrev Outside : List Past → List Line → Type 0
+abbrev Outside : List OutsideLine → List Line → Type 0
 Outside out es = calls_in (meaning false out es).faults ≡ total calls_line es
 
-abbrev Inside : List Past → List Line → Type 0
+abbrev Inside : List OutsideLine → List Line → Type 0
 Inside out es = total calls_line (before ends es) + calls_in (meaning true out es).faults ≡ total calls_line es
 
-opened_calls : (p : Past) (es : List Line) (out : List Past) → Outside (out ++ p ∷ []) es → Inside (out ++ p ∷ []) es → (b : Bool)
+opened_calls : (p : OutsideLine) (es : List Line) (out : List OutsideLine) → Outside (out ++ p ∷ []) es → Inside (out ++ p ∷ []) es → (b : Bool)
     → calls_in (cond b (of_body (opened (first_pending out) p) (words_with (words_pending out) p) (settings (out ++ p ∷ [])) es) nothing).faults + calls_in (meaning b (out ++ p ∷ []) es).faults ≡ total calls_line es
 opened_calls p es out f g true = let k = body_calls (opened (first_pending out) p) (words_with (words_pending out) p) (settings (out ++ p ∷ [])) es in omega (arith, k, g)
 opened_calls p es out f g false = omega (arith, f)
 
-outside_on : (e : Line) (es : List Line) (out : List Past) → Outside (out ++ past e ∷ []) es → Inside (out ++ past e ∷ []) es → Outside out (e ∷ es)
+outside_on : (e : Line) (es : List Line) (out : List OutsideLine) → Outside (out ++ past e ∷ []) es → Inside (out ++ past e ∷ []) es → Outside out (e ∷ es)
 outside_on e es out f g =
     let p = past e in
-    let a = calls_both (line_faults (file_of e) (first_pending out) p) ((of_opening out p es).faults ++ (meaning (opens p) (out ++ p ∷ []) es).faults) in
+    let a = calls_both (line_faults (line_file e) (first_pending out) p) ((of_opening out p es).faults ++ (meaning (opens p) (out ++ p ∷ []) es).faults) in
     let b = calls_both (of_opening out p es).faults (meaning (opens p) (out ++ p ∷ []) es).faults in
-    let c = line_calls (file_of e) (first_pending out) e in
+    let c = line_calls (line_file e) (first_pending out) e in
     let d = opened_calls p es out f g (opens p) in
     omega (arith, a, b, c, d)
 
-inside_on : (e : Line) (es : List Line) (out : List Past) → Outside (out ++ past e ∷ []) es → Inside out es → Inside out (e ∷ es)
+inside_on : (e : Line) (es : List Line) (out : List OutsideLine) → Outside (out ++ past e ∷ []) es → Inside out es → Inside out (e ∷ es)
 inside_on e es out f g = by (ends e) refl
   where
     by : (b : Bool) → ends e ≡ b → total calls_line (cond b [] (e ∷ before ends es)) + calls_in (cond b (meaning false (out ++ past e ∷ []) es) (meaning true out es)).faults ≡ calls_line e + total calls_line es
     by true h = let z = ends_none e h in omega (arith, z, f)
     by false h = omega (arith, g)
 
-sides : (es : List Line) (out : List Past) → Outside out es × Inside out es
+sides : (es : List Line) (out : List OutsideLine) → Outside out es × Inside out es
 sides [] out = (refl, refl)
 sides (e ∷ es) out =
     let here = sides es out in
@@ -448,8 +448,8 @@ visits_tell : (n : ℕ) (s : Stage) (vs : List (Option Visit)) → Sums n s → 
 visits_tell n s [] h = record { told_are = n; sums = settled_sums n s s.todo h.calls h.ends_are; most = omega arith; shown = λ ts x. omega arith }
 visits_tell n s (v ∷ vs) h =
     let here = settled_sums n s s.todo h.calls h.ends_are in
-    let one = next_tells n (settled s) (settled s).todo v here here.calls here.ends_are in
-    let more = visits_tell one.told_are (visited (settled s) v) vs one.sums in
+    let one = next_tells n (settled_stage s) (settled_stage s).todo v here here.calls here.ends_are in
+    let more = visits_tell one.told_are (visited (settled_stage s) v) vs one.sums in
     let k = failed_first v vs in
     record {
       told_are = more.told_are;

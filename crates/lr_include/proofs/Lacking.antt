@@ -12,7 +12,7 @@ use Rattle.lr_include.specs.declared.course.Course.{Course}
 use Rattle.lr_include.specs.declared.task.Ask.{Ask}
 use Rattle.lr_include.specs.declared.task.Task.{Task}
 use Rattle.lr_include.specs.declared.task.Task.TheVariants as task
-use Rattle.lr_include.specs.Stages.{Stage, is_shallow, room_for, IsBarred, at_visits}
+use Rattle.lr_include.specs.Stages.{Stage, is_shallow, room_for, IsTaboo, at_visits}
 use Rattle.lr_include.specs.Course.{StandsAt, WentOn, GoesOn}
 use Rattle.lr_include.specs.Lacking.{PartNext, LacksFrom}
 use Rattle.lr_include.proofs.Stages.{popped_stands, next_was}
@@ -63,7 +63,7 @@ lacks_behind s a o n i j g = lacks_on s a i j g (λ t st. lacks_here t n)
 pub ask_lacks : (s : Stage) (a : Ask) {o n : Option Journal} → Left (PartVisit a.path (room_for s)) o n → Left (LacksFrom (record s { todo = task.Ask a ∷ s.todo })) o n
 ask_lacks s a l = left_as l (λ ts h. record { visits = []; shown = record { front = []; back = ts; joined = refl; first = refl; second = h } })
 
-pub name_lacks : (s : Stage) (a : Ask) {o n : Option Journal} → (IsBarred s.lines a.path → ⊥) → Left (PartVisit a.path (room_for s)) o n → Left (LacksFrom (record s { todo = task.Name a ∷ s.todo })) o n
+pub name_lacks : (s : Stage) (a : Ask) {o n : Option Journal} → (IsTaboo s.lines a.path → ⊥) → Left (PartVisit a.path (room_for s)) o n → Left (LacksFrom (record s { todo = task.Name a ∷ s.todo })) o n
 name_lacks s a free l = left_as l (λ ts h. record { visits = []; shown = record { front = []; back = ts; joined = refl; first = refl; second = (λ bars. absurd (free bars), h) } })
 
 pub part_at : (x : Path) (room room' : Option ℕ) {o n : Option Journal} → room ≡ room' → Left (PartVisit x room) o n → Left (PartVisit x room') o n
@@ -76,7 +76,7 @@ ask_made_lacks s a v l = left_as l (λ ts h. record {
   shown = record { front = ts; back = []; joined = sym (append-nil ts); first = record { front = ts; back = []; joined = sym (append-nil ts); first = h; second = refl }; second = part_none (at_visits (record s { todo = task.Ask a ∷ s.todo }) (Some v ∷ [])) (at_visits (record s { todo = task.Ask a ∷ s.todo }) (Some v ∷ [])).todo };
 })
 
-pub name_made_lacks : (s : Stage) (a : Ask) (v : Visit) {o n : Option Journal} → (IsBarred s.lines a.path → ⊥) → Left (ShowsVisit a.path false (room_for s) v) o n → Left (LacksFrom (record s { todo = task.Name a ∷ s.todo })) o n
+pub name_made_lacks : (s : Stage) (a : Ask) (v : Visit) {o n : Option Journal} → (IsTaboo s.lines a.path → ⊥) → Left (ShowsVisit a.path false (room_for s) v) o n → Left (LacksFrom (record s { todo = task.Name a ∷ s.todo })) o n
 name_made_lacks s a v free l = left_as l (λ ts h. record {
   visits = Some v ∷ [];
   shown = record { front = ts; back = []; joined = sym (append-nil ts); first = record { front = ts; back = []; joined = sym (append-nil ts); first = (free, h); second = refl }; second = part_none (at_visits (record s { todo = task.Name a ∷ s.todo }) (Some v ∷ [])) (at_visits (record s { todo = task.Name a ∷ s.todo }) (Some v ∷ [])).todo };

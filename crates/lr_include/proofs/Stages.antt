@@ -18,11 +18,11 @@ use Rattle.lr_conf.specs.declared.layer.Layer.{Layer}
 use Rattle.lr_conf.specs.declared.stop.Include.{Include}
 use Rattle.lr_conf.specs.declared.stop.LayerStop.{LayerStop}
 use Rattle.lr_conf.specs.declared.stop.LayerStop.TheVariants as stop
-use Rattle.lr_conf.specs.Stops.{faults_of}
+use Rattle.lr_conf.specs.Stops.{layer_faults}
 use Rattle.lr_lex.specs.declared.item.Item.{Item}
 use Rattle.lr_lex.specs.Items.{Told}
 use Rattle.lr_conf.specs.Meaning.{Line, Read, Spoiled, End, Cut, Meaning, meaning, ◌and◌, told, conf, asked, banned, list_of}
-use Rattle.lr_conf.specs.Fold.{coming, asking, banning, entered, file_of_layer, Took, Asks, Bans, Alike, Passes}
+use Rattle.lr_conf.specs.Fold.{coming, asking, banning, entered, file_of_layer, LayerTook, Asks, Bans, Alike, LayerPasses}
 use Rattle.lr_fields.specs.Fields.{last_or}
 use Rattle.lr_host.specs.declared.entry.Entry.{Entry}
 use Rattle.lr_host.specs.declared.journal.Journal.{Journal}
@@ -40,8 +40,8 @@ use Rattle.lr_include.specs.declared.task.Piece.{Piece}
 use Rattle.lr_include.specs.declared.task.Piece.TheVariants as piece
 use Rattle.lr_include.specs.declared.task.Task.{Task}
 use Rattle.lr_include.specs.declared.task.Task.TheVariants as task
-use Rattle.lr_include.specs.Stages.{Stage, piece_of, line_tasks, ask_of, asked_at, lines_in, lines_now, open_behind, asks_in, asks_now, taken, before_asks, settled_from, settled, is_shallow, room_for, telling, telling_exposed, name_task, name_tasks, behind_names, after_ask, after_name, IsBarred, visited, at_visits, ShowsNext, ShowsVisits, begun, visits_mean, Reads}
-use Rattle.lr_include.specs.Course.{Knows, StandsAt, SameRest, SameButTodo, Tells, TellsAnswer, TookPiece, TakesPiece, ToldFault, ClosesFile, WentOn, GoesOn}
+use Rattle.lr_include.specs.Stages.{Stage, piece_of, line_tasks, ask_of, asked_at, lines_in, lines_now, open_behind, asks_in, asks_now, taken, before_asks, settled_from, settled_stage, is_shallow, room_for, telling, telling_exposed, name_task, name_tasks, behind_names, after_ask, after_name, IsTaboo, visited, at_visits, ShowsNext, ShowsVisits, begun, visits_mean, Reads}
+use Rattle.lr_include.specs.Course.{Knows, StandsAt, SameRest, SameButTodo, CourseTells, TellsAnswer, TookPiece, TakesPiece, ToldFault, ClosesFile, WentOn, GoesOn}
 
 -- ---- one more line
 
@@ -98,13 +98,13 @@ alike_layer old new faults lines inside files c a b is k = record {
 
 -- ---- items
 
-of_answer : (a b : Course) (old new : Layer) (file : Path) (e : Line) (r : Result (Option Include) LayerStop) → Took old new file e r → Asks old new e r → Bans old new e r → TellsAnswer a b file r
-    → (faults : List Fault) × (includes : List Include) × SameLines old new faults includes e × Tells a b file faults includes × (o : Option Include) × (includes ≡ list_of o)
+of_answer : (a b : Course) (old new : Layer) (file : Path) (e : Line) (r : Result (Option Include) LayerStop) → LayerTook old new file e r → Asks old new e r → Bans old new e r → TellsAnswer a b file r
+    → (faults : List Fault) × (includes : List Include) × SameLines old new faults includes e × CourseTells a b file faults includes × (o : Option Include) × (includes ≡ list_of o)
 of_answer a b old new file e (Ok o) t q n s = ([], list_of o, (t, q, n), s, o, refl)
 of_answer a b old new file e (Err stop.Memory) t q n s = absurd s
-of_answer a b old new file e (Err (stop.Conf at k)) t q n s = (faults_of file (stop.Conf at k), [], (t, q, n), s, None, refl)
-of_answer a b old new file e (Err (stop.NoBraceAnd first at k)) t q n s = (faults_of file (stop.NoBraceAnd first at k), [], (t, q, n), s, None, refl)
-of_answer a b old new file e (Err (stop.NoBraceThen first i)) t q n s = (faults_of file (stop.NoBraceThen first i), i ∷ [], (t, q, n), s, Some i, refl)
+of_answer a b old new file e (Err (stop.Conf at k)) t q n s = (layer_faults file (stop.Conf at k), [], (t, q, n), s, None, refl)
+of_answer a b old new file e (Err (stop.NoBraceAnd first at k)) t q n s = (layer_faults file (stop.NoBraceAnd first at k), [], (t, q, n), s, None, refl)
+of_answer a b old new file e (Err (stop.NoBraceThen first i)) t q n s = (layer_faults file (stop.NoBraceThen first i), i ∷ [], (t, q, n), s, Some i, refl)
 
 -- tasks that are put on top
 one_on_top : (file : Path) (o : Option Include) (old : List Task) → reverse (old ++ map (ask_of file) (list_of o)) ≡ map (ask_of file) (list_of o) ++ reverse old
@@ -138,7 +138,7 @@ by_entered old new p f lines inside k =
     subst (λ (files : List Path). TookPiece old new p lines files) k.files (f lines (subst (λ (files : List Path). Knows old.layer old.faults.items lines files) (sym k.files) k))
 
 pub took_item : (old mid new : Course) (item : Item) (r : Result (Option Include) LayerStop) → Beside old mid → entered mid.layer ≡ entered old.layer → 0 < length (entered old.layer)
-    → Took old.layer mid.layer (file_of_layer old.layer) (Read (file_of_layer old.layer) item) r → Asks old.layer mid.layer (Read (file_of_layer old.layer) item) r → Bans old.layer mid.layer (Read (file_of_layer old.layer) item) r
+    → LayerTook old.layer mid.layer (file_of_layer old.layer) (Read (file_of_layer old.layer) item) r → Asks old.layer mid.layer (Read (file_of_layer old.layer) item) r → Bans old.layer mid.layer (Read (file_of_layer old.layer) item) r
     → TellsAnswer mid new (file_of_layer mid.layer) r → TakesPiece old new (piece.Item item)
 took_item old mid new item r same files pos took asks bans tells = by_entered old new (piece.Item item) (λ lines k.
     let file = file_of_layer old.layer in
@@ -158,7 +158,7 @@ took_item old mid new item r same files pos took asks bans tells = by_entered ol
           ∙ ap (λ (ts : List Task). ts ++ reverse old.todo.items) (sym (asks_of_open (entered old.layer) lines (piece.Item item) (some_file old.layer pos) ∙ ap (map (ask_of file)) one.1)));
     })
 
-pub told_fault : (old mid new : Course) (f : Fault) → Beside old mid → ((g : Fault) (more : List Line) → coming old.layer (Spoiled g ∷ more) ≡ (told (g ∷ []) and coming mid.layer more)) → ((g : Fault) → Passes old.layer mid.layer (Spoiled g))
+pub told_fault : (old mid new : Course) (f : Fault) → Beside old mid → ((g : Fault) (more : List Line) → coming old.layer (Spoiled g ∷ more) ≡ (told (g ∷ []) and coming mid.layer more)) → ((g : Fault) → LayerPasses old.layer mid.layer (Spoiled g))
     → entered mid.layer ≡ entered old.layer → new.layer ≡ mid.layer → new.faults.items ≡ mid.faults.items ++ f ∷ [] → SameRest mid new → ToldFault old new f
 told_fault old mid new f same means passes files layer told_it rest = record {
   knows = λ lines inside k. subst (λ (x : Layer). Knows x new.faults.items (lines ++ Spoiled f ∷ []) inside) (sym layer)
@@ -176,19 +176,19 @@ took_fault old new line kind t pos = by_entered old new (piece.Fault line kind) 
   todo = ap reverse t.rest.todo ∙ ap (λ (ts : List Task). ts ++ reverse old.todo.items) (sym (asks_of_open (entered old.layer) lines (piece.Fault line kind) (some_file old.layer pos)));
 })
 
-pub took_spoilt : (old mid new : Course) (line : ℕ) (kind : ConfKind) → Beside old mid → ((g : Fault) (more : List Line) → coming old.layer (Spoiled g ∷ more) ≡ (told (g ∷ []) and coming mid.layer more)) → ((g : Fault) → Passes old.layer mid.layer (Spoiled g))
+pub took_spoilt : (old mid new : Course) (line : ℕ) (kind : ConfKind) → Beside old mid → ((g : Fault) (more : List Line) → coming old.layer (Spoiled g ∷ more) ≡ (told (g ∷ []) and coming mid.layer more)) → ((g : Fault) → LayerPasses old.layer mid.layer (Spoiled g))
     → entered mid.layer ≡ entered old.layer → 0 < length (entered old.layer) → new.layer ≡ mid.layer → new.faults.items ≡ mid.faults.items ++ conf (file_of_layer mid.layer) kind line ∷ [] → SameRest mid new → TakesPiece old new (piece.Fault line kind)
 took_spoilt old mid new line kind same means passes files pos layer told_it rest = took_fault old new line kind
     (told_fault old mid new (conf (file_of_layer old.layer) kind line) same means passes files layer (told_it ∙ ap (λ (x : Path). mid.faults.items ++ conf x kind line ∷ []) (ap (last_or []) files)) rest) pos
 
-pub closed_quiet : (old new : Course) → Beside old new → ((more : List Line) → coming old.layer (End (file_of_layer old.layer) ∷ more) ≡ coming new.layer more) → Passes old.layer new.layer (End (file_of_layer old.layer)) → entered new.layer ≡ entered old.layer → ClosesFile old new
+pub closed_quiet : (old new : Course) → Beside old new → ((more : List Line) → coming old.layer (End (file_of_layer old.layer) ∷ more) ≡ coming new.layer more) → LayerPasses old.layer new.layer (End (file_of_layer old.layer)) → entered new.layer ≡ entered old.layer → ClosesFile old new
 closed_quiet old new same means passes files = record {
   knows = λ lines inside k. passed_line old.layer new.layer old.faults.items new.faults.items [] lines inside (End (file_of_layer old.layer)) means passes.asks passes.bans files (same.0 ∙ sym (append-nil old.faults.items)) k;
   entered_are = files;
   rest = record { files = same.1; bytes = same.2; exposed = same.4; todo = same.3 };
 }
 
-pub closed_told : (old mid new : Course) (f : Fault) → Beside old mid → ((more : List Line) → coming old.layer (End (file_of_layer old.layer) ∷ more) ≡ (told (f ∷ []) and coming mid.layer more)) → Passes old.layer mid.layer (End (file_of_layer old.layer))
+pub closed_told : (old mid new : Course) (f : Fault) → Beside old mid → ((more : List Line) → coming old.layer (End (file_of_layer old.layer) ∷ more) ≡ (told (f ∷ []) and coming mid.layer more)) → LayerPasses old.layer mid.layer (End (file_of_layer old.layer))
     → entered mid.layer ≡ entered old.layer → new.layer ≡ mid.layer → new.faults.items ≡ mid.faults.items ++ f ∷ [] → SameRest mid new → ClosesFile old new
 closed_told old mid new f same means passes files layer told_it rest = record {
   knows = λ lines inside k. subst (λ (x : Layer). Knows x new.faults.items (lines ++ End (file_of_layer old.layer) ∷ []) inside) (sym layer)
@@ -214,7 +214,7 @@ took_end old mid new t same c a e pos = by_entered old new piece.End (λ lines k
   todo = ap reverse (same.3 ∙ t.rest.todo) ∙ ap (λ (ts : List Task). ts ++ reverse old.todo.items) (sym (asks_of_open (entered old.layer) lines piece.End (some_file old.layer pos)));
 })
 
-pub took_break : (old mid new : Course) (cut : Layer) (f : Fault) → ToldFault old mid f → ((more : List Line) → coming mid.layer (Cut ∷ more) ≡ coming cut more) → Passes mid.layer cut Cut → entered cut ≡ entered mid.layer
+pub took_break : (old mid new : Course) (cut : Layer) (f : Fault) → ToldFault old mid f → ((more : List Line) → coming mid.layer (Cut ∷ more) ≡ coming cut more) → LayerPasses mid.layer cut Cut → entered cut ≡ entered mid.layer
     → Beside mid new → ((more : List Line) → coming new.layer more ≡ coming cut more) → Alike cut new.layer → entered new.layer ≡ take (length (entered cut) - 1) (entered cut)
     → 0 < length (entered old.layer) → TakesPiece old new (piece.Break f)
 took_break old mid new cut f t means passes files same c a e pos = by_entered old new (piece.Break f) (λ lines k.
@@ -252,18 +252,18 @@ took_none c p e lines inside k = by inside p (sym (ap length k.files) ∙ e) k
 
 -- ---- stages
 
-at_same : (s t : Stage) → settled s ≡ settled t → (more : List (Option Visit)) → at_visits s more ≡ at_visits t more
+at_same : (s t : Stage) → settled_stage s ≡ settled_stage t → (more : List (Option Visit)) → at_visits s more ≡ at_visits t more
 at_same s t e [] = e
 at_same s t e (v ∷ vs) = ap (λ (x : Stage). at_visits (visited x v) vs) e
 
-shows_same : (s t : Stage) → settled s ≡ settled t → (more : List (Option Visit)) (us : List Entry) → ShowsVisits t more us → ShowsVisits s more us
+shows_same : (s t : Stage) → settled_stage s ≡ settled_stage t → (more : List (Option Visit)) (us : List Entry) → ShowsVisits t more us → ShowsVisits s more us
 shows_same s t e [] us h = h
 shows_same s t e (v ∷ vs) us h = subst (λ (x : Stage). Then (ShowsNext x x.todo v) (ShowsVisits (visited x v) vs) us) (sym e) h
 
-pub went_same : (s t : Stage) (o : Option Journal) (b : ℕ) → settled s ≡ settled t → WentOn s t o o b b
+pub went_same : (s t : Stage) (o : Option Journal) (b : ℕ) → settled_stage s ≡ settled_stage t → WentOn s t o o b b
 went_same s t o b e = record { visits = []; leads = at_same s t e; shown = left_first _ o (shows_same s t e); counted = omega arith }
 
-pub went_by : (s t : Stage) (v : Option Visit) {o n : Option Journal} (b a : ℕ) → RoseBy (failed_in (v ∷ [])) b a → visited (settled s) v ≡ t → Left (ShowsNext (settled s) (settled s).todo v) o n → WentOn s t o n b a
+pub went_by : (s t : Stage) (v : Option Visit) {o n : Option Journal} (b a : ℕ) → RoseBy (failed_in (v ∷ [])) b a → visited (settled_stage s) v ≡ t → Left (ShowsNext (settled_stage s) (settled_stage s).todo v) o n → WentOn s t o n b a
 went_by s t v b a c e l = record {
   counted = c;
   visits = v ∷ [];
@@ -298,9 +298,9 @@ settled_any s x (task.Ask a ∷ todo) = refl
 settled_any s x (task.Name a ∷ todo) = refl
 
 -- behind a piece
-piece_settled : (t : Stage) (asks todo : List Task) → ((asks ≡ []) ⊎ ((a : Ask) × (rest : List Task) × (asks ≡ task.Ask a ∷ rest))) → before_asks asks (record t { todo = asks ++ todo }) (settled_from t todo) ≡ settled (record t { todo = asks ++ todo })
-piece_settled t asks todo (inl none) = subst (λ (front : List Task). before_asks front (record t { todo = front ++ todo }) (settled_from t todo) ≡ settled (record t { todo = front ++ todo })) (sym none) (sym (settled_any t todo todo))
-piece_settled t asks todo (inr (a, rest, some)) = subst (λ (front : List Task). before_asks front (record t { todo = front ++ todo }) (settled_from t todo) ≡ settled (record t { todo = front ++ todo })) (sym some) refl
+piece_settled : (t : Stage) (asks todo : List Task) → ((asks ≡ []) ⊎ ((a : Ask) × (rest : List Task) × (asks ≡ task.Ask a ∷ rest))) → before_asks asks (record t { todo = asks ++ todo }) (settled_from t todo) ≡ settled_stage (record t { todo = asks ++ todo })
+piece_settled t asks todo (inl none) = subst (λ (front : List Task). before_asks front (record t { todo = front ++ todo }) (settled_from t todo) ≡ settled_stage (record t { todo = front ++ todo })) (sym none) (sym (settled_any t todo todo))
+piece_settled t asks todo (inr (a, rest, some)) = subst (λ (front : List Task). before_asks front (record t { todo = front ++ todo }) (settled_from t todo) ≡ settled_stage (record t { todo = front ++ todo })) (sym some) refl
 
 are_asks : (file : Path) (includes : List Include) → (map (ask_of file) includes ≡ []) ⊎ ((a : Ask) × (rest : List Task) × (map (ask_of file) includes ≡ task.Ask a ∷ rest))
 are_asks file [] = inl refl
@@ -313,7 +313,7 @@ asks_are (f ∷ fs) lines (piece.Fault at kind) = inl refl
 asks_are (f ∷ fs) lines piece.End = inl refl
 asks_are (f ∷ fs) lines (piece.Break e) = inl refl
 
-behind_piece : (s : Stage) (p : Piece) → settled (record s { todo = task.Line p ∷ s.todo }) ≡ settled (record (taken s p) { todo = asks_now s.inside s.lines p ++ s.todo })
+behind_piece : (s : Stage) (p : Piece) → settled_stage (record s { todo = task.Line p ∷ s.todo }) ≡ settled_stage (record (taken s p) { todo = asks_now s.inside s.lines p ++ s.todo })
 behind_piece s p =
     ap (before_asks (asks_now s.inside s.lines p) (record (taken s p) { todo = asks_now s.inside s.lines p ++ s.todo })) (settled_any (taken s p) (task.Line p ∷ s.todo) s.todo)
     ∙ piece_settled (taken s p) (asks_now s.inside s.lines p) s.todo (asks_are s.inside s.lines p)
@@ -369,14 +369,14 @@ ask_turned s new a v i j le c l st = record {
   went = went_by (record s { todo = task.Ask a ∷ s.todo }) (after_ask s a v s.todo) (Some v) i j (one_failed v i j le c) (after_ask_any s (task.Ask a ∷ s.todo) a v s.todo) l;
 }
 
-pub name_turned : (s : Stage) (new : Course) (a : Ask) (v : Visit) {o n : Option Journal} (i j : ℕ) → i ≤ j → (HasFailed v → min (i + 1) (2 ^ 64 - 1) ≤ j) → (IsBarred s.lines a.path → ⊥) → Left (ShowsVisit a.path false (room_for s) v) o n → StandsAt new (after_name s a v s.todo) → GoesOn (record s { todo = task.Name a ∷ s.todo }) new o n i j
+pub name_turned : (s : Stage) (new : Course) (a : Ask) (v : Visit) {o n : Option Journal} (i j : ℕ) → i ≤ j → (HasFailed v → min (i + 1) (2 ^ 64 - 1) ≤ j) → (IsTaboo s.lines a.path → ⊥) → Left (ShowsVisit a.path false (room_for s) v) o n → StandsAt new (after_name s a v s.todo) → GoesOn (record s { todo = task.Name a ∷ s.todo }) new o n i j
 name_turned s new a v i j le c free l st = record {
   stage = after_name s a v s.todo;
   stands = st;
   went = went_by (record s { todo = task.Name a ∷ s.todo }) (after_name s a v s.todo) (Some v) i j (one_failed v i j le c) (after_name_any s (task.Name a ∷ s.todo) a v s.todo) (left_as l (λ ts h. (free, h)));
 }
 
-pub name_barred : (s : Stage) (c : Course) (a : Ask) (o : Option Journal) (i : ℕ) → IsBarred s.lines a.path → StandsAt c s → GoesOn (record s { todo = task.Name a ∷ s.todo }) c o o i i
+pub name_barred : (s : Stage) (c : Course) (a : Ask) (o : Option Journal) (i : ℕ) → IsTaboo s.lines a.path → StandsAt c s → GoesOn (record s { todo = task.Name a ∷ s.todo }) c o o i i
 name_barred s c a o i bars st = record {
   stage = s;
   stands = st;
@@ -445,7 +445,7 @@ shown_at x lists lists' room room' v e f l = left_as l (λ ts h. subst (λ (b : 
 
 -- ---- the whole
 
-settled_end : (s : Stage) → s.todo ≡ [] → settled s ≡ record s { todo = [] }
+settled_end : (s : Stage) → s.todo ≡ [] → settled_stage s ≡ record s { todo = [] }
 settled_end s e = ap (settled_from s) e
 
 pub all_read : (paths : List Path) (s : Stage) {o n : Option Journal} {i j : ℕ} → (w : WentOn (begun paths) s o n i j) → s.todo ≡ [] → at_visits (begun paths) w.visits ≡ record s { todo = [] }

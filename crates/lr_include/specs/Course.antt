@@ -7,7 +7,7 @@ use Rattle.lr_conf.specs.declared.layer.Layer.{Layer}
 use Rattle.lr_conf.specs.declared.stop.Include.{Include}
 use Rattle.lr_conf.specs.declared.stop.LayerStop.{LayerStop}
 use Rattle.lr_conf.specs.declared.stop.LayerStop.TheVariants as stop
-use Rattle.lr_conf.specs.Stops.{faults_of, include_of}
+use Rattle.lr_conf.specs.Stops.{layer_faults, include_of}
 use Rattle.lr_conf.specs.Meaning.{Line, Spoiled, End, meaning, ◌and◌, told, list_of, asked, banned}
 use Rattle.lr_conf.specs.Fold.{coming, asking, banning, entered, file_of_layer}
 use Rattle.lr_host.specs.declared.entry.Entry.{Entry}
@@ -72,7 +72,7 @@ pub record SameRest (old new : Course) : Type 0 where
   pub todo : new.todo.items ≡ old.todo.items
 
 -- These faults were told, and these files of it are asked for.
-pub record Tells (old new : Course) (file : Path) (faults : List Fault) (includes : List Include) : Type 0 where
+pub record CourseTells (old new : Course) (file : Path) (faults : List Fault) (includes : List Include) : Type 0 where
   pub layer : new.layer ≡ old.layer
   pub faults_are : new.faults.items ≡ old.faults.items ++ faults
   pub files : new.files ≡ old.files
@@ -82,9 +82,9 @@ pub record Tells (old new : Course) (file : Path) (faults : List Fault) (include
 
 -- what a layer answered was told
 abbrev pub TellsAnswer : Course → Course → Path → Result (Option Include) LayerStop → Type 0
-TellsAnswer old new file (Ok include) = Tells old new file [] (list_of include)
+TellsAnswer old new file (Ok include) = CourseTells old new file [] (list_of include)
 TellsAnswer old new file (Err stop.Memory) = ⊥
-TellsAnswer old new file (Err s) = Tells old new file (faults_of file s) (include_of s)
+TellsAnswer old new file (Err s) = CourseTells old new file (layer_faults file s) (include_of s)
 
 -- a fault was told behind these lines
 pub record ToldFault (old new : Course) (f : Fault) : Type 0 where

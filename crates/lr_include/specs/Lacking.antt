@@ -7,12 +7,12 @@ use Rattle.lr_visits.specs.declared.visit.Visit.{Visit}
 use Rattle.lr_visits.specs.Visits.{PartVisit}
 use Rattle.lr_include.specs.declared.task.Task.{Task}
 use Rattle.lr_include.specs.declared.task.Task.TheVariants as task
-use Rattle.lr_include.specs.Stages.{Stage, room_for, IsBarred, at_visits, ShowsVisits, begun}
+use Rattle.lr_include.specs.Stages.{Stage, room_for, IsTaboo, at_visits, ShowsVisits, begun}
 
 -- a first part of what the next visit of a stage leaves; nothing of a name that is barred, and where nothing is asked for
 abbrev pub PartNext : Stage → List Task → List Entry → Type 0
 PartNext s (task.Ask a ∷ todo) ts = PartVisit a.path (room_for s) ts
-PartNext s (task.Name a ∷ todo) ts = (IsBarred s.lines a.path → ts ≡ []) × PartVisit a.path (room_for s) ts
+PartNext s (task.Name a ∷ todo) ts = (IsTaboo s.lines a.path → ts ≡ []) × PartVisit a.path (room_for s) ts
 PartNext s todo ts = ts ≡ []
 
 -- The entries show some visits from this stage on, each asked for by what was read before it, and then a first part of the

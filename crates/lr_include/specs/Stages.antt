@@ -92,8 +92,8 @@ settled_from s (task.Line p ∷ todo) = before_asks (asks_now s.inside s.lines p
 settled_from s (task.Ask a ∷ todo) = record s { todo = task.Ask a ∷ todo }
 settled_from s (task.Name a ∷ todo) = record s { todo = task.Name a ∷ todo }
 
-abbrev pub settled : Stage → Stage
-settled s = settled_from s s.todo
+abbrev pub settled_stage : Stage → Stage
+settled_stage s = settled_from s s.todo
 
 -- ---- limits
 
@@ -195,8 +195,8 @@ after_name s a v todo = record s { todo = todo }
 -- ---- visits
 
 -- The taboo list as it is then bars the last part of the path.
-abbrev pub IsBarred : List Line → Path → Type 0
-IsBarred lines path = Bars (banned false first_taboo lines) (last_of path)
+abbrev pub IsTaboo : List Line → Path → Type 0
+IsTaboo lines path = Bars (banned false first_taboo lines) (last_of path)
 
 -- Behind the next visit; none is made of a name that is barred.
 abbrev pub visited_by : Stage → List Task → Option Visit → Stage
@@ -210,20 +210,21 @@ visited s v = visited_by s s.todo v
 
 -- the stage to which the visits lead
 abbrev pub at_visits : Stage → List (Option Visit) → Stage
-at_visits s [] = settled s
-at_visits s (v ∷ vs) = at_visits (visited (settled s) v) vs
+at_visits s [] = settled_stage s
+at_visits s (v ∷ vs) = at_visits (visited (settled_stage s) v) vs
 
 -- what the next visit of a stage leaves
 abbrev pub ShowsNext : Stage → List Task → Option Visit → List Entry → Type 0
 ShowsNext s (task.Ask a ∷ todo) (Some v) ts = ShowsVisit a.path (is_shallow s) (room_for s) v ts
-ShowsNext s (task.Name a ∷ todo) (Some v) ts = (IsBarred s.lines a.path → ⊥) × ShowsVisit a.path false (room_for s) v ts
-ShowsNext s (task.Name a ∷ todo) None ts = IsBarred s.lines a.path × (ts ≡ [])
+ShowsNext s (task.Name a ∷ todo) (Some v) ts = (IsTaboo s.lines a.path → ⊥) × ShowsVisit a.path false (room_for s) v ts
+ShowsNext s (task.Name a ∷ todo) None ts = IsTaboo s.lines a.path × (ts ≡ [])
 ShowsNext s todo v ts = ⊥
 
 -- The entries show what these visits gave, each asked for by what was read before it.
 abbrev pub ShowsVisits : Stage → List (Option Visit) → List Entry → Type 0
 ShowsVisits s [] ts = ts ≡ []
-ShowsVisits s (v ∷ vs) ts = Then (ShowsNext (settled s) (settled s).todo v) (ShowsVisits (visited (settled s) v) vs) ts
+ShowsVisits s (v ∷ vs) ts = Then (ShowsNext (settled_stage s) (settled_stage s).todo v) (ShowsVisits (visited (settled_stage s) v)
+    vs) ts
 
 -- ---- readings
 

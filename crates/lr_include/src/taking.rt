@@ -5,7 +5,7 @@ ghost use Rattle.lr_conf.specs.Meaning.{conf};
 ghost use Rattle.lr_conf.specs.Fold.{entered, file_of_layer};
 ghost use Rattle.lr_include.specs.declared.task.Piece.TheVariants as piece;
 ghost use Rattle.lr_include.specs.Stages.{ask_of};
-ghost use Rattle.lr_include.specs.Course.{SameRest, Tells, TellsAnswer, TakesPiece, ClosesFile, ToldFault};
+ghost use Rattle.lr_include.specs.Course.{SameRest, CourseTells, TellsAnswer, TakesPiece, ClosesFile, ToldFault};
 
 use crate::course::Course;
 use crate::task::{Ask, Piece, Task};
@@ -30,7 +30,7 @@ impl Course {
     // Puts a file for which a line asks in front of what is still to be read.
     fn ask(&mut self, include: Include) -> Result<(), Memory>
         requires { 0 < length (entered self.old.layer) }
-        ensures { OnOk result (Tells self.old self.new (file_of_layer self.old.layer) [] (include ∷ [])) }
+        ensures { OnOk result (CourseTells self.old self.new (file_of_layer self.old.layer) [] (include ∷ [])) }
     {
         let file = self.layer.file().copy(self.alloc)?;
         let Include { path, line } = include;
@@ -41,7 +41,7 @@ impl Course {
     // Tells that names have no brace, and a fault of the line that shows it.
     fn tell_both(&mut self, first: u32, line: u32, kind: ConfKind) -> Result<(), Memory>
         requires { 0 < length (entered self.old.layer) }
-        ensures { OnOk result (Tells self.old self.new (file_of_layer self.old.layer)
+        ensures { OnOk result (CourseTells self.old self.new (file_of_layer self.old.layer)
             (conf (file_of_layer self.old.layer) kinds.NoBrace first ∷ conf (file_of_layer self.old.layer) kind line ∷ []) []) }
     {
         self.tell(first, ConfKind::NoBrace)?;
@@ -51,7 +51,7 @@ impl Course {
     // Tells that names have no brace, and asks for the file of the line that shows it.
     fn tell_and_ask(&mut self, first: u32, include: Include) -> Result<(), Memory>
         requires { 0 < length (entered self.old.layer) }
-        ensures { OnOk result (Tells self.old self.new (file_of_layer self.old.layer)
+        ensures { OnOk result (CourseTells self.old self.new (file_of_layer self.old.layer)
             (conf (file_of_layer self.old.layer) kinds.NoBrace first ∷ []) (include ∷ [])) }
     {
         self.tell(first, ConfKind::NoBrace)?;

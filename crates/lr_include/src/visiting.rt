@@ -4,10 +4,10 @@ ghost use Rattle.std.specs.Prelude.{OnOk, OnErr};
 ghost use Rattle.lr_host.specs.Told.{Left, Onward};
 ghost use Rattle.lr_conf.specs.Meaning.{conf};
 ghost use Rattle.lr_conf.specs.Fold.{entered};
-ghost use Rattle.lr_visits.specs.Visits.{IsRead, HasRoom};
+ghost use Rattle.lr_visits.specs.Visits.{IsRead, RoomIsLeft};
 ghost use Rattle.lr_include.specs.declared.task.Task.TheVariants as task;
 ghost use Rattle.lr_include.specs.Stages.{Stage, is_shallow, room_of, room_for, limit_kind, telling_exposed, line_tasks};
-ghost use Rattle.lr_include.specs.Stages.{name_tasks, is_name, behind_names, entering, after_ask, after_name, IsBarred};
+ghost use Rattle.lr_include.specs.Stages.{name_tasks, is_name, behind_names, entering, after_ask, after_name, IsTaboo};
 ghost use Rattle.lr_include.specs.Course.{StandsAt, SameButTodo, ToldFault, GoesOn};
 ghost use Rattle.lr_include.specs.Lacking.{LacksFrom};
 
@@ -55,7 +55,7 @@ impl Course {
     // The room for the next file, where one more may be read.
     fn room_for(&self) -> Option<usize>
         ensures room { (s : Stage) → StandsAt self.now s → result ≡ room_for s }
-        ensures depth { HasRoom result → length (entered self.now.layer) < 8 }
+        ensures depth { RoomIsLeft result → length (entered self.now.layer) < 8 }
         ensures bound { (n : _) → result ≡ Some n → n + 1 < 2 ^ 32 }
     {
         if self.shallow() && self.files > 0 {
@@ -77,7 +77,7 @@ impl Course {
 
     // Whether the taboo list bars the last part of the path.
     fn is_barred(&self, path: &Path) -> Result<bool, Memory>
-        ensures { IfOk result (λ b. (s : Stage) → StandsAt self.now s → (b ≡ true) ↔ IsBarred s.lines path.now) }
+        ensures { IfOk result (λ b. (s : Stage) → StandsAt self.now s → (b ≡ true) ↔ IsTaboo s.lines path.now) }
     {
         let name = path.last_text(self.alloc)?;
         Ok(self.layer.taboo().bars(name.as_str()))

@@ -11,7 +11,7 @@ use Rattle.lr_rules.specs.Match.{part_end}
 use Rattle.lr_rules.specs.Names.{aside_path, IsStampShape, number_pieces, IsMiddleShape, IsMemberShape, IsOwnName, the_log, set_aside, a_member, a_part, IsName, Meet}
 use Rattle.lr_rules.specs.Path.{joined}
 use Rattle.lr_family.specs.declared.family.Family.{Family}
-use Rattle.lr_kept.specs.Fronts.{Begins, before_field, middle_front, member_front, below, Finds}
+use Rattle.lr_kept.specs.Fronts.{Begins, before_field, middle_front, member_front, below, FindsFront}
 
 begins_more : (front bytes more : List ℕ) → Begins front bytes → Begins front (bytes ++ more)
 begins_more front bytes more h = (h.0 ++ more, ap (λ xs. xs ++ more) h.1 ∙ append_assoc front h.0 more)
@@ -80,7 +80,7 @@ IsFrontOf f bytes = (bytes ≡ f.log) ⊎ ((bytes ≡ member_front f.naming) ⊎
 
 -- the one finds a front of the other
 abbrev pub FindsIt : Family → Family → Type 0
-FindsIt f g = (bytes : List ℕ) × IsFrontOf g bytes × Finds f bytes
+FindsIt f g = (bytes : List ℕ) × IsFrontOf g bytes × FindsFront f bytes
 
 -- the same bytes
 begins_same : (front bytes : List ℕ) → bytes ≡ front → Begins front bytes

@@ -17,8 +17,8 @@ use Rattle.lr_kept.specs.declared.choice.Choice.TheVariants.{Kept, Again, Member
 use Rattle.lr_kept.specs.declared.pair.Pair.{Pair}
 use Rattle.lr_kept.specs.Begun.{AreBegun}
 use Rattle.lr_kept.specs.Chosen.{IsNew, IsKeptAt, MeetAt, IsMemberOf, IsWild, IsMatchedMember}
-use Rattle.lr_kept.specs.Members.{IsPassed, ArePassed, IsFirst, lowered, MayJoin, Joins}
-use Rattle.lr_kept.specs.Pairs.{pair_at, IsPair, HavePairs, IsAmong}
+use Rattle.lr_kept.specs.Members.{IsPassed, ArePassed, IsFirstFound, lowered, MayJoin, Joins}
+use Rattle.lr_kept.specs.Pairs.{pair_at, IsPair, HavePairs, IsPairAmong}
 use Rattle.lr_kept.proofs.Elements.{same_read, read_set_same, read_set_other, contains_read}
 use Rattle.lr_kept.proofs.Outcome.{among_more}
 use Rattle.lr_kept.proofs.Pairing.{back_at}
@@ -105,7 +105,7 @@ module _ (logs : List (Bor Family)) (wild : List Bool) (begun : List Choice) (st
 
   module _ (Asked More : ℕ → ℕ → Type 0) (old : List Choice) (so_far : HavePassed logs wild begun Asked old) (k i : ℕ) (within_k : k < length logs) (within_i : i < length logs) (other : i ≢ k) (more : (p l : ℕ) → More p l → Asked p l ⊎ ((p ≡ k) × (l ≡ i))) where
     -- what isn't said to be found before is kept since it began, or passed over by now
-    first_kept : (p : ℕ) → p < length logs → IsFirst old p → IsKeptAt begun p
+    first_kept : (p : ℕ) → p < length logs → IsFirstFound old p → IsKeptAt begun p
     first_kept p lt first = by _ (slice_get-get_or old p Kept (omega (arith, start.as_many, so_far.as_many)))
       where
         by : (c : Choice) → slice_get old p ≡ Some c → IsKeptAt begun p
@@ -264,7 +264,7 @@ module _ (logs : List (Bor Family)) (wild : List Bool) (begun : List Choice) (st
 
 -- it was asked of one of the first n pairs, in both orders
 abbrev pub AskedBy : List Pair → ℕ → ℕ → ℕ → Type 0
-AskedBy pairs n k i = IsAmong pairs n i k ⊎ IsAmong pairs n k i
+AskedBy pairs n k i = IsPairAmong pairs n i k ⊎ IsPairAmong pairs n k i
 
 -- of the next pair it was asked whether the later log is a member
 abbrev AskedOnce : List Pair → ℕ → Pair → ℕ → ℕ → Type 0
@@ -284,15 +284,15 @@ both_passed logs wild begun start pairs n p at is old mid now so_far one other =
     earlier_in = slice_get_within logs p.earlier is.1.one is.1.at_one
 
     rest : (k i : ℕ) → AskedBy pairs (n + 1) k i → AskedOnce pairs n p k i ⊎ ((k ≡ p.earlier) × (i ≡ p.later))
-    rest k i (inl m) = ⊎_elim (λ (o : IsAmong pairs n i k). inl (inl (inl o))) (λ e. inl (inr (e.1, e.0))) (among_more pairs n p at i k m)
-    rest k i (inr m) = ⊎_elim (λ (o : IsAmong pairs n k i). inl (inl (inr o))) (λ e. inr (e.0, e.1)) (among_more pairs n p at k i m)
+    rest k i (inl m) = ⊎_elim (λ (o : IsPairAmong pairs n i k). inl (inl (inl o))) (λ e. inl (inr (e.1, e.0))) (among_more pairs n p at i k m)
+    rest k i (inr m) = ⊎_elim (λ (o : IsPairAmong pairs n k i). inl (inl (inr o))) (λ e. inr (e.0, e.1)) (among_more pairs n p at k i m)
 
 -- ---- at the end
 
 pub all_passed : (logs : List (Bor Family)) (wild : List Bool) (begun choices : List Choice) (pairs : List Pair) → AreBegun logs begun → HavePairs logs begun pairs → HavePassed logs wild begun (AskedBy pairs (length pairs)) choices → ArePassed logs wild choices
 all_passed logs wild begun choices pairs start have done = record { as_many = done.as_many ∙ start.as_many; each = each }
   where
-    there : (i k : ℕ) → i < k → IsKeptAt begun i → IsKeptAt begun k → MeetAt logs i k → IsAmong pairs (length pairs) i k
+    there : (i k : ℕ) → i < k → IsKeptAt begun i → IsKeptAt begun k → MeetAt logs i k → IsPairAmong pairs (length pairs) i k
     there i k lt kept_i kept_k m = contains_read pairs (pair_at i k) (have.each i k lt kept_i kept_k m)
 
     asked : (k i : ℕ) → IsKeptAt begun k → IsMatchedMember logs wild k i → AskedBy pairs (length pairs) k i

@@ -9,7 +9,7 @@ use Rattle.lr_family.specs.declared.family.Family.{Family}
 use Rattle.lr_kept.specs.declared.choice.Choice.{Choice}
 use Rattle.lr_kept.specs.declared.choice.Choice.TheVariants.{Kept, Again, MemberOf, Reserved, Meets}
 use Rattle.lr_kept.specs.Chosen.{HasReserved}
-use Rattle.lr_kept.specs.Barred.{IsOpened, AreOpened, HaveOpened, NoneShut, Opens, free, barred, stays}
+use Rattle.lr_kept.specs.Barred.{IsUnbarredChoice, AreOpened, HaveOpened, NoneShut, Opens, free, barred, stays}
 use Rattle.lr_kept.proofs.Elements.{same_read, read_set_same, read_set_other}
 
 pub none_opened : (logs : List (Bor Family)) (reserved : List Path) (choices : List Choice) → HaveOpened logs reserved choices 0 choices
@@ -23,7 +23,7 @@ module _ (logs : List (Bor Family)) (reserved : List Path) (begun : List Choice)
   its_name : (i : ℕ) (h : HasReserved logs reserved n i) → IsName f.now.log f.now.naming h.path
   its_name i h = subst (λ (g : Bor Family). IsName g.now.log g.now.naming h.path) (same_read logs n h.log f h.at_log at) h.named
 
-  opened_so : (c d : Choice) → slice_get begun n ≡ Some c → Opens f.now reserved c d → IsOpened logs reserved begun n d
+  opened_so : (c d : Choice) → slice_get begun n ≡ Some c → Opens f.now reserved c d → IsUnbarredChoice logs reserved begun n d
   opened_so _ _ b (free none) = record { kept = b; free = λ i h. none i h.path h.at_path (its_name i h) }
   opened_so _ _ b (barred i is) = record {
     kept = b;
@@ -43,7 +43,7 @@ module _ (logs : List (Bor Family)) (reserved : List Path) (begun : List Choice)
         (λ (same : k ≡ n).
         let here : slice_get (set old n d) n ≡ Some d = read_set_same old n d (slice_get_within old n c was) in
         let is : d ≡ e = same_read (set old n d) n d e here (ap (λ s. slice_get (set old n d) s) (sym same) ∙ h) in
-        subst (λ s. IsOpened logs reserved begun s e) (sym same) (subst (λ (x : Choice). IsOpened logs reserved begun n x) is (opened_so c d (so_far.from n c (omega arith) was) opens)))
+        subst (λ s. IsUnbarredChoice logs reserved begun s e) (sym same) (subst (λ (x : Choice). IsUnbarredChoice logs reserved begun n x) is (opened_so c d (so_far.from n c (omega arith) was) opens)))
         (λ (ne : k ≡ n → ⊥). so_far.below k e (neither k lt ne) (sym (read_set_other old n k d ne) ∙ h))
         (cases_eq k n);
     from = λ k e le h. so_far.from k e (omega (arith, le)) (sym (read_set_other old n k d (λ same. omega (arith, le, same))) ∙ h);

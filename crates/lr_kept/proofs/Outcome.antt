@@ -9,11 +9,11 @@ use Rattle.lr_family.specs.declared.family.Family.{Family}
 use Rattle.lr_kept.specs.declared.choice.Choice.{Choice}
 use Rattle.lr_kept.specs.declared.choice.Choice.TheVariants.{Kept, Again, MemberOf, Reserved, Meets}
 use Rattle.lr_kept.specs.declared.pair.Pair.{Pair}
-use Rattle.lr_kept.specs.Barred.{IsOpen, IsShut, AreOpened}
+use Rattle.lr_kept.specs.Barred.{IsUnbarred, IsShut, AreOpened}
 use Rattle.lr_kept.specs.Begun.{AreBegun}
 use Rattle.lr_kept.specs.Chosen.{IsAgain, MeetAt, IsKeptAt, IsChoice, AreChosen}
 use Rattle.lr_kept.specs.Members.{IsOwn, ArePassed}
-use Rattle.lr_kept.specs.Pairs.{pair_at, IsPair, HavePairs, AreRising, IsSettled, IsAmong, AreSettled}
+use Rattle.lr_kept.specs.Pairs.{pair_at, IsPair, HavePairs, PairsRise, IsPairSettled, IsPairAmong, AreSettled}
 use Rattle.lr_kept.proofs.Elements.{read_set_same, read_set_other, contains_read, contains_from}
 
 abbrev HasNone : List Choice → Type 0
@@ -35,7 +35,7 @@ begins_settled begun pairs none = record {
 
 -- one pair more
 module _ (pairs : List Pair) (n : ℕ) (p : Pair) (at : slice_get pairs n ≡ Some p) where
-  pub among_more : (i k : ℕ) → IsAmong pairs (n + 1) i k → IsAmong pairs n i k ⊎ ((i ≡ p.earlier) × (k ≡ p.later))
+  pub among_more : (i k : ℕ) → IsPairAmong pairs (n + 1) i k → IsPairAmong pairs n i k ⊎ ((i ≡ p.earlier) × (k ≡ p.later))
   among_more i k m = ⊎_elim
       (λ (lo : m.0 < n). inl (m.0, lo, m.2))
       (λ (hi : n ≤ m.0).
@@ -45,20 +45,20 @@ module _ (pairs : List Pair) (n : ℕ) (p : Pair) (at : slice_get pairs n ≡ So
       inr (sym (ap (λ (q : Pair). q.earlier) is), sym (ap (λ (q : Pair). q.later) is)))
       (cases_lt m.0 n)
 
-  still_among : (i k : ℕ) → IsAmong pairs n i k → IsAmong pairs (n + 1) i k
+  still_among : (i k : ℕ) → IsPairAmong pairs n i k → IsPairAmong pairs (n + 1) i k
   still_among i k m = (m.0, omega (arith, m.1), m.2)
 
-  among_now : IsAmong pairs (n + 1) p.earlier p.later
+  among_now : IsPairAmong pairs (n + 1) p.earlier p.later
   among_now = (n, omega arith, at)
 
-  earlier_before : AreRising pairs → (i k : ℕ) → IsAmong pairs n i k → i ≤ p.earlier
+  earlier_before : PairsRise pairs → (i k : ℕ) → IsPairAmong pairs n i k → i ≤ p.earlier
   earlier_before rising i k m =
       let h = rising m.0 n p (omega (arith, m.1)) (slice_get_within pairs n p at) in
       let one : get_or pairs m.0 p ≡ pair_at i k = get_or_from_slice_get pairs m.0 (pair_at i k) p m.2 in
       let other : get_or pairs n p ≡ p = get_or_from_slice_get pairs n p p at in
       subst (λ (q : Pair). i ≤ q.earlier) other (subst (λ (q : Pair). q.earlier ≤ (get_or pairs n p).earlier) one h)
 
-  module _ (begun old : List Choice) (rising : AreRising pairs) (so_far : AreSettled begun pairs n old) where
+  module _ (begun old : List Choice) (rising : PairsRise pairs) (so_far : AreSettled begun pairs n old) where
     passed : (IsKeptAt old p.later → IsKeptAt old p.earlier → ⊥) → AreSettled begun pairs (n + 1) old
     passed none = record {
       as_many = so_far.as_many;
@@ -70,11 +70,11 @@ module _ (pairs : List Pair) (n : ℕ) (p : Pair) (at : slice_get pairs n ≡ So
       met_kept = so_far.met_kept;
       met_pair = λ k i h. still_among i k (so_far.met_pair k i h);
       met_first = λ k i j h lt m kept. ⊎_elim
-          (λ (o : IsAmong pairs n j k). so_far.met_first k i j h lt o kept)
+          (λ (o : IsPairAmong pairs n j k). so_far.met_first k i j h lt o kept)
           (λ e. let le = earlier_before rising i k (so_far.met_pair k i h) in omega (arith, e.0, le))
           (among_more j k m);
       apart = λ k j m kept_k kept_j. ⊎_elim
-          (λ (o : IsAmong pairs n j k). so_far.apart k j o kept_k kept_j)
+          (λ (o : IsPairAmong pairs n j k). so_far.apart k j o kept_k kept_j)
           (λ e. none (subst (λ s. IsKeptAt old s) e.1 kept_k) (subst (λ s. IsKeptAt old s) e.0 kept_j))
           (among_more j k m);
     }
@@ -138,27 +138,27 @@ module _ (pairs : List Pair) (n : ℕ) (p : Pair) (at : slice_get pairs n ≡ So
           (λ o. still_kept i (λ s. absurd (let le = earlier_before rising i k (so_far.met_pair k i o.1) in omega (arith, le, s))) (so_far.met_kept k i o.1))
           (met_cases k i h)
 
-      settled_pair : (k i : ℕ) → slice_get new k ≡ Some (Meets i) → IsAmong pairs (n + 1) i k
+      settled_pair : (k i : ℕ) → slice_get new k ≡ Some (Meets i) → IsPairAmong pairs (n + 1) i k
       settled_pair k i h = ⊎_elim
-          (λ e. subst (λ s. IsAmong pairs (n + 1) s k) (sym e.1) (subst (λ s. IsAmong pairs (n + 1) p.earlier s) (sym e.0) among_now))
+          (λ e. subst (λ s. IsPairAmong pairs (n + 1) s k) (sym e.1) (subst (λ s. IsPairAmong pairs (n + 1) p.earlier s) (sym e.0) among_now))
           (λ o. still_among i k (so_far.met_pair k i o.1))
           (met_cases k i h)
 
-      settled_first : (k i j : ℕ) → slice_get new k ≡ Some (Meets i) → j < i → IsAmong pairs (n + 1) j k → IsKeptAt new j → ⊥
+      settled_first : (k i j : ℕ) → slice_get new k ≡ Some (Meets i) → j < i → IsPairAmong pairs (n + 1) j k → IsKeptAt new j → ⊥
       settled_first k i j h lt m kept = ⊎_elim
           (λ e. ⊎_elim
-          (λ (o : IsAmong pairs n j k). so_far.apart k j o (subst (λ s. IsKeptAt old s) (sym e.0) later) (kept_before j kept))
+          (λ (o : IsPairAmong pairs n j k). so_far.apart k j o (subst (λ s. IsKeptAt old s) (sym e.0) later) (kept_before j kept))
           (λ f. omega (arith, f.0, e.1, lt))
           (among_more j k m))
           (λ o. ⊎_elim
-          (λ (a : IsAmong pairs n j k). so_far.met_first k i j o.1 lt a (kept_before j kept))
+          (λ (a : IsPairAmong pairs n j k). so_far.met_first k i j o.1 lt a (kept_before j kept))
           (λ f. o.0 f.1)
           (among_more j k m))
           (met_cases k i h)
 
-      settled_apart : (k j : ℕ) → IsAmong pairs (n + 1) j k → IsKeptAt new k → IsKeptAt new j → ⊥
+      settled_apart : (k j : ℕ) → IsPairAmong pairs (n + 1) j k → IsKeptAt new k → IsKeptAt new j → ⊥
       settled_apart k j m kept_k kept_j = ⊎_elim
-          (λ (o : IsAmong pairs n j k). so_far.apart k j o (kept_before k kept_k) (kept_before j kept_j))
+          (λ (o : IsPairAmong pairs n j k). so_far.apart k j o (kept_before k kept_k) (kept_before j kept_j))
           (λ e. kept_elsewhere k kept_k e.1)
           (among_more j k m)
 
@@ -176,7 +176,7 @@ module _ (pairs : List Pair) (n : ℕ) (p : Pair) (at : slice_get pairs n ≡ So
         apart = settled_apart;
       }
 
-    pub more_settled : (now : List Choice) → p.later < length old → p.earlier < p.later → IsSettled old p now → AreSettled begun pairs (n + 1) now
+    pub more_settled : (now : List Choice) → p.later < length old → p.earlier < p.later → IsPairSettled old p now → AreSettled begun pairs (n + 1) now
     more_settled now within order (inl h) = subst (λ (cs : List Choice). AreSettled begun pairs (n + 1) cs) (sym h.2) (settled within order h.0 h.1)
     more_settled now within order (inr h) = subst (λ (cs : List Choice). AreSettled begun pairs (n + 1) cs) (sym h.1) (passed h.0)
 
@@ -188,7 +188,7 @@ fewer_pairs logs old choices pairs kept have = record { sound = have.sound; each
 pub still_begun : (logs : List (Bor Family)) (wild : List Bool) (reserved : List Path) (begun passed choices : List Choice) → AreBegun logs begun → ArePassed logs wild passed → AreOpened logs reserved passed choices → (k : ℕ) → IsKeptAt choices k → IsKeptAt begun k
 still_begun logs wild reserved begun passed choices start first opened k h = by _ (slice_get-get_or begun k Kept (let lt = slice_get_within choices k Kept h in omega (arith, lt, opened.as_many, first.as_many, start.as_many)))
   where
-    open_at : IsOpen logs reserved passed k
+    open_at : IsUnbarred logs reserved passed k
     open_at = opened.each k Kept h
 
     own_at : IsOwn logs wild k
@@ -204,13 +204,13 @@ still_begun logs wild reserved begun passed choices start first opened k h = by 
 -- all pairs are settled: these are the choices
 module _ (logs : List (Bor Family)) (wild : List Bool) (reserved : List Path) (passed begun choices : List Choice) (pairs : List Pair) (first : ArePassed logs wild passed) (opened : AreOpened logs reserved passed begun) (have : HavePairs logs begun pairs) (done : AreSettled begun pairs (length pairs) choices)
   where
-    among : (i k : ℕ) → i < k → IsKeptAt begun i → IsKeptAt begun k → MeetAt logs i k → IsAmong pairs (length pairs) i k
+    among : (i k : ℕ) → i < k → IsKeptAt begun i → IsKeptAt begun k → MeetAt logs i k → IsPairAmong pairs (length pairs) i k
     among i k lt kept_i kept_k m = contains_read pairs (pair_at i k) (have.each i k lt kept_i kept_k m)
 
-    sound : (i k : ℕ) → IsAmong pairs (length pairs) i k → IsPair logs (pair_at i k)
+    sound : (i k : ℕ) → IsPairAmong pairs (length pairs) i k → IsPair logs (pair_at i k)
     sound i k m = All-contains (IsPair logs) pairs (pair_at i k) have.sound (contains_from pairs m.0 (pair_at i k) m.2)
 
-    open_at : (k : ℕ) → IsKeptAt begun k → IsOpen logs reserved passed k
+    open_at : (k : ℕ) → IsKeptAt begun k → IsUnbarred logs reserved passed k
     open_at k h = opened.each k Kept h
 
     own_at : (k : ℕ) → IsKeptAt begun k → IsOwn logs wild k

@@ -13,8 +13,8 @@ use Rattle.lr_kept.specs.declared.choice.Choice.{Choice}
 use Rattle.lr_kept.specs.declared.front.Front.{Front}
 use Rattle.lr_kept.specs.declared.pair.Pair.{Pair}
 use Rattle.lr_kept.specs.Chosen.{MeetAt, IsNew, IsKeptAt}
-use Rattle.lr_kept.specs.Fronts.{Begins, Finds, HaveFronts, aside_front, front_at, fronts_at, below, member_front}
-use Rattle.lr_kept.specs.Pairs.{pair_at, pair_of, IsPair, Grows, HasPair, AddsAside, AddsPair, AddsPairs, AddsBetween, AddsFound, HaveFound, HavePairs}
+use Rattle.lr_kept.specs.Fronts.{Begins, FindsFront, HaveFronts, aside_front, front_at, fronts_at, below, member_front}
+use Rattle.lr_kept.specs.Pairs.{pair_at, pair_of, IsPair, Grows, HasPair, AddsAside, AddsPair, AddsPairs, AddsBetween, AddsPairsOf, HaveFound, HavePairs}
 use Rattle.lr_kept.proofs.Finding.{IsFrontOf, FindsIt, one_finds, meet_back}
 use Rattle.lr_kept.proofs.Elements.{contains_read, same_read}
 
@@ -106,24 +106,24 @@ aside_none logs fronts place f old at off = record {
 }
 
 pub found_all : (logs : List (Bor Family)) (choices : List Choice) (fronts : List Front) (place : ℕ) (f : Bor Family) (old mid more new : List Pair) → slice_get logs place ≡ Some f → AddsPairs logs fronts place (member_front f.now.naming) old mid → AddsPairs logs fronts place (below f.now.log) mid more
-    → AddsAside logs fronts place more new → AddsFound logs choices fronts place old new
+    → AddsAside logs fronts place more new → AddsPairsOf logs choices fronts place old new
 found_all logs choices fronts place f old mid more new at a b d = record {
   grows = grows_on logs old mid new a.grows (grows_on logs mid more new b.grows d.grows);
   found = λ g bytes k here kept c finds. by g bytes k c (cc (at, here)) here finds;
 }
   where
-    by : (g : Bor Family) (bytes : List ℕ) (k : ℕ) → Contains fronts (front_at k bytes) → f ≡ g → slice_get logs place ≡ Some g → Finds g.now bytes → HasPair logs new place k
+    by : (g : Bor Family) (bytes : List ℕ) (k : ℕ) → Contains fronts (front_at k bytes) → f ≡ g → slice_get logs place ≡ Some g → FindsFront g.now bytes → HasPair logs new place k
     by g bytes k c same here (inl h) = has_still logs mid new place k (grows_on logs mid more new b.grows d.grows) (a.found bytes k c (subst (λ (x : Bor Family). Begins (member_front x.now.naming) bytes) (sym same) h))
     by g bytes k c same here (inr (inl h)) = has_still logs more new place k d.grows (b.found bytes k c (subst (λ (x : Bor Family). Begins (below x.now.log) bytes) (sym same) h))
     by g bytes k c same here (inr (inr h)) = d.found g bytes k here h.0 c h.1
 
-pub found_none : (logs : List (Bor Family)) (choices : List Choice) (fronts : List Front) (place : ℕ) (old : List Pair) → (IsKeptAt choices place → ⊥) → AddsFound logs choices fronts place old old
+pub found_none : (logs : List (Bor Family)) (choices : List Choice) (fronts : List Front) (place : ℕ) (old : List Pair) → (IsKeptAt choices place → ⊥) → AddsPairsOf logs choices fronts place old old
 found_none logs choices fronts place old none = record { grows = stays logs old; found = λ g bytes k here kept c finds. absurd (none kept) }
 
 pub begins_found : (logs : List (Bor Family)) (choices : List Choice) (fronts : List Front) → HaveFound logs choices fronts 0 []
 begins_found logs choices fronts = record { sound = All-nil (IsPair logs); found = λ i f bytes k lt. absurd (let l : i < 0 = lt in omega arith) }
 
-pub more_found : (logs : List (Bor Family)) (choices : List Choice) (fronts : List Front) (n : ℕ) (mid new : List Pair) → HaveFound logs choices fronts n mid → AddsFound logs choices fronts n mid new → HaveFound logs choices fronts (n + 1) new
+pub more_found : (logs : List (Bor Family)) (choices : List Choice) (fronts : List Front) (n : ℕ) (mid new : List Pair) → HaveFound logs choices fronts n mid → AddsPairsOf logs choices fronts n mid new → HaveFound logs choices fronts (n + 1) new
 more_found logs choices fronts n mid new so_far adds = record {
   sound = adds.grows.sound so_far.sound;
   found = λ i f bytes k lt at kept c finds. ⊎_elim

@@ -9,7 +9,7 @@ use Rattle.lr_kept.specs.declared.choice.Choice.TheVariants.{Kept, Reserved}
 use Rattle.lr_kept.specs.Chosen.{HasReserved, IsFree, IsKeptAt}
 
 -- The log was kept so far, and none of the names is reserved.
-pub record IsOpen (logs : List (Bor Family)) (reserved : List Path) (old : List Choice) (k : ℕ) : Type 0 where
+pub record IsUnbarred (logs : List (Bor Family)) (reserved : List Path) (old : List Choice) (k : ℕ) : Type 0 where
   pub kept : IsKeptAt old k
   pub free : IsFree logs reserved k
 
@@ -20,21 +20,21 @@ pub record IsShut (logs : List (Bor Family)) (reserved : List Path) (old : List 
   pub first : (j : ℕ) → j < i → HasReserved logs reserved k j → ⊥
 
 -- of the logs that were kept so far those are left of which no name is reserved; any other choice is as it was
-abbrev pub IsOpened : List (Bor Family) → List Path → List Choice → ℕ → Choice → Type 0
-IsOpened logs reserved old k Kept = IsOpen logs reserved old k
-IsOpened logs reserved old k (Reserved i) = IsShut logs reserved old k i
-IsOpened logs reserved old k c = slice_get old k ≡ Some c
+abbrev pub IsUnbarredChoice : List (Bor Family) → List Path → List Choice → ℕ → Choice → Type 0
+IsUnbarredChoice logs reserved old k Kept = IsUnbarred logs reserved old k
+IsUnbarredChoice logs reserved old k (Reserved i) = IsShut logs reserved old k i
+IsUnbarredChoice logs reserved old k c = slice_get old k ≡ Some c
 
 -- So it is for each log.
 pub record AreOpened (logs : List (Bor Family)) (reserved : List Path) (old choices : List Choice) : Type 0 where
   pub as_many : length choices ≡ length old
-  pub each : (k : ℕ) (c : Choice) → slice_get choices k ≡ Some c → IsOpened logs reserved old k c
+  pub each : (k : ℕ) (c : Choice) → slice_get choices k ≡ Some c → IsUnbarredChoice logs reserved old k c
 
 -- It is for the first n logs, and the others are as they were.
 pub record HaveOpened (logs : List (Bor Family)) (reserved : List Path) (old : List Choice) (n : ℕ)
     (choices : List Choice) : Type 0 where
   pub as_many : length choices ≡ length old
-  pub below : (k : ℕ) (c : Choice) → k < n → slice_get choices k ≡ Some c → IsOpened logs reserved old k c
+  pub below : (k : ℕ) (c : Choice) → k < n → slice_get choices k ≡ Some c → IsUnbarredChoice logs reserved old k c
   pub from : (k : ℕ) (c : Choice) → n ≤ k → slice_get choices k ≡ Some c → slice_get old k ≡ Some c
 
 -- none is reserved so far

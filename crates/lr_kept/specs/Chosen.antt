@@ -11,7 +11,7 @@ use Rattle.lr_kept.specs.declared.choice.Choice.{Choice}
 use Rattle.lr_kept.specs.declared.choice.Choice.TheVariants.{Kept, Again, MemberOf, Reserved, Meets}
 
 -- the relation holds between the logs at these two places
-pub record Both (R : Family → Family → Type 0) (logs : List (Bor Family)) (i k : ℕ) : Type 0 where
+pub record BothLogs (R : Family → Family → Type 0) (logs : List (Bor Family)) (i k : ℕ) : Type 0 where
   pub one : Bor Family
   pub other : Bor Family
   pub at_one : slice_get logs i ≡ Some one
@@ -20,11 +20,11 @@ pub record Both (R : Family → Family → Type 0) (logs : List (Bor Family)) (i
 
 -- the logs at these two places have the same path
 abbrev pub HaveOnePath : List (Bor Family) → ℕ → ℕ → Type 0
-HaveOnePath logs i k = Both (λ f g. f.log ≡ g.log) logs i k
+HaveOnePath logs i k = BothLogs (λ f g. f.log ≡ g.log) logs i k
 
 -- the logs at these two places meet
 abbrev pub MeetAt : List (Bor Family) → ℕ → ℕ → Type 0
-MeetAt logs i k = Both (λ f g. Meet f.log f.naming g.log g.naming) logs i k
+MeetAt logs i k = BothLogs (λ f g. Meet f.log f.naming g.log g.naming) logs i k
 
 -- the path of this log wasn't found before
 abbrev pub IsNew : List (Bor Family) → ℕ → Type 0
@@ -48,7 +48,7 @@ HaveFormats logs = All (λ f. HasFormat f.now) logs
 
 -- the path at the second place is that of a member of the log at the first
 abbrev pub IsMemberOf : List (Bor Family) → ℕ → ℕ → Type 0
-IsMemberOf logs i k = Both (λ f g. IsMember f.naming g.log) logs i k
+IsMemberOf logs i k = BothLogs (λ f g. IsMember f.naming g.log) logs i k
 
 -- a wildcard gave the path at this place
 abbrev pub IsWild : List Bool → ℕ → Type 0
@@ -62,11 +62,11 @@ pub record IsMatchedMember (logs : List (Bor Family)) (wild : List Bool) (k i : 
   pub member : IsMemberOf logs i k
 
 -- no wildcard gave the path, or it is no member's of another log
-abbrev pub IsNoMember : List (Bor Family) → List Bool → ℕ → Type 0
-IsNoMember logs wild k = (i : ℕ) → IsMatchedMember logs wild k i → ⊥
+abbrev pub IsNoMatchedMember : List (Bor Family) → List Bool → ℕ → Type 0
+IsNoMatchedMember logs wild k = (i : ℕ) → IsMatchedMember logs wild k i → ⊥
 
 -- The path wasn't found before, but a wildcard gave it, and of the logs whose member it is this is the first.
-pub record IsPassedOver (logs : List (Bor Family)) (wild : List Bool) (k i : ℕ) : Type 0 where
+pub record IsLogPassedOver (logs : List (Bor Family)) (wild : List Bool) (k i : ℕ) : Type 0 where
   pub new : IsNew logs k
   pub is : IsMatchedMember logs wild k i
   pub first : (j : ℕ) → j < i → IsMatchedMember logs wild k j → ⊥
@@ -89,7 +89,7 @@ IsFree logs reserved k = (i : ℕ) → HasReserved logs reserved k i → ⊥
 -- names.
 pub record IsBarred (logs : List (Bor Family)) (wild : List Bool) (reserved : List Path) (k i : ℕ) : Type 0 where
   pub new : IsNew logs k
-  pub no_member : IsNoMember logs wild k
+  pub no_member : IsNoMatchedMember logs wild k
   pub has : HasReserved logs reserved k i
   pub first : (j : ℕ) → j < i → HasReserved logs reserved k j → ⊥
 
@@ -104,7 +104,7 @@ IsKeptAt choices k = slice_get choices k ≡ Some Kept
 pub record IsMet (logs : List (Bor Family)) (wild : List Bool) (reserved : List Path) (choices : List Choice)
     (k i : ℕ) : Type 0 where
   pub new : IsNew logs k
-  pub no_member : IsNoMember logs wild k
+  pub no_member : IsNoMatchedMember logs wild k
   pub free : IsFree logs reserved k
   pub before : i < k
   pub kept : IsKeptAt choices i
@@ -113,18 +113,18 @@ pub record IsMet (logs : List (Bor Family)) (wild : List Bool) (reserved : List 
 
 -- The path of this log wasn't found before and isn't passed over, none of its names is reserved, and it meets no log before it that
 -- is kept.
-pub record IsKept (logs : List (Bor Family)) (wild : List Bool) (reserved : List Path) (choices : List Choice)
+pub record IsLogKept (logs : List (Bor Family)) (wild : List Bool) (reserved : List Path) (choices : List Choice)
     (k : ℕ) : Type 0 where
   pub new : IsNew logs k
-  pub no_member : IsNoMember logs wild k
+  pub no_member : IsNoMatchedMember logs wild k
   pub free : IsFree logs reserved k
   pub apart : (j : ℕ) → j < k → IsKeptAt choices j → MeetAt logs j k → ⊥
 
 -- what is chosen for the log at this place
 abbrev pub IsChoice : List (Bor Family) → List Bool → List Path → List Choice → ℕ → Choice → Type 0
-IsChoice logs wild reserved choices k Kept = IsKept logs wild reserved choices k
+IsChoice logs wild reserved choices k Kept = IsLogKept logs wild reserved choices k
 IsChoice logs wild reserved choices k (Again i) = IsAgain logs k i
-IsChoice logs wild reserved choices k (MemberOf i) = IsPassedOver logs wild k i
+IsChoice logs wild reserved choices k (MemberOf i) = IsLogPassedOver logs wild k i
 IsChoice logs wild reserved choices k (Reserved i) = IsBarred logs wild reserved k i
 IsChoice logs wild reserved choices k (Meets i) = IsMet logs wild reserved choices k i
 

@@ -74,6 +74,6 @@ AddsFronts logs choices place old new = ((f : Bor Family) × (slice_get logs pla
 
 -- a log looks for those that it may meet among what begins with its members' front, in the directory that is its path, and among
 -- what begins with the path where it waits
-abbrev pub Finds : Family → List ℕ → Type 0
-Finds f bytes = Begins (member_front f.naming) bytes ⊎ (Begins (below f.log) bytes
+abbrev pub FindsFront : Family → List ℕ → Type 0
+FindsFront f bytes = Begins (member_front f.naming) bytes ⊎ (Begins (below f.log) bytes
     ⊎ ((f.naming.aside ≡ true) × Begins (aside_path f.log) bytes))

@@ -10,7 +10,7 @@ use Rattle.lr_kept.specs.declared.choice.Choice.TheVariants.{Again, MemberOf, Re
 use Rattle.lr_kept.specs.declared.front.Front.{Front}
 use Rattle.lr_kept.specs.declared.pair.Pair.{Pair}
 use Rattle.lr_kept.specs.Chosen.{MeetAt, IsKeptAt}
-use Rattle.lr_kept.specs.Fronts.{Begins, Finds, front_at}
+use Rattle.lr_kept.specs.Fronts.{Begins, FindsFront, front_at}
 
 abbrev pub pair_at : ℕ → ℕ → Pair
 pair_at earlier later = record { earlier = earlier; later = later }
@@ -55,18 +55,18 @@ pub record AddsAside (logs : List (Bor Family)) (fronts : List Front) (place : �
       → Contains fronts (front_at k bytes) → Begins (aside_path f.now.log) bytes → HasPair logs new place k
 
 -- Of this place, unless it is left out, the pairs come with all that its log finds.
-pub record AddsFound (logs : List (Bor Family)) (choices : List Choice) (fronts : List Front) (place : ℕ)
+pub record AddsPairsOf (logs : List (Bor Family)) (choices : List Choice) (fronts : List Front) (place : ℕ)
     (old new : List Pair) : Type 0 where
   pub grows : Grows logs old new
   pub found : (f : Bor Family) (bytes : List ℕ) (k : ℕ) → slice_get logs place ≡ Some f → IsKeptAt choices place
-      → Contains fronts (front_at k bytes) → Finds f.now bytes → HasPair logs new place k
+      → Contains fronts (front_at k bytes) → FindsFront f.now bytes → HasPair logs new place k
 
 -- These are pairs of logs that meet, and of the first n places they have what the logs find.
 pub record HaveFound (logs : List (Bor Family)) (choices : List Choice) (fronts : List Front) (n : ℕ)
     (pairs : List Pair) : Type 0 where
   pub sound : All (IsPair logs) pairs
   pub found : (i : ℕ) (f : Bor Family) (bytes : List ℕ) (k : ℕ) → i < n → slice_get logs i ≡ Some f → IsKeptAt choices i
-      → Contains fronts (front_at k bytes) → Finds f.now bytes → HasPair logs pairs i k
+      → Contains fronts (front_at k bytes) → FindsFront f.now bytes → HasPair logs pairs i k
 
 -- These are the pairs of logs that meet, of all that aren't left out.
 pub record HavePairs (logs : List (Bor Family)) (choices : List Choice) (pairs : List Pair) : Type 0 where
@@ -74,17 +74,17 @@ pub record HavePairs (logs : List (Bor Family)) (choices : List Choice) (pairs :
   pub each : (i k : ℕ) → i < k → IsKeptAt choices i → IsKeptAt choices k → MeetAt logs i k → Contains pairs (pair_at i k)
 
 -- they stand in order of their earlier places
-abbrev pub AreRising : List Pair → Type 0
-AreRising pairs = IsNonDecreasingBy (λ p. p.earlier) pairs
+abbrev pub PairsRise : List Pair → Type 0
+PairsRise pairs = IsNonDecreasingBy (λ p. p.earlier) pairs
 
 -- of a pair whose logs are both kept the later one isn't any more
-abbrev pub IsSettled : List Choice → Pair → List Choice → Type 0
-IsSettled old p new = (IsKeptAt old p.later × IsKeptAt old p.earlier × (new ≡ slice_set old p.later (Meets p.earlier)))
+abbrev pub IsPairSettled : List Choice → Pair → List Choice → Type 0
+IsPairSettled old p new = (IsKeptAt old p.later × IsKeptAt old p.earlier × (new ≡ slice_set old p.later (Meets p.earlier)))
     ⊎ ((IsKeptAt old p.later → IsKeptAt old p.earlier → ⊥) × (new ≡ old))
 
 -- this pair is among the first n
-abbrev pub IsAmong : List Pair → ℕ → ℕ → ℕ → Type 0
-IsAmong pairs n i k = (s : ℕ) × (s < n) × (slice_get pairs s ≡ Some (pair_at i k))
+abbrev pub IsPairAmong : List Pair → ℕ → ℕ → ℕ → Type 0
+IsPairAmong pairs n i k = (s : ℕ) × (s < n) × (slice_get pairs s ≡ Some (pair_at i k))
 
 -- So the choices stand once the first n pairs are settled.
 pub record AreSettled (begun : List Choice) (pairs : List Pair) (n : ℕ) (choices : List Choice) : Type 0 where
@@ -95,6 +95,6 @@ pub record AreSettled (begun : List Choice) (pairs : List Pair) (n : ℕ) (choic
   pub barred : (k i : ℕ) → slice_get choices k ≡ Some (Reserved i) → slice_get begun k ≡ Some (Reserved i)
   pub met_new : (k i : ℕ) → slice_get choices k ≡ Some (Meets i) → IsKeptAt begun k
   pub met_kept : (k i : ℕ) → slice_get choices k ≡ Some (Meets i) → IsKeptAt choices i
-  pub met_pair : (k i : ℕ) → slice_get choices k ≡ Some (Meets i) → IsAmong pairs n i k
-  pub met_first : (k i j : ℕ) → slice_get choices k ≡ Some (Meets i) → j < i → IsAmong pairs n j k → IsKeptAt choices j → ⊥
-  pub apart : (k j : ℕ) → IsAmong pairs n j k → IsKeptAt choices k → IsKeptAt choices j → ⊥
+  pub met_pair : (k i : ℕ) → slice_get choices k ≡ Some (Meets i) → IsPairAmong pairs n i k
+  pub met_first : (k i j : ℕ) → slice_get choices k ≡ Some (Meets i) → j < i → IsPairAmong pairs n j k → IsKeptAt choices j → ⊥
+  pub apart : (k j : ℕ) → IsPairAmong pairs n j k → IsKeptAt choices k → IsKeptAt choices j → ⊥

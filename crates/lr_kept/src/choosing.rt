@@ -2,7 +2,7 @@
 ghost use Rattle.std.specs.Prelude.{◌≡◌, length, IfOk};
 ghost use Rattle.lr_kept.specs.Begun.{AreBegun};
 ghost use Rattle.lr_kept.specs.Chosen.{AreChosen, HaveFormats};
-ghost use Rattle.lr_kept.specs.Pairs.{AreRising, HavePairs};
+ghost use Rattle.lr_kept.specs.Pairs.{PairsRise, HavePairs};
 
 use crate::barred::bar;
 use crate::begun::first_choices;
@@ -27,7 +27,7 @@ fn choose_by(
     requires wild { length wild.now ≡ length logs.now }
     requires begun { AreBegun logs.now choices.old }
     requires pairs { HavePairs logs.now choices.old pairs.now }
-    requires rising { AreRising pairs.now }
+    requires rising { PairsRise pairs.now }
     requires formats { HaveFormats logs.now }
     ensures { AreChosen logs.now wild.now reserved.now choices.new }
 {
@@ -40,7 +40,7 @@ fn choose_by(
 fn sorted_pairs(alloc: Global, logs: &[&Family], choices: &[Choice]) -> Result<Vec<Pair>, Memory>
     requires { AreBegun logs.now choices.now }
     ensures pairs { IfOk result (λ pairs. HavePairs logs.now choices.now pairs.items) }
-    ensures rising { IfOk result (λ pairs. AreRising pairs.items) }
+    ensures rising { IfOk result (λ pairs. PairsRise pairs.items) }
 {
     let fronts = fronts_of(alloc, logs, choices)?;
     let mut pairs = pairs_of(alloc, logs, choices, &fronts)?;

@@ -3,7 +3,7 @@ ghost use Rattle.std.specs.Prelude.{◌≡◌, ◌↔◌, ◌<◌, true, length}
 ghost use Rattle.lr_family.specs.Parts.{IsMember};
 ghost use Rattle.lr_kept.specs.Begun.{AreBegun};
 ghost use Rattle.lr_kept.specs.Chosen.{HasFormat, HaveFormats, IsMemberOf, IsWild};
-ghost use Rattle.lr_kept.specs.Members.{ArePassed, IsFirst, Joins, lowered};
+ghost use Rattle.lr_kept.specs.Members.{ArePassed, IsFirstFound, Joins, lowered};
 ghost use Rattle.lr_kept.specs.Pairs.{HavePairs};
 
 use crate::choice::Choice;
@@ -33,7 +33,7 @@ fn is_matched(logs: &[&Family], wild: &[bool], place: usize, log: usize) -> bool
 // Whether the path at this place wasn't found before.
 fn is_first(choices: &[Choice], place: usize) -> bool
     requires { place < length choices.now }
-    ensures { (result ≡ true) ↔ IsFirst choices.now place }
+    ensures { (result ≡ true) ↔ IsFirstFound choices.now place }
 {
     match choices[place] {
         Choice::Again(_) => false,

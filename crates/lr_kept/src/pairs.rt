@@ -3,7 +3,7 @@ ghost use Rattle.std.specs.Prelude.{◌≡◌, ◌≢◌, ◌<◌, ◌↔◌, �
 ghost use Rattle.std.specs.List.Sorted.{IsPermutation};
 ghost use Rattle.lr_kept.specs.Chosen.{IsKeptAt, IsNew, MeetAt};
 ghost use Rattle.lr_kept.specs.Fronts.{AreInOrder, HaveFronts};
-ghost use Rattle.lr_kept.specs.Pairs.{AddsAside, AddsPair, AddsPairs, AddsFound, HaveFound, HavePairs, AreRising, pair_of};
+ghost use Rattle.lr_kept.specs.Pairs.{AddsAside, AddsPair, AddsPairs, AddsPairsOf, HaveFound, HavePairs, PairsRise, pair_of};
 
 use crate::choice::Choice;
 use crate::front::Front;
@@ -110,7 +110,7 @@ fn add_found(
     requires choices { place < length choices.now }
     requires order { AreInOrder fronts.now }
     requires places { All (λ f. f.place < length logs.now) fronts.now }
-    ensures { OnOk result (AddsFound logs.now choices.now fronts.now place pairs.old.items pairs.new.items) }
+    ensures { OnOk result (AddsPairsOf logs.now choices.now fronts.now place pairs.old.items pairs.new.items) }
 {
     if !is_kept(choices, place) {
         return Ok(());
@@ -163,7 +163,7 @@ pub fn pairs_of(
 /// Sorts the pairs by their earlier places.
 pub fn sort_pairs(pairs: &mut Vec<Pair>)
     ensures same { IsPermutation pairs.old.items pairs.new.items }
-    ensures rising { AreRising pairs.new.items }
+    ensures rising { PairsRise pairs.new.items }
 {
     pairs.sort_unstable_by_key(|pair| pair.earlier);
 }

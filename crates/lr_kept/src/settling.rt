@@ -1,7 +1,7 @@
 // Which of two logs that meet is kept.
 ghost use Rattle.std.specs.Prelude.{◌≡◌, ◌<◌, ◌↔◌, ℕ, true, Some, length, slice_get, All};
 ghost use Rattle.lr_kept.specs.Chosen.{IsKeptAt};
-ghost use Rattle.lr_kept.specs.Pairs.{AreRising, AreSettled, IsSettled};
+ghost use Rattle.lr_kept.specs.Pairs.{PairsRise, AreSettled, IsPairSettled};
 
 use crate::choice::Choice;
 use crate::pair::Pair;
@@ -21,7 +21,7 @@ pub fn is_kept(choices: &[Choice], place: usize) -> bool
 fn settle_pair(choices: &mut [Choice], pair: Pair)
     requires earlier { pair.earlier < length choices.old }
     requires later { pair.later < length choices.old }
-    ensures { IsSettled choices.old pair choices.new }
+    ensures { IsPairSettled choices.old pair choices.new }
 {
     let later = is_kept(choices, pair.later);
     let earlier = is_kept(choices, pair.earlier);
@@ -34,7 +34,7 @@ fn settle_pair(choices: &mut [Choice], pair: Pair)
 pub fn settle(choices: &mut [Choice], pairs: &[Pair])
     requires begun { (k i : ℕ) → slice_get choices.old k ≡ Some (Choice.Meets i) → ⊥ }
     requires pairs { All (λ p. (p.earlier < p.later) × (p.later < length choices.old)) pairs.now }
-    requires rising { AreRising pairs.now }
+    requires rising { PairsRise pairs.now }
     ensures { AreSettled choices.old pairs.now (length pairs.now) choices.new }
 {
     for pair in pairs {

@@ -20,8 +20,8 @@ use Rattle.lr_rules.specs.Limits.{is_format}
 use Rattle.lr_rules.specs.Path.{joined, path_fault}
 use Rattle.lr_rules.proofs.Digits.{decimal_run}
 use Rattle.lr_rules.specs.StampParts.{part, with_part, least}
-use Rattle.lr_rules.specs.Stamps.{two, field_text, bound, stamp_text, same_field, is_in, IsReading}
-use Rattle.lr_stamps.specs.Asked.{AreApart, IsLeft}
+use Rattle.lr_rules.specs.Stamps.{two, field_text, bound, stamp_text, same_field, is_in, IsStampReading}
+use Rattle.lr_stamps.specs.Asked.{FieldsDiffer, HasLeft}
 use Rattle.lr_stamps.specs.Serials.{is_dot, IsCounted}
 use Rattle.lr_rules.specs.Moments.{seconds_by, IsStamp}
 use Rattle.lr_rules.specs.Dated.{serial_text, IsSerial, IsNumberedStamp, IsDatedAt, stamp_key}
@@ -90,7 +90,7 @@ rest_read field.Second v k rest e = refl
 
 -- ---- it is what a reading says
 
-known_by : (f : Field) (ps : List Piece) (q : StampParts) (w : List ℕ) → IsLeft f (length ps) (stamp_text q ps) → w ≡ field_text f (part q f) ++ stamp_text q ps → IsKnown f (length w - length ps) (length (field_text f (part q f)))
+known_by : (f : Field) (ps : List Piece) (q : StampParts) (w : List ℕ) → HasLeft f (length ps) (stamp_text q ps) → w ≡ field_text f (part q f) ++ stamp_text q ps → IsKnown f (length w - length ps) (length (field_text f (part q f)))
 known_by field.Epoch ps q w l e = let n : length w ≡ length (decimal q.epoch) + length (stamp_text q ps) = ap length e ∙ length-append (decimal q.epoch) (stamp_text q ps) in let m : length (stamp_text q ps) ≡ length ps = l in omega arith
 known_by field.Year ps q w l e = tt
 known_by field.Month ps q w l e = tt
@@ -102,14 +102,14 @@ known_by field.Second ps q w l e = tt
 here : (a b : Bool) → a ≡ true → (a || b) ≡ true
 here a b p = ap (λ c. c || b) p
 
-guess_is : (ps : List Piece) (before q : StampParts) (w : List ℕ) → AreApart ps → IsReading ps before q w → guess ps w before ≡ q
+guess_is : (ps : List Piece) (before q : StampParts) (w : List ℕ) → FieldsDiffer ps → IsStampReading ps before q w → guess ps w before ≡ q
 guess_is [] before q w a r = sym (parts_same q before (λ f. r.rest f refl))
 guess_is (piece.Byte b ∷ ps) before q w a r = guess_is ps before q (drop 1 w) a (record { text = ap (drop 1) r.text; small = r.small; rest = r.rest })
 guess_is (piece.Field f ∷ ps) before q w a r =
     let v : ℕ = part q f in
     let k : ℕ = length w - length ps in
     let low : part q f < bound f = r.small f (here (same_field f f) (is_in f ps) (itself f)) in
-    let left : IsLeft f (length ps) (stamp_text q ps) = left_text f ps q a in
+    let left : HasLeft f (length ps) (stamp_text q ps) = left_text f ps q a in
     let known : IsKnown f (length w - length ps) (length (field_text f (part q f))) = known_by f ps q w left r.text in
     let value : value_of f (length w - length ps) w ≡ part q f = ap (value_of f (length w - length ps)) r.text ∙ value_read f (part q f) (length w - length ps) (stamp_text q ps) low known in
     let rest : drop (width f (length w - length ps)) w ≡ stamp_text q ps = ap (drop (width f (length w - length ps))) r.text ∙ rest_read f (part q f) (length w - length ps) (stamp_text q ps) known in
@@ -273,7 +273,7 @@ reads n f x k d is = first (is_right n f x (plain_parts n f x) 0) refl is
 
 -- ---- a member has its key
 
-epoch_small : (ps : List Piece) (q : StampParts) (w : List ℕ) → IsReading ps least q w → q.epoch < 1000000000000
+epoch_small : (ps : List Piece) (q : StampParts) (w : List ℕ) → IsStampReading ps least q w → q.epoch < 1000000000000
 epoch_small ps q w r = go (is_in field.Epoch ps) refl
   where
     go : (b : Bool) → is_in field.Epoch ps ≡ b → q.epoch < 1000000000000

@@ -35,7 +35,7 @@ use Rattle.lr_laws.proofs.Sound.{IsSound, sound, or_right}
 use Rattle.lr_laws.proofs.Stamps.{room_for_one, may_turn_dated, may_unlink_dated}
 use Rattle.lr_laws.proofs.Walk.{IsSameRun, same_run_on, by_age_on, changed_alike}
 use Rattle.lr_laws.proofs.Writing.{attached_before, wrote_member, member_apart, may_follow, not_starts, not_to_log, keeps_attached, no_key}
-use Rattle.lr_laws.specs.DatedRotation.{IsPastLater, turned_behind, has_turned, IsDatedStep, IsDatedRotationBy, IsDatedRotation, IsDatedRetirement}
+use Rattle.lr_laws.specs.DatedRotation.{IsPastLater, turned_behind, is_log_turned, IsDatedStep, IsDatedRotationBy, IsDatedRotation, IsDatedRetirement}
 use Rattle.lr_laws.proofs.DatedAside.{aside_starts, aside_log, aside_turned}
 use Rattle.lr_laws.proofs.Tame.{IsTame, tame_puts, tame_moves, tame_drops, tame_aside, tame_writer, forward_on, room_on}
 
@@ -227,7 +227,7 @@ pub dated_walked : (s : LogSet) (p q : Past) (newest : ℤ) (es : List Entry) �
 dated_walked s p q newest es dated j safe nb forward m fit rot a = (walk_begun s p q newest es dated j safe nb forward m fit rot a).safe
 
 -- and as long as no member got a file, one may yet
-pub still_open : (s : LogSet) (p q : Past) (newest : ℤ) (es : List Entry) → order s ≡ Dated → IsJournal p → IsSafe s p → has_begun s p ≡ false → IsForward s p newest → Made p es q → LogFits s (names (world p)) es → IsDatedRotation s p newest es → NoneAttached s q → has_turned s es ≡ false
+pub still_open : (s : LogSet) (p q : Past) (newest : ℤ) (es : List Entry) → order s ≡ Dated → IsJournal p → IsSafe s p → has_begun s p ≡ false → IsForward s p newest → Made p es q → LogFits s (names (world p)) es → IsDatedRotation s p newest es → NoneAttached s q → is_log_turned s es ≡ false
     → HasRoomForOne s q × IsForward s q newest
 still_open s p q newest es dated j safe nb forward m fit rot a t = let r = walk_begun s p q newest es dated j safe nb forward m fit rot a in (r.room t, r.forward t)
 

@@ -22,7 +22,7 @@ use Rattle.lr_host.specs.declared.journal.OpenFile.{OpenFile}
 use Rattle.lr_host.specs.Lists.{IsNotIn, AreDistinct}
 use Rattle.lr_host.specs.World.{World, Names, Past, Opens, ◌▸◌, world, names, Moves, changed}
 use Rattle.lr_host.specs.Fits.{Fits}
-use Rattle.lr_host.specs.Opening.{IsValid, IsJournal, paths_of}
+use Rattle.lr_host.specs.Opening.{IsValid, IsJournal, opening_paths}
 use Rattle.lr_host.specs.Sets.{LogSet, Order, Numbered, order, order_of, IsKeyBy}
 use Rattle.lr_host.specs.Runs.{SomeRule, rules_of, state_of}
 use Rattle.lr_host.specs.Later.{later, IsGeneration}
@@ -30,7 +30,7 @@ use Rattle.lr_host.specs.Released.{IsReleased}
 use Rattle.lr_host.specs.Kept.{IsKept, Stands, IsWhole}
 use Rattle.lr_host.specs.Safe.{IsSafe, whole, shorter}
 use Rattle.lr_laws.specs.Follow.{MayFollow}
-use Rattle.lr_laws.specs.Room.{IsReady}
+use Rattle.lr_laws.specs.Room.{MayMoveOn}
 use Rattle.lr_laws.specs.Chain.{log, first, second, third, found, rule, rules, IsOfChain, begins, chain, resumed, failed_without_effect, failed_with_effect, lowest_first, log_first}
 use Rattle.lr_laws.proofs.Disk.{Came, made, moved, stayed, came}
 use Rattle.lr_laws.proofs.Opened.{opened}
@@ -76,9 +76,9 @@ distinct (y ∷ ys) h = let s = both (is_new y ys) (are_new ys) h in (not_in y y
 
 pub found_valid : IsValid found
 found_valid = record {
-  once = distinct (paths_of found) refl;
+  once = distinct (opening_paths found) refl;
   root = (0, omega arith, refl);
-  inside = each In (paths_of found) (in_v, (in_v, (in_v, (in_root, (in_root, (in_root, tt))))));
+  inside = each In (opening_paths found) (in_v, (in_v, (in_v, (in_root, (in_root, (in_root, tt))))));
   named = one;
   known = each Known found.names (omega arith, (omega arith, (omega arith, tt)));
   held = none_of (λ h. h.1 < length found.files);
@@ -162,7 +162,7 @@ rename_fits w from to g file free dir other = ((g, file), (λ e. clash_dir (name
 -- a member that is ready goes one place further, and those before it stay ready
 pub record IsReadyGood (s : LogSet) (p : Past) (limit : ℕ) : Type 0 where
   pub good : IsGood s p
-  pub ready : IsReady s p limit
+  pub ready : MayMoveOn s p limit
 
 pub moved_on : (s : LogSet) → IsOfChain s → (p : Past) (from to : Path) (place limit g : ℕ) → IsReadyGood s p limit → place < limit → s.key from ≡ Some (pos place) → s.key to ≡ Some (pos (place + 1))
     → names (world p) from ≡ thing.File g → names (world p) to ≡ thing.Nothing → names (world p) (parent_of to) ≡ thing.Directory → bytes_eq from to ≡ false → IsReadyGood s (p ▸ Renames from to) place

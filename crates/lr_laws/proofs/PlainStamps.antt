@@ -11,7 +11,7 @@ use Rattle.lr_rules.specs.declared.rule.Piece.{Piece}
 use Rattle.lr_rules.specs.declared.rule.Piece.TheVariants as piece
 use Rattle.lr_rules.specs.Limits.{is_plain_piece, is_format}
 use Rattle.lr_rules.specs.Names.{AreDigits, IsFieldShape, IsStampShape, number_pieces, IsMiddleShape}
-use Rattle.lr_rules.specs.Path.{is_bad, is_slash}
+use Rattle.lr_rules.specs.Path.{is_bad_byte, is_slash}
 use Rattle.lr_rules.proofs.PathLemmas.{plain_both}
 
 -- ---- digits
@@ -51,7 +51,7 @@ field_some field.Second ds h = let l : length ds ≡ 2 = h.0 in omega arith
 -- ---- stamps
 
 byte_plain : (b : ℕ) → is_plain_piece (piece.Byte b) ≡ true → is_slash b ≡ false
-byte_plain b h = (or_parts (is_slash b) (is_bad b) (or_parts _ (is_slash b || is_bad b) (not-true _ h)).1).0
+byte_plain b h = (or_parts (is_slash b) (is_bad_byte b) (or_parts _ (is_slash b || is_bad_byte b) (not-true _ h)).1).0
 
 shape_plain : (ps : List Piece) (w : List ℕ) → list_all is_plain_piece ps ≡ true → IsStampShape ps w → list_any is_slash w ≡ false
 shape_plain [] w good h = ap (list_any is_slash) h

@@ -7,7 +7,7 @@ use Rattle.lr_host.specs.Opening.{IsJournal}
 use Rattle.lr_host.proofs.Names.{put_here}
 use Rattle.lr_host.proofs.Closed.{Touches, touches_or_not, untouched, kept_names, apart_none, IsApart}
 use Rattle.lr_host.proofs.Places.{splits}
-use Rattle.lr_laws.specs.ClosedSets.{HadName, Spares, AllSpare}
+use Rattle.lr_laws.specs.ClosedSets.{HadName, ChangeSpares, AllSpare}
 use Rattle.lr_laws.proofs.Disk.{Came, made, moved, stayed, came}
 use Rattle.lr_laws.proofs.Single.{single}
 
@@ -32,16 +32,16 @@ module _ (d : Names) (places : List ℕ) (c : Change) (older : List Change) (g :
   agrees a x t = kept_names d older (kept_at places older) (undone_at places older) x (splits places older h.0) (apart_none c (undone_at places older) x t a)
 
   -- the disk holds the change too
-  held_on : IsApart c (undone_at places older) → Spares before true c g → HasOld d (kept_at places older) older g → HasOld d (c ∷ kept_at places older) (c ∷ older) g
+  held_on : IsApart c (undone_at places older) → ChangeSpares before true c g → HasOld d (kept_at places older) older g → HasOld d (c ∷ kept_at places older) (c ∷ older) g
   held_on a sp r = go (touches_or_not c r.at)
     where
       here : Touches c r.at → before r.at ≡ thing.File g
       here t = sym (agrees a r.at t) ∙ r.named
 
       by : (k : Change) → k ≡ c → Touches k r.at → HasOld d (c ∷ kept_at places older) (c ∷ older) g
-      by (Puts y what) e t = absurd ((subst (λ (k : Change). Spares before true k g) (sym e) sp).0 (ap before t ∙ here (subst (λ (k : Change). Touches k r.at) e t)))
-      by (Drops y) e t = absurd (let q : true ≡ false = (subst (λ (k : Change). Spares before true k g) (sym e) sp) (ap before t ∙ here (subst (λ (k : Change). Touches k r.at) e t)) in cc)
-      by (Moves from to) e (inr t) = absurd ((subst (λ (k : Change). Spares before true k g) (sym e) sp) (ap before t ∙ here (subst (λ (k : Change). Touches k r.at) e (inr t))))
+      by (Puts y what) e t = absurd ((subst (λ (k : Change). ChangeSpares before true k g) (sym e) sp).0 (ap before t ∙ here (subst (λ (k : Change). Touches k r.at) e t)))
+      by (Drops y) e t = absurd (let q : true ≡ false = (subst (λ (k : Change). ChangeSpares before true k g) (sym e) sp) (ap before t ∙ here (subst (λ (k : Change). Touches k r.at) e t)) in cc)
+      by (Moves from to) e (inr t) = absurd ((subst (λ (k : Change). ChangeSpares before true k g) (sym e) sp) (ap before t ∙ here (subst (λ (k : Change). Touches k r.at) e (inr t))))
       by (Moves from to) e (inl t) = record {
         at = to;
         had = inr (gone before (ap before t ∙ here (subst (λ (k : Change). Touches k r.at) e (inl t))));
@@ -56,7 +56,7 @@ module _ (d : Names) (places : List ℕ) (c : Change) (older : List Change) (g :
       go (inr far) = record { at = r.at; had = inl r.had; named = untouched c left r.at far ∙ r.named }
 
   -- one more change
-  more : (l : Bool) → (l ≡ true → IsApart c (undone_at places older)) → Spares before l c g → ((x : Path) → HadName d older g x → HasOld d (kept_at places older) older g)
+  more : (l : Bool) → (l ≡ true → IsApart c (undone_at places older)) → ChangeSpares before l c g → ((x : Path) → HadName d older g x → HasOld d (kept_at places older) older g)
       → (x : Path) → HadName d (c ∷ older) g x → HasOld d (cond l (c ∷ kept_at places older) (kept_at places older)) (c ∷ older) g
   more true a sp rec x (inl was) = held_on (a refl) sp (rec x was)
   more true a sp rec x (inr is) = go (came c before x g is)
@@ -72,7 +72,7 @@ module _ (d : Names) (places : List ℕ) (c : Change) (older : List Change) (g :
       still y j = let r : HasOld d (kept_at places older) older g = rec y (had_now d older g y j) in record { at = r.at; had = inl r.had; named = r.named }
 
       go : Came c before x g → HasOld d (kept_at places older) (c ∷ older) g
-      go (made e) = absurd (let q : false ≡ true = (subst (λ (k : Change). Spares before false k g) e sp).1 refl in cc)
+      go (made e) = absurd (let q : false ≡ true = (subst (λ (k : Change). ChangeSpares before false k g) e sp).1 refl in cc)
       go (moved z e j) = still z j
       go (stayed j far) = still x j
 

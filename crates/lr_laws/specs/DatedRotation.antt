@@ -28,8 +28,8 @@ turned_behind s turned (Renames from to ∷ es) = is_some (s.key to) || turned_b
 turned_behind s turned (_ ∷ es) = turned_behind s turned es
 
 -- a member got a file by a rename among these entries
-abbrev pub has_turned : LogSet → List Entry → Bool
-has_turned s es = turned_behind s false es
+abbrev pub is_log_turned : LogSet → List Entry → Bool
+is_log_turned s es = turned_behind s false es
 
 -- A step of a rotation that began behind p, where the names are n: as long as no member got a file, the log turns, to a path that
 -- names nothing; behind that a member goes that as many later ones follow as the rule's count says, or that was seen too old; what

@@ -14,8 +14,8 @@ abbrev pub later_once_begun : LogSet → Past → ℕ → ℕ
 later_once_begun s p g = later s p g + cond (has_begun s p) 0 1
 
 -- a generation that the path names may be at this place once this run has begun a rotation
-abbrev pub HasRoom : LogSet → Past → Path → ℕ → Type 0
-HasRoom s p x place = (g : ℕ) → names (world p) x ≡ thing.File g → IsGeneration s p g → place ≤ later_once_begun s p g
+abbrev pub MayStandAt : LogSet → Past → Path → ℕ → Type 0
+MayStandAt s p x place = (g : ℕ) → names (world p) x ≡ thing.File g → IsGeneration s p g → place ≤ later_once_begun s p g
 
 -- Under all names that a cut may leave, each generation that a member names may get one more later member, once this run has begun
 -- a rotation.
@@ -25,5 +25,5 @@ HasRoomForOne s p = (m : Names) (undone : List Change) → Leaves p m undone →
     → (ys : List Path) → AreDistinct ys → AreLaterMembers s.key m t ys → length ys + 1 ≤ later_once_begun s p g
 
 -- each numbered member at a place below the limit may go one place further
-abbrev pub IsReady : LogSet → Past → ℕ → Type 0
-IsReady s p limit = (x : Path) (place : ℕ) → s.key x ≡ Some (pos place) → place < limit → HasRoom s p x (place + 1)
+abbrev pub MayMoveOn : LogSet → Past → ℕ → Type 0
+MayMoveOn s p limit = (x : Path) (place : ℕ) → s.key x ≡ Some (pos place) → place < limit → MayStandAt s p x (place + 1)

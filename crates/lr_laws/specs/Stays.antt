@@ -11,7 +11,7 @@ use Rattle.lr_host.specs.Runs.{has_begun}
 use Rattle.lr_host.specs.Forward.{IsForward}
 use Rattle.lr_host.specs.Safe.{IsSafe}
 use Rattle.lr_host.specs.Steady.{IsSteadyBy, NoneAttached}
-use Rattle.lr_laws.specs.Room.{IsReady}
+use Rattle.lr_laws.specs.Room.{MayMoveOn}
 use Rattle.lr_laws.specs.Rotation.{IsRotation}
 use Rattle.lr_laws.specs.DatedRotation.{IsDatedRotation}
 
@@ -40,7 +40,7 @@ KeepsSafeWhere when before after = KeepsSafeBy Rename when before after
 pub record Rotates (steps : List Entry) (s : LogSet) (p : Past) : Type 0 where
   pub numbered : order s ≡ Numbered
   pub limit : ℕ
-  pub ready : IsReady s p limit
+  pub ready : MayMoveOn s p limit
   pub rotation : IsRotation s p limit (reverse steps)
 
 -- These steps, in order, are those of one rotation of the dated set in this run, which has begun none, to a member that none is

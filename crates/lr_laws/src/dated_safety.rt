@@ -6,7 +6,7 @@ ghost use Rattle.lr_host.specs.declared.journal.Journal.{Journal};
 ghost use Rattle.lr_host.specs.World.{Past, world, names};
 ghost use Rattle.lr_host.specs.Opening.{IsJournal};
 ghost use Rattle.lr_host.specs.Told.{Made, Left};
-ghost use Rattle.lr_host.specs.Steps.{CanAll, Took};
+ghost use Rattle.lr_host.specs.Steps.{CanAll, TookSteps};
 ghost use Rattle.lr_host.specs.Sets.{LogSet, Dated, order};
 ghost use Rattle.lr_host.specs.Runs.{has_begun};
 ghost use Rattle.lr_host.specs.Forward.{IsForward};
@@ -15,7 +15,7 @@ ghost use Rattle.lr_host.specs.Steady.{NoneAttached};
 ghost use Rattle.lr_laws.specs.Room.{HasRoomForOne};
 ghost use Rattle.lr_laws.specs.Rotation.{LogFits};
 ghost use Rattle.lr_laws.specs.Forward.{IsForwardFor};
-ghost use Rattle.lr_laws.specs.DatedRotation.{has_turned, IsDatedRotation, IsDatedRetirement};
+ghost use Rattle.lr_laws.specs.DatedRotation.{is_log_turned, IsDatedRotation, IsDatedRetirement};
 ghost use Rattle.lr_laws.specs.Stays.{StaysSafe, RotatesDated, KeepsSafeWhere};
 
 /// A dated set that is safe is safe behind the entries of one rotation to a member that none is later than, with entries
@@ -34,7 +34,7 @@ pub fn dated_rotation_stays_safe()
 pub fn dated_rotation_stays_open()
     ensures { (s : LogSet) (p q : Past) (newest : ℤ) (es : List Entry) → order s ≡ Dated → IsJournal p → IsSafe s p
         → has_begun s p ≡ false → IsForward s p newest → Made p es q → LogFits s (names (world p)) es
-        → IsDatedRotation s p newest es → NoneAttached s q → has_turned s es ≡ false → HasRoomForOne s q × IsForward s q newest }
+        → IsDatedRotation s p newest es → NoneAttached s q → is_log_turned s es ≡ false → HasRoomForOne s q × IsForward s q newest }
 {}
 
 /// Behind that, where members go that may and what waited aside, with entries aside and writers' between them, the set stays
@@ -47,7 +47,7 @@ pub fn dated_retirement_stays_safe()
 /// Over calls that leave the change entries of a first part of these steps, each set is safe of which they are such a
 /// rotation.
 pub fn dated_steps_stay_safe()
-    ensures { (steps : List Entry) (ok : Bool) (before after : Option Journal) → Left (Took steps ok) before after
+    ensures { (steps : List Entry) (ok : Bool) (before after : Option Journal) → Left (TookSteps steps ok) before after
         → CanAll before steps → StaysSafe (RotatesDated steps) before after }
 {}
 

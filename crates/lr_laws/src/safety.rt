@@ -10,8 +10,8 @@ ghost use Rattle.lr_host.specs.Sets.{LogSet, Numbered, order};
 ghost use Rattle.lr_host.specs.Safe.{IsSafe, IsMachines};
 ghost use Rattle.lr_host.specs.Steady.{NoneAttached};
 ghost use Rattle.lr_laws.specs.Follow.{MayFollow};
-ghost use Rattle.lr_host.specs.Steps.{CanAll, Took};
-ghost use Rattle.lr_laws.specs.Room.{IsReady};
+ghost use Rattle.lr_host.specs.Steps.{CanAll, TookSteps};
+ghost use Rattle.lr_laws.specs.Room.{MayMoveOn};
 ghost use Rattle.lr_laws.specs.Rotation.{IsRotation, LogFits};
 ghost use Rattle.lr_laws.specs.Stays.{StaysSafe, Rotates};
 ghost use Rattle.lr_host.specs.declared.journal.Journal.{Journal};
@@ -36,12 +36,12 @@ pub fn cut_stays_safe()
 /// waits there is taken up again; those past the count or too old go. Of the entries aside nothing else is asked.
 pub fn rotation_stays_safe()
     ensures { (s : LogSet) (p q : Past) (limit : ℕ) (es : List Entry) → order s ≡ Numbered → IsJournal p → IsSafe s p
-        → IsReady s p limit → Made p es q → LogFits s (names (world p)) es → IsRotation s p limit es → NoneAttached s q
+        → MayMoveOn s p limit → Made p es q → LogFits s (names (world p)) es → IsRotation s p limit es → NoneAttached s q
         → IsSafe s q }
 {}
 
 /// Over calls that leave the change entries of a first part of these steps, each set is safe of which they are a rotation.
 pub fn steps_stay_safe()
-    ensures { (steps : List Entry) (ok : Bool) (before after : Option Journal) → Left (Took steps ok) before after
+    ensures { (steps : List Entry) (ok : Bool) (before after : Option Journal) → Left (TookSteps steps ok) before after
         → CanAll before steps → StaysSafe (Rotates steps) before after }
 {}

@@ -15,7 +15,7 @@ use Rattle.lr_host.proofs.Made.{made_journal}
 use Rattle.lr_laws.proofs.Disk.{leaves_now}
 use Rattle.lr_laws.proofs.Single.{single}
 use Rattle.lr_copy.specs.declared.job.Job.{Job}
-use Rattle.lr_copied.specs.Whole.{Named, IsWhole}
+use Rattle.lr_copied.specs.Whole.{Named, IsCopyWhole}
 use Rattle.lr_durable.proofs.Lists.{prefix_on, made_prefix}
 use Rattle.lr_laws_family.specs.Beside.{IsOn, IsNeverAt}
 use Rattle.lr_laws_family.specs.Made.{IsJobOf, IsFar}
@@ -50,10 +50,10 @@ module _ (n : Naming) (r : Rotation) (job : Job) (p : Past) (journal : IsJournal
   pub journal_end : IsJournal c.ends
   journal_end = made_journal c.begins c.ends (reverse c.named) c.copies journal_begin
 
-  done : IsWhole job.from job.to c.begins c.ends
+  done : IsCopyWhole job.from job.to c.begins c.ends
   done = whole_copy (IsFar n r) job c.count c.begins c.ends c.named c.copies journal_begin c.of.paths c.only c.far c.is_named
 
-  pub whole : IsWhole job.from job.to p c.ends
+  pub whole : IsCopyWhole job.from job.to p c.ends
   whole = record {
     log = done.log;
     copy = done.copy;

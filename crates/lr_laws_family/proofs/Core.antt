@@ -31,7 +31,7 @@ use Rattle.lr_durable.proofs.Lists.{Middle, middle}
 use Rattle.lr_laws_family.specs.Beside.{IsOn, IsBeside, IsNeverAt}
 use Rattle.lr_laws_family.specs.Made.{IsFar, IsBetween}
 use Rattle.lr_laws_family.specs.Members.{IsNoMember, IsNewestOf, AreThere}
-use Rattle.lr_laws_family.specs.Rotation.{Rotation, unlinks, steps_before, steps_behind, steps_of, part_paths, start_of, way_of, written_paths}
+use Rattle.lr_laws_family.specs.Rotation.{Rotation, unlinks, steps_before, steps_behind, rotation_steps, part_paths, start_of, way_of, written_paths}
 use Rattle.lr_laws_family.specs.Shown.{SawFile, Shown}
 use Rattle.lr_laws_family.specs.Turned.{ComesFrom, unless, GoesTo, with_fed, IsOrMade}
 use Rattle.lr_laws_family.specs.Weave.{Weave}
@@ -296,11 +296,11 @@ module _ (paths : List Path) (n : Naming) (r : Rotation) (p q : Past) (es : List
     alike_q : AreAlikeAt Own (names_after behind_way (changes_of newer)) (names (world q))
     alike_q = these_walk Own X (r.log ∷ between) behind_way k.mid q (reverse late) newer apart none_beside k.second k.only_second (back_on (steps_behind r) late g.over.behind_it) (each_reverse (IsOfThese Own) (steps_behind r) new_each) alike_w
 
-    backwards : reverse (steps_of r) ≡ newer ++ Renames r.source r.target ∷ older
+    backwards : reverse (rotation_steps r) ≡ newer ++ Renames r.source r.target ∷ older
     backwards = reverse-append (steps_before r) (Renames r.source r.target ∷ steps_behind r)
         ∙ (ap (λ xs. xs ++ older) (reverse-append (Renames r.source r.target ∷ []) (steps_behind r)) ∙ append_assoc newer (Renames r.source r.target ∷ []) older)
 
-    parts : names_after behind_way (changes_of newer) ≡ names_after m0 (changes_of (reverse (steps_of r)))
+    parts : names_after behind_way (changes_of newer) ≡ names_after m0 (changes_of (reverse (rotation_steps r)))
     parts = sym (changes_split m0 (Renames r.source r.target ∷ older) newer) ∙ ap (λ xs. names_after m0 (changes_of xs)) (sym backwards)
 
     there_m0 : AreThere n m0 r.stood
@@ -311,10 +311,10 @@ module _ (paths : List Path) (n : Naming) (r : Rotation) (p q : Past) (es : List
       others = λ x is out. sym (alike_v x is) ∙ stands.others x is out;
     }
 
-    alone : GoesTo n r (m0 r.source) m0 (names_after m0 (changes_of (reverse (steps_of r))))
+    alone : GoesTo n r (m0 r.source) m0 (names_after m0 (changes_of (reverse (rotation_steps r))))
     alone = g.rotation.turns m0 (new, source_m0) there_m0
 
-    alike_all : (x : Path) → Own x → names (world q) x ≡ names_after m0 (changes_of (reverse (steps_of r))) x
+    alike_all : (x : Path) → Own x → names (world q) x ≡ names_after m0 (changes_of (reverse (rotation_steps r))) x
     alike_all x owned = alike_q x owned ∙ ap (λ (m : Names). m x) parts
 
     alike_first : (x : Path) → Own x → m0 x ≡ names (world p) x

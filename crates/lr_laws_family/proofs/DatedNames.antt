@@ -11,7 +11,7 @@ use Rattle.lr_rules.specs.declared.rule.Piece.TheVariants as piece
 use Rattle.lr_rules.specs.Dated.{IsDatedAt}
 use Rattle.lr_rules.specs.Limits.{is_plain_piece, are_first, is_epoch_alone, is_format, or_none}
 use Rattle.lr_rules.specs.Names.{IsStampShape, number_pieces, IsMiddleShape, naming_of, ext_of, base_of, ends_with}
-use Rattle.lr_rules.specs.Path.{is_bad, is_slash, is_empty, path_fault, parent_of, last_of}
+use Rattle.lr_rules.specs.Path.{is_bad_byte, is_slash, is_empty, path_fault, parent_of, last_of}
 use Rattle.lr_rules.proofs.PathLemmas.{plain_both, parent_joined, last_joined}
 use Rattle.lr_stamps.proofs.StampShapes.{numbered_shape}
 use Rattle.lr_host.specs.Fits.{IsPart}
@@ -77,7 +77,7 @@ base_long ext name = go (ends_with ext name)
 
 unbarred : (xs : List ℕ) → list_any is_barred xs ≡ false → list_any is_slash xs ≡ false
 unbarred [] h = refl
-unbarred (x ∷ xs) h = let t = or_parts (is_barred x) (list_any is_barred xs) h in or_from (is_slash x) (list_any is_slash xs) (or_parts (is_slash x) (is_bad x) t.0).0 (unbarred xs t.1)
+unbarred (x ∷ xs) h = let t = or_parts (is_barred x) (list_any is_barred xs) h in or_from (is_slash x) (list_any is_slash xs) (or_parts (is_slash x) (is_bad_byte x) t.0).0 (unbarred xs t.1)
 
 -- the last part of a dated member's path
 abbrev pub name_of : (n : Naming) (t : ℤ) (k : ℕ) (x : Path) → IsDatedAt n t k x → List ℕ

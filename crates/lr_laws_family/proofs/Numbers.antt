@@ -35,27 +35,27 @@ use Rattle.lr_chain.specs.declared.ready.Move.{Move}
 use Rattle.lr_chain.specs.Ready.{move_step, move_from}
 use Rattle.lr_chain.specs.Rotation.{places_of, is_left, leftovers, kept, retired, unlink_at, move_at, leftover_steps, shift_steps, retire_steps, rotation}
 use Rattle.lr_chain.specs.Standing.{StandSo, AreGoing}
-use Rattle.lr_chain.specs.Turning.{turned, IsTurned}
+use Rattle.lr_chain.specs.Turning.{turned, IsChainTurned}
 use Rattle.lr_chain.proofs.Bounds.{top_of}
 use Rattle.lr_chain.proofs.Falling.{falls_all}
 use Rattle.lr_chain.proofs.Has.{has, has_filter, has_it, has_none, it_has}
 use Rattle.lr_chain.proofs.Kept.{kept_as}
 use Rattle.lr_chain.proofs.Retired.{every_retired, has_first, has_new}
 use Rattle.lr_chain.proofs.Turned.{family_turned}
-use Rattle.lr_laws_family.specs.Members.{IsNoMember, IsFamily, HasNone, AreThere}
-use Rattle.lr_laws_family.specs.Numbered.{numbered, HasName, HaveNext}
-use Rattle.lr_laws_family.specs.Rotation.{Rotation, By, unlinks, steps_of, IsOfMembers}
-use Rattle.lr_laws_family.specs.Turned.{ComesFrom, unless, GoesTo, IsRotation}
+use Rattle.lr_laws_family.specs.Members.{IsNoMember, IsFamily, NoMemberHas, AreThere}
+use Rattle.lr_laws_family.specs.Numbered.{numbered, HasName, HaveNextNames}
+use Rattle.lr_laws_family.specs.Rotation.{Rotation, By, unlinks, rotation_steps, IsOfMembers}
+use Rattle.lr_laws_family.specs.Turned.{ComesFrom, unless, GoesTo, IsFamilyRotation}
 use Rattle.lr_laws_family.proofs.Picking.{named_all}
 
 -- ---- places with names
 
-pub first_named : (n : Naming) (c : Count) (places : List ℕ) → HaveNext n c places → HasName n 0
+pub first_named : (n : Naming) (c : Count) (places : List ℕ) → HaveNextNames n c places → HasName n 0
 first_named n (count.Keep c) places h = omega arith
 first_named n count.Always places h = h.0
 
 -- the place up to which members may come has a name
-pub top_named : (n : Naming) (c : Count) (places : List ℕ) → HaveNext n c places → HasName n (top_of n c)
+pub top_named : (n : Naming) (c : Count) (places : List ℕ) → HaveNextNames n c places → HasName n (top_of n c)
 top_named n (count.Keep k) places h = h
 top_named n count.Always places h = let first : HasName n 0 = h.0 in omega (arith, first)
 
@@ -63,18 +63,18 @@ kept_below : (c k : ℕ) → is_left (count.Keep c) k ≡ false → k < c
 kept_below c k h = grind (arith, nat_tests)
 
 -- so has the next place of each member that is moved
-pub next_at : (n : Naming) (c : Count) (places : List ℕ) → HaveNext n c places → (k : ℕ) → Contains places k → is_left c k ≡ false → HasName n (k + 1)
+pub next_at : (n : Naming) (c : Count) (places : List ℕ) → HaveNextNames n c places → (k : ℕ) → Contains places k → is_left c k ≡ false → HasName n (k + 1)
 next_at n (count.Keep m) places h k i stays = let lt : k < m = kept_below m k stays in omega (arith, lt, h)
 next_at n count.Always places h k i stays = subst (λ (j : ℕ). HasName n (j + 1)) i.2 (h.1 i.0 k i.1)
 
-pub next_named : (n : Naming) (c : Count) (places : List ℕ) → HaveNext n c places → Every (λ k. is_left c k ≡ false → HasName n (k + 1)) places
+pub next_named : (n : Naming) (c : Count) (places : List ℕ) → HaveNextNames n c places → Every (λ k. is_left c k ≡ false → HasName n (k + 1)) places
 next_named n c places h = every_from (λ k. is_left c k ≡ false → HasName n (k + 1)) places (next_at n c places h)
 
-pub kept_next : (n : Naming) (c : Count) (places : List ℕ) → HaveNext n c places → Every (λ k. HasName n (k + 1)) (kept c places)
+pub kept_next : (n : Naming) (c : Count) (places : List ℕ) → HaveNextNames n c places → Every (λ k. HasName n (k + 1)) (kept c places)
 kept_next n c places h = kept_as (λ k. HasName n (k + 1)) c places (next_named n c places h)
 
 -- so has each place at which something goes behind the moves
-pub retire_named : (n : Naming) (c : Count) (places from : List ℕ) → HaveNext n c places → AreGoing c places from → Every (HasName n) (retired c from)
+pub retire_named : (n : Naming) (c : Count) (places from : List ℕ) → HaveNextNames n c places → AreGoing c places from → Every (HasName n) (retired c from)
 retire_named n c places from h going = every_retired (HasName n) c from (every_from (λ k. HasName n (suc k)) from (λ k i. let next = next_at n c places h k (going.there k i) (going.moved k i) in omega (arith, next))) (λ e. first_named n c places h)
 
 -- ---- steps
@@ -120,7 +120,7 @@ module _ (n : Naming) (none : n.dated ≡ None) where
   pub names_of : (ms : List Member) → AreNamed n ms → Every (HasName n) (places_of ms)
   names_of ms d = every_from (HasName n) (places_of ms) (λ place c. let h = member_at ms place c in subst (HasName n) h.2 (at_number h.0.place h.0.path (named_all n ms h.0 d h.1)).0)
 
-  pub none_at : (x : Path) (ms : List Member) → ((m : Member) → IsIn m ms → x ≡ m.path → ⊥) → HasNone ms x
+  pub none_at : (x : Path) (ms : List Member) → ((m : Member) → IsIn m ms → x ≡ m.path → ⊥) → NoMemberHas ms x
   none_at x [] f = tt
   none_at x (m ∷ ms) f = (f m (inl refl), none_at x ms (λ y i. f y (inr i)))
 
@@ -174,7 +174,7 @@ left_on count.Always k e = absurd (cc)
 clash_bool : (b : Bool) → b ≡ true → b ≡ false → ⊥
 clash_bool b p q = cc
 
-module _ (n : Naming) (c : Count) (from : List ℕ) (members : List Member) (log source : Path) (by : By) (family : IsFamily log n) (none : n.dated ≡ None) (no_source : IsNoMember n source) (named : AreNamed n members) (next : HaveNext n c (places_of members)) (going : AreGoing c (places_of members) from) where
+module _ (n : Naming) (c : Count) (from : List ℕ) (members : List Member) (log source : Path) (by : By) (family : IsFamily log n) (none : n.dated ≡ None) (no_source : IsNoMember n source) (named : AreNamed n members) (next : HaveNextNames n c (places_of members)) (going : AreGoing c (places_of members) from) where
   abbrev places : List ℕ
   places = places_of members
 
@@ -198,7 +198,7 @@ module _ (n : Naming) (c : Count) (from : List ℕ) (members : List Member) (log
     gone = paths_own n none (retired c from) gone_named;
   }
 
-  pub steps_are : steps_of (numbered n c from members log source by) ≡ rotation n c source (places_of members) from
+  pub steps_are : rotation_steps (numbered n c from members log source by) ≡ rotation n c source (places_of members) from
   steps_are = both_are (unlinks r.early) (leftover_steps n c places) (map move_step r.moves) (shift_steps n c places) (unlinks r.gone) (retire_steps n c from) (Renames source (path_at n 0))
       (unlinks_are n (leftovers c places)) (moves_are n (kept c places)) (unlinks_are n (retired c from))
       ∙ joined_so (leftover_steps n c places) (shift_steps n c places) (retire_steps n c from) (Renames source (path_at n 0))
@@ -243,19 +243,19 @@ module _ (n : Naming) (c : Count) (from : List ℕ) (members : List Member) (log
 
   module _ (m : Names) (file : IsFileAt m source) (there : AreThere n m members) where
     abbrev after : Names
-    after = names_after m (changes_of (reverse (steps_of r)))
+    after = names_after m (changes_of (reverse (rotation_steps r)))
 
     so : StandSo source n (places_of members) m
     so = stand_so n none source m members file there
 
-    done : IsTurned source n c from m (names_after m (changes_of (reverse (steps_of (numbered n c from members log source by)))))
-    done = subst (λ (es : List Entry). IsTurned source n c from m (names_after m (changes_of (reverse es)))) (sym steps_are)
+    done : IsChainTurned source n c from m (names_after m (changes_of (reverse (rotation_steps (numbered n c from members log source by)))))
+    done = subst (λ (es : List Entry). IsChainTurned source n c from m (names_after m (changes_of (reverse es)))) (sym steps_are)
         (family_turned source n kin none m c places from (top_named n c places next) (falls_all places so.falling) places_named (next_named n c places next) going so)
 
     at_next : (k : ℕ) → HasName n k → HasName n (suc k) → after (path_at n (suc k)) ≡ unless r.gone (path_at n (suc k)) (unless r.early (path_at n k) (m (path_at n k)))
     at_next k i j = done.members (suc k) j ∙ next_by_path m so.others (m source) k i j
 
-    goes : GoesTo n (numbered n c from members log source by) (m source) m (names_after m (changes_of (reverse (steps_of (numbered n c from members log source by)))))
+    goes : GoesTo n (numbered n c from members log source by) (m source) m (names_after m (changes_of (reverse (rotation_steps (numbered n c from members log source by)))))
     goes = record {
       newest = done.members 0 first ∙ first_by_path m so.others (m source);
       older = λ x y other h. by_kind x y h;
@@ -266,5 +266,5 @@ module _ (n : Naming) (c : Count) (from : List ℕ) (members : List Member) (log
             (subst (λ (z : Path). after (path_at n (suc k)) ≡ unless r.gone (path_at n (suc k)) (unless r.early z (m z))) (sym my.named) (at_next k my.bound mx.bound))
         by_kind x y (inr h) = absurd (clash n.dated h.0.2.format none h.0.2.dated)
 
-  pub numbered_is_one : IsRotation n (numbered n c from members log source by)
+  pub numbered_is_one : IsFamilyRotation n (numbered n c from members log source by)
   numbered_is_one = record { members = of_members; turns = λ m file there. goes m file there }

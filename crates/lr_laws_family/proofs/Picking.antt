@@ -11,14 +11,14 @@ use Rattle.lr_host.specs.World.{Names}
 use Rattle.lr_host.proofs.Lists.{in_to}
 use Rattle.lr_family.specs.declared.stand.Member.{Member}
 use Rattle.lr_family.specs.Places.{IsPlaceOf, AreNamed}
-use Rattle.lr_laws_family.specs.Members.{HasNone}
+use Rattle.lr_laws_family.specs.Members.{NoMemberHas}
 
 -- one of the members has the path, or none
-pub has_or_none : (x : Path) (ms : List Member) → ((m : Member) × IsIn m ms × (m.path ≡ x)) ⊎ HasNone ms x
+pub has_or_none : (x : Path) (ms : List Member) → ((m : Member) × IsIn m ms × (m.path ≡ x)) ⊎ NoMemberHas ms x
 has_or_none x [] = inr tt
 has_or_none x (m ∷ ms) = go (bytes_eq m.path x) refl (has_or_none x ms)
   where
-    go : (b : Bool) → bytes_eq m.path x ≡ b → ((k : Member) × IsIn k ms × (k.path ≡ x)) ⊎ HasNone ms x → ((k : Member) × IsIn k (m ∷ ms) × (k.path ≡ x)) ⊎ HasNone (m ∷ ms) x
+    go : (b : Bool) → bytes_eq m.path x ≡ b → ((k : Member) × IsIn k ms × (k.path ≡ x)) ⊎ NoMemberHas ms x → ((k : Member) × IsIn k (m ∷ ms) × (k.path ≡ x)) ⊎ NoMemberHas (m ∷ ms) x
     go true e r = inl (m, inl refl, (bytes_eq-Decides m.path x).0 e)
     go false e (inl r) = inl (r.0, inr r.1, r.2)
     go false e (inr r) = inr ((λ same. let t = (bytes_eq-Decides m.path x).1 (sym same) in clash (bytes_eq m.path x) t e), r)

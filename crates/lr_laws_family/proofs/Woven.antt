@@ -8,7 +8,7 @@ use Rattle.lr_host.specs.declared.entry.Entry.{Entry}
 use Rattle.lr_host.specs.declared.entry.Entry.TheVariants.{Renames}
 use Rattle.lr_host.specs.Quiet.{is_disk_change, ChangeNothing}
 use Rattle.lr_laws_family.specs.Made.{SawFree, Brings, IsBetween, RotatesAmong}
-use Rattle.lr_laws_family.specs.Rotation.{Rotation, By, Rename, start_of, steps_before, steps_behind, steps_of}
+use Rattle.lr_laws_family.specs.Rotation.{Rotation, By, Rename, start_of, steps_before, steps_behind, rotation_steps}
 use Rattle.lr_laws_family.specs.Shown.{SawFile, Shown}
 use Rattle.lr_laws_family.specs.Weave.{Weave, none, own, other}
 use Rattle.lr_laws_family.proofs.Splitting.{weave_nil}
@@ -51,7 +51,7 @@ parts P (t ∷ ts) old new e w = go (λ old w. parts P ts old new e w) (is_disk_
     go further true h w = by_cases further h (old ++ e ∷ new) refl w
     go further false h w = let r = further old w in more old old r (subst (Weave P old) (sym (one false r.early h)) r.before)
 
-module _ (paths : List Path) (n : Naming) (r : Rotation) (front back : List Entry) (is : r.by ≡ Rename) (still : ChangeNothing front) (source : SawFile r.source front) (shown : Shown n r.stood front) (woven : Weave (IsBetween paths r) (steps_of r) (filter is_disk_change back)) where
+module _ (paths : List Path) (n : Naming) (r : Rotation) (front back : List Entry) (is : r.by ≡ Rename) (still : ChangeNothing front) (source : SawFile r.source front) (shown : Shown n r.stood front) (woven : Weave (IsBetween paths r) (rotation_steps r) (filter is_disk_change back)) where
   split : Parts (IsBetween paths r) (steps_before r) (Renames r.source r.target) (steps_behind r) back
   split = parts (IsBetween paths r) back (steps_before r) (steps_behind r) (Renames r.source r.target) woven
 

@@ -28,16 +28,16 @@ pub record IsFamily (log : Path) (n : Naming) : Type 0 where
   pub apart : IsNoMember n log
 
 -- none of the members has the path
-abbrev pub HasNone : List Member → Path → Type 0
-HasNone members x = IsNotIn x (map (λ m. m.path) members)
+abbrev pub NoMemberHas : List Member → Path → Type 0
+NoMemberHas members x = IsNotIn x (map (λ m. m.path) members)
 
 -- Under these names just these members stand, the newest first, each a regular file; no other member's path names anything.
 pub record AreThere (n : Naming) (m : Names) (members : List Member) : Type 0 where
   pub newest_first : AreNewestFirst members
   pub named : AreNamed n members
   pub files : All (λ member. IsFileAt m member.path) members
-  pub others : (x : Path) → IsMember n x → HasNone members x → m x ≡ thing.Nothing
+  pub others : (x : Path) → IsMember n x → NoMemberHas members x → m x ≡ thing.Nothing
 
 -- The path is the newest place of a numbered family; or a dated one's, and none of these members has it.
 abbrev pub IsNewestOf : Naming → List Member → Path → Type 0
-IsNewestOf n members x = ((n.dated ≡ None) × IsMemberAt n 0 x) ⊎ (IsDated n x × HasNone members x)
+IsNewestOf n members x = ((n.dated ≡ None) × IsMemberAt n 0 x) ⊎ (IsDated n x × NoMemberHas members x)

@@ -12,7 +12,7 @@ use Rattle.lr_family.specs.declared.stand.Member.{Member}
 use Rattle.lr_family.specs.Parts.{IsMember}
 use Rattle.lr_family.specs.Places.{AreNamed}
 use Rattle.lr_family.specs.Stands.{AreNewestFirst}
-use Rattle.lr_laws_family.specs.Members.{HasNone}
+use Rattle.lr_laws_family.specs.Members.{NoMemberHas}
 
 -- a look at the path saw a regular file
 abbrev pub SawFile : Path → List Entry → Type 0
@@ -43,4 +43,4 @@ pub record Shown (n : Naming) (members : List Member) (ts : List Entry) : Type 0
   pub newest_first : AreNewestFirst members
   pub named : AreNamed n members
   pub files : All (WasSeen ts) members
-  pub others : (x : Path) → IsMember n x → HasNone members x → IsUnseen n.dir x ts
+  pub others : (x : Path) → IsMember n x → NoMemberHas members x → IsUnseen n.dir x ts

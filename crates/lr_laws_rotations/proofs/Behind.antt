@@ -59,8 +59,8 @@ use Rattle.lr_chain.proofs.Falling.{falls_all}
 use Rattle.lr_chain.proofs.Going.{going_are}
 use Rattle.lr_chain.proofs.Serials.{is_next}
 use Rattle.lr_chain.proofs.Turned.{run}
-use Rattle.lr_laws_family.specs.Members.{IsFamily, HasNone, AreThere}
-use Rattle.lr_laws_family.specs.Numbered.{HasName, HaveNext}
+use Rattle.lr_laws_family.specs.Members.{IsFamily, NoMemberHas, AreThere}
+use Rattle.lr_laws_family.specs.Numbered.{HasName, HaveNextNames}
 use Rattle.lr_laws_family.specs.Shown.{SawFile, WasSeen, Shown}
 use Rattle.lr_laws_family.proofs.Numbers.{rising, first_named}
 use Rattle.lr_laws_family.proofs.Stood.{file_stands}
@@ -168,7 +168,7 @@ module _ (clock : Clock) (s : LogSet) (c : Count) (maxage : Option ℕ) (anew : 
     by_its_places : places.IsFamily s.log n
     by_its_places = by_places s.log n none family
 
-    next : HaveNext n c places_are
+    next : HaveNextNames n c places_are
     next = next_places clock s.log n c maxage anew stand family start small shown.named free none
 
     goes : AreGoing c places_are from
@@ -242,7 +242,7 @@ module _ (clock : Clock) (s : LogSet) (c : Count) (maxage : Option ℕ) (anew : 
     st : StandSo n s.log target ranks (names (world q))
     st = stand_so s.log n (names (world q)) all target maxage clock.now.seconds t serial family file there (is_next all t) at
 
-    no_target : HasNone all target
+    no_target : NoMemberHas all target
     no_target = next_free n family.format all shown.named t serial (is_next all t) target at
 
     module _ (copy : HasCopy s q r [] target) where
@@ -266,7 +266,7 @@ module _ (clock : Clock) (s : LogSet) (c : Count) (maxage : Option ℕ) (anew : 
       are_files (x ∷ xs) keys old = (is_file x.path _ keys.0 old.0, are_files xs keys.1 old.1)
 
       -- members that are too old
-      are_old : (ms : List Member) → AreNamed n ms → HasNone ms target → All (WasSeen (reverse es)) ms → AreOld s r m (map (ranked maxage (world q).now) ms)
+      are_old : (ms : List Member) → AreNamed n ms → NoMemberHas ms target → All (WasSeen (reverse es)) ms → AreOld s r m (map (ranked maxage (world q).now) ms)
       are_old [] d none seen = tt
       are_old (x ∷ xs) d none seen =
           let day = day_of n (x ∷ xs) x (order_some n.dated dated) d (inl refl) in

@@ -8,7 +8,7 @@ use Rattle.lr_host.specs.World.{Names, put}
 use Rattle.lr_host.specs.Fits.{IsFileAt, IsDirectoryAt}
 use Rattle.lr_host.proofs.Names.{put_here, put_other}
 use Rattle.lr_copy.specs.declared.job.Job.{Job}
-use Rattle.lr_copy.specs.Fits.{ArePaths, HasPlace, IsStale}
+use Rattle.lr_copy.specs.Fits.{ArePaths, CopyHasPlace, IsStale}
 use Rattle.lr_laws_rotations.specs.Calls.{FitCalls, copy_calls}
 use Rattle.lr_laws_rotations.proofs.Alike.{afters}
 
@@ -17,7 +17,7 @@ module _ (job : Job) (paths : ArePaths job) (no_dir : job.part ≢ job.dir) wher
   abbrev behind : Job → Bool → List Entry
   behind j c = Makes j.part j.mode ∷ Reads j.from 0 [] ∷ Appends j.part [] ∷ SyncsFile j.part ∷ Renames j.part j.to ∷ SyncsDir j.dir ∷ cond c (Truncates j.from ∷ []) []
 
-  module _ (n : Names) (place : HasPlace job n) where
+  module _ (n : Names) (place : CopyHasPlace job n) where
     -- with the part file, and where that is renamed
     abbrev made : Names
     made = put n job.part (thing.File 0)
@@ -89,7 +89,7 @@ module _ (job : Job) (paths : ArePaths job) (no_dir : job.part ≢ job.dir) wher
   cleared_other : (n : Names) (y : Path) → y ≢ job.part → put n job.part thing.Nothing y ≡ n y
   cleared_other n y ne = put_other n job.part y thing.Nothing ne
 
-  cleared : (n : Names) → HasPlace job n → HasPlace job (put n job.part thing.Nothing)
+  cleared : (n : Names) → CopyHasPlace job n → CopyHasPlace job (put n job.part thing.Nothing)
   cleared n place =
       let to : put n job.part thing.Nothing job.to ≡ n job.to = cleared_other n job.to (λ e. paths.part_not_to (sym e)) in record {
         log = (place.log.0, cleared_other n job.from (λ e. paths.part_apart (sym e)) ∙ place.log.1);
@@ -98,24 +98,24 @@ module _ (job : Job) (paths : ArePaths job) (no_dir : job.part ≢ job.dir) wher
         no_other = λ is. place.no_other (sym to ∙ is);
       }
 
-  all_fit : (n : Names) → HasPlace job n → (b c : Bool) → (b ≡ true → IsFileAt n job.part) → FitCalls n (cond b (Unlinks job.part ∷ []) [] ++ behind job c)
+  all_fit : (n : Names) → CopyHasPlace job n → (b c : Bool) → (b ≡ true → IsFileAt n job.part) → FitCalls n (cond b (Unlinks job.part ∷ []) [] ++ behind job c)
   all_fit n place true c stale = (stale refl, behind_fits (put n job.part thing.Nothing) (cleared n place) c)
   all_fit n place false c stale = behind_fits n place c
 
-  all_other : (n : Names) → HasPlace job n → (b c : Bool) (y : Path) → y ≢ job.part → y ≢ job.to → afters n (cond b (Unlinks job.part ∷ []) [] ++ behind job c) y ≡ n y
+  all_other : (n : Names) → CopyHasPlace job n → (b c : Bool) (y : Path) → y ≢ job.part → y ≢ job.to → afters n (cond b (Unlinks job.part ∷ []) [] ++ behind job c) y ≡ n y
   all_other n place true c y ne ne_to = behind_other (put n job.part thing.Nothing) (cleared n place) c y ne ne_to ∙ cleared_other n y ne
   all_other n place false c y ne ne_to = behind_other n place c y ne ne_to
 
-  all_to : (n : Names) → HasPlace job n → (b c : Bool) → afters n (cond b (Unlinks job.part ∷ []) [] ++ behind job c) job.to ≡ thing.File 0
+  all_to : (n : Names) → CopyHasPlace job n → (b c : Bool) → afters n (cond b (Unlinks job.part ∷ []) [] ++ behind job c) job.to ≡ thing.File 0
   all_to n place true c = behind_to (put n job.part thing.Nothing) (cleared n place) c
   all_to n place false c = behind_to n place c
 
-  pub copy_fits : (n : Names) → HasPlace job n → IsStale job n → FitCalls n (copy_calls job)
+  pub copy_fits : (n : Names) → CopyHasPlace job n → IsStale job n → FitCalls n (copy_calls job)
   copy_fits n place stale = all_fit n place job.stale job.cut stale
 
   -- the final path has a file, and no other path but the part file's names something else
-  pub copied_to : (n : Names) → HasPlace job n → afters n (copy_calls job) job.to ≡ thing.File 0
+  pub copied_to : (n : Names) → CopyHasPlace job n → afters n (copy_calls job) job.to ≡ thing.File 0
   copied_to n place = all_to n place job.stale job.cut
 
-  pub copied_other : (n : Names) → HasPlace job n → (y : Path) → y ≢ job.part → y ≢ job.to → afters n (copy_calls job) y ≡ n y
+  pub copied_other : (n : Names) → CopyHasPlace job n → (y : Path) → y ≢ job.part → y ≢ job.to → afters n (copy_calls job) y ≡ n y
   copied_other n place y ne ne_to = all_other n place job.stale job.cut y ne ne_to

@@ -34,7 +34,7 @@ use Rattle.lr_chain.specs.DatedReady.{ranked, renamed, with_one, all_of}
 use Rattle.lr_family.proofs.Newness.{dated_small}
 use Rattle.lr_laws_family.specs.Shown.{SawFile, WasSeen, Shown}
 use Rattle.lr_laws_rotations.proofs.Aged.{old_goes}
-use Rattle.lr_laws_family.specs.Members.{IsNoMember, IsFamily, HasNone, AreThere}
+use Rattle.lr_laws_family.specs.Members.{IsNoMember, IsFamily, NoMemberHas, AreThere}
 use Rattle.lr_laws_family.proofs.Stood.{file_stands}
 use Rattle.lr_laws_rotations.proofs.Stamped.{day_of, next_free}
 use Rattle.lr_laws_rotations.proofs.DatedStands.{is_dated, stand_so, next_serial}
@@ -54,7 +54,7 @@ module _ (s : LogSet) (p q : Past) (es : List Entry) (log : Path) (maxage : Opti
   one_old m t k is other seen old g there = old_goes s p q es maxage m (stamp_key t k) made quiet attached rule (keyed s dated m.path t k is) seen old g
       (sym (moved_other (names (world q)) log target m.path (λ same. apart (inr (t, k, subst (IsDatedAt s.naming t k) same is))) other) ∙ there)
 
-  all_old : (ms : List Member) → AreNamed s.naming ms → HasNone ms target → All (WasSeen (reverse es)) ms → AreOld s q (moved log q target) (map (ranked maxage (world q).now) ms)
+  all_old : (ms : List Member) → AreNamed s.naming ms → NoMemberHas ms target → All (WasSeen (reverse es)) ms → AreOld s q (moved log q target) (map (ranked maxage (world q).now) ms)
   all_old [] d none seen = tt
   all_old (m ∷ ms) d none seen =
       let day = day_of s.naming (m ∷ ms) m (order_some s.naming.dated dated) d (inl refl) in (
@@ -94,5 +94,5 @@ one_behind clock s log on there_too c maxage members target serial p q es family
     there : AreThere s.naming (names (world q)) members
     there = set_stands s members p q es family journal attached made still shown
 
-    none : HasNone members target
+    none : NoMemberHas members target
     none = next_free s.naming family.format members shown.named t serial next target is

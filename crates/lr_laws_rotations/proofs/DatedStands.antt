@@ -25,7 +25,7 @@ use Rattle.lr_chain.specs.Serials.{IsNext}
 use Rattle.lr_chain.specs.DatedReady.{ranked, renamed, with_one, all_of}
 use Rattle.lr_chain.proofs.Newest.{one_in, IsStamp}
 use Rattle.lr_chain.proofs.DatedOrder.{all_fall, all_dated}
-use Rattle.lr_laws_family.specs.Members.{IsFamily, HasNone, AreThere}
+use Rattle.lr_laws_family.specs.Members.{IsFamily, NoMemberHas, AreThere}
 use Rattle.lr_laws_family.proofs.Picking.{IsThere, has_or_none, there_at}
 use Rattle.lr_laws_rotations.proofs.Stamped.{day_of, lower, next_free, stamped}
 
@@ -47,12 +47,12 @@ files_with n one (m ∷ ms) f fs = go (int_lt (key_of one) (key_of m)) (files_wi
     go false r = (f, fs)
 
 -- a member's file and the log's under its new name
-pub moved_files : (log : Path) (n : Naming) (m : Names) (members : List Member) (target : Path) (maxage : Option ℕ) (now t : ℤ) (serial : ℕ) → IsFamily log n → IsSome n.dated → IsFileAt m log → AreNamed n members → HasNone members target → All (IsThere m) members
+pub moved_files : (log : Path) (n : Naming) (m : Names) (members : List Member) (target : Path) (maxage : Option ℕ) (now t : ℤ) (serial : ℕ) → IsFamily log n → IsSome n.dated → IsFileAt m log → AreNamed n members → NoMemberHas members target → All (IsThere m) members
     → AreFiles (changed (Moves log target) m) (all_of maxage now t serial target members)
 moved_files log n m members target maxage now t serial family some file named none files =
     files_with (changed (Moves log target) m) (renamed t serial target) (map (ranked maxage now) members) (file.0, put_here (put m log thing.Nothing) target target (m log) refl ∙ file.1) (all members named none files)
   where
-    all : (ms : List Member) → AreNamed n ms → HasNone ms target → All (IsThere m) ms → AreFiles (changed (Moves log target) m) (map (ranked maxage now) ms)
+    all : (ms : List Member) → AreNamed n ms → NoMemberHas ms target → All (IsThere m) ms → AreFiles (changed (Moves log target) m) (map (ranked maxage now) ms)
     all [] d none files = tt
     all (y ∷ ys) d none files =
         let day = day_of n (y ∷ ys) y some d (inl refl) in
@@ -70,7 +70,7 @@ outside_with x one (m ∷ ms) o = go (int_lt (key_of one) (key_of m)) (outside_w
     go true further o = let r = further o.1 in (r.0, (o.0, r.1))
     go false further o = o
 
-pub outside_members : (maxage : Option ℕ) (now : ℤ) (x : Path) (ms : List Member) → IsOutside x (map (ranked maxage now) ms) → HasNone ms x
+pub outside_members : (maxage : Option ℕ) (now : ℤ) (x : Path) (ms : List Member) → IsOutside x (map (ranked maxage now) ms) → NoMemberHas ms x
 outside_members maxage now x [] o = tt
 outside_members maxage now x (m ∷ ms) o = (o.0, outside_members maxage now x ms o.1)
 
@@ -86,7 +86,7 @@ stand_so log n m members target maxage now t serial family file here next is = r
       moved_other m log target x (λ same. family.apart (inr (u, k, subst (IsDatedAt n u k) same at))) o.0 ∙ here.others x (inr (u, k, at)) (outside_members maxage now x members o.1);
 }
   where
-    none : HasNone members target
+    none : NoMemberHas members target
     none = next_free n family.format members here.named t serial next target is
 
 -- ---- the serial number that comes next
@@ -97,6 +97,6 @@ next_serial n m members t serial good here next = record {
   least = ⊎_elim (λ none. inl none) (λ h. let r = stamped n good members here.named t serial next h.0 (one_in (IsStamp t h.0) members h.2) in inr (r.0.path, h.0, h.1, r.2, there_at m members r.0 here.files r.1)) next.least;
 }
   where
-    above : (y : Path) (k : ℕ) → IsDatedAt n t k y → IsFileAt m y → ((v : Member) × IsIn v members × (v.path ≡ y)) ⊎ HasNone members y → k < serial
+    above : (y : Path) (k : ℕ) → IsDatedAt n t k y → IsFileAt m y → ((v : Member) × IsIn v members × (v.path ≡ y)) ⊎ NoMemberHas members y → k < serial
     above y k is f (inl h) = lower n good members here.named t serial next h.0 k y h.1 h.2 is
     above y k is f (inr none) = absurd (nothing_no_file (m y) f.0 (here.others y (inr (t, k, is)) none) f.1)

@@ -36,7 +36,7 @@ use Rattle.lr_chain.specs.DatedReady.{dated_target, all_by}
 use Rattle.lr_chain.specs.DatedRotation.{dated_rotation}
 use Rattle.lr_chain.specs.Hindrances.{what_hinders}
 use Rattle.lr_chain.specs.Prepared.{ready_of}
-use Rattle.lr_chain.specs.Ready.{IsCount, steps_of as all_steps}
+use Rattle.lr_chain.specs.Ready.{IsCount, ready_steps as all_steps}
 use Rattle.lr_chain.specs.Rotation.{places_of, going, rotation}
 use Rattle.lr_chain.specs.Serials.{next_serial}
 use Rattle.lr_chain.specs.Standing.{StandSo}
@@ -47,13 +47,13 @@ use Rattle.lr_chain.proofs.Going.{going_are}
 use Rattle.lr_chain.proofs.ReadyTurns.{steps_numbers as all_numbers, steps_by as all_dates, ready_fits}
 use Rattle.lr_chain.proofs.Serials.{is_next}
 use Rattle.lr_laws_family.specs.Members.{IsFamily, AreThere}
-use Rattle.lr_laws_family.specs.Numbered.{HasName, HaveNext}
+use Rattle.lr_laws_family.specs.Numbered.{HasName, HaveNextNames}
 use Rattle.lr_laws_family.specs.Shown.{SawFile, Shown}
 use Rattle.lr_laws_family.proofs.Directory.{parent_in}
 use Rattle.lr_laws_family.proofs.Numbers.{own_at, rising, names_of, member_at, at_number, stand_so, first_named}
 use Rattle.lr_laws_family.proofs.Picking.{named_all}
 use Rattle.lr_laws_family.proofs.Stood.{file_stands}
-use Rattle.lr_laws_rotations.specs.Steps.{steps_of}
+use Rattle.lr_laws_rotations.specs.Steps.{bare_steps}
 use Rattle.lr_laws_rotations.proofs.Aged.{may_go}
 use Rattle.lr_laws_rotations.proofs.DatedRotating.{one_behind}
 use Rattle.lr_laws_rotations.proofs.DatedRotation.{is_aside}
@@ -98,7 +98,7 @@ module _ (clock : Clock) (log : Path) (n : Naming) (c : Count) (maxage : Option 
   pub dated_there : (f : Format) → n.dated ≡ Some f → IsDatedAt n (clock_seconds n.dated clock) (next_serial stand.members (clock_seconds n.dated clock)) (dated_target n clock stand.members)
   dated_there f is = target_at n c clock stand free f is family.format named
 
-  pub next_places : n.dated ≡ None → HaveNext n c (places_of stand.members)
+  pub next_places : n.dated ≡ None → HaveNextNames n c (places_of stand.members)
   next_places none = have_next n c stand.members none start small named (sym (hinders_numbers n c clock stand none (free_there n c clock stand free)) ∙ free)
 
   -- ---- its steps fit
@@ -111,11 +111,11 @@ module _ (clock : Clock) (log : Path) (n : Naming) (c : Count) (maxage : Option 
       go None none = subst (λ (r : Ready). IsMember n r.target) (sym (ready_numbers log n c maxage clock anew members none)) (own_at n none 0 (first_named n c (places_of members) (next_places none)))
       go (Some f) is = subst (λ (r : Ready). IsMember n r.target) (sym (ready_dates log n c maxage clock anew members f is)) (inr (t, next_serial members t, dated_there f is))
 
-  fits : (m : Names) → IsFileAt m log → IsDirectoryAt m n.dir → AreThere n m stand.members → FitAll m (reverse (steps_of (ready_of log n c maxage clock anew stand.members)))
+  fits : (m : Names) → IsFileAt m log → IsDirectoryAt m n.dir → AreThere n m stand.members → FitAll m (reverse (bare_steps (ready_of log n c maxage clock anew stand.members)))
   fits m file dir there = subst (λ (es : List Entry). FitAll m (reverse es)) (same n.dated refl)
       (ready_fits log n c maxage clock anew members family.kin start small named (free_numbers n c clock stand free) family.format family.dir m (ap m (parent_in log n ready.target family target_member) ∙ dir) (go n.dated refl))
     where
-      same : (d : Option Format) → n.dated ≡ d → all_steps ready ≡ steps_of ready
+      same : (d : Option Format) → n.dated ≡ d → all_steps ready ≡ bare_steps ready
       same None none = all_numbers log n c maxage clock anew members none ∙ sym (steps_numbers log n c maxage clock anew members none)
       same (Some f) is = all_dates log n c maxage clock anew members f is ∙ sym (steps_dates log n c maxage clock anew members f is)
 
@@ -125,10 +125,10 @@ module _ (clock : Clock) (log : Path) (n : Naming) (c : Count) (maxage : Option 
 
   -- ---- they lie aside of sets that the log's doesn't meet
 
-  lies_apart : (s : LogSet) → (Meet s.log s.naming log n → ⊥) → Each (IsAside s) (steps_of (ready_of log n c maxage clock anew stand.members))
+  lies_apart : (s : LogSet) → (Meet s.log s.naming log n → ⊥) → Each (IsAside s) (bare_steps (ready_of log n c maxage clock anew stand.members))
   lies_apart s apart = go n.dated refl
     where
-      go : (d : Option Format) → n.dated ≡ d → Each (IsAside s) (steps_of ready)
+      go : (d : Option Format) → n.dated ≡ d → Each (IsAside s) (bare_steps ready)
       go None none = subst (Each (IsAside s)) (sym (steps_numbers log n c maxage clock anew members none))
           (lies_aside s log n none apart c (places_of members) (going c maxage clock.now.seconds members) (names_of n none members named) (next_places none) (gone_named n c maxage clock.now.seconds members none (next_places none)))
       go (Some f) is = subst (Each (IsAside s)) (sym (steps_dates log n c maxage clock anew members f is))
@@ -167,25 +167,25 @@ module _ (clock : Clock) (s : LogSet) (log : Path) (on : IsUnplaced s log) (ther
   by_dates forward f is = one_behind clock s log on there_too c maxage all (dated_target n clock all) (next_serial all (clock_seconds n.dated clock)) p q es family journal attached made quiet saw shown
       (is_next all (clock_seconds n.dated clock)) (dated_there clock log n c maxage anew stand there_too start small shown.named free f is) not_begun forward now_is rule
 
-  rotates : IsSafe s q → IsForwardFor clock s q → RotatesSet (steps_of (ready_of log s.naming c maxage clock anew stand.members)) s q
+  rotates : IsSafe s q → IsForwardFor clock s q → RotatesSet (bare_steps (ready_of log s.naming c maxage clock anew stand.members)) s q
   rotates safe forward = go n.dated refl
     where
-      go : (d : Option Format) → n.dated ≡ d → RotatesSet (steps_of (ready_of log n c maxage clock anew all)) s q
+      go : (d : Option Format) → n.dated ≡ d → RotatesSet (bare_steps (ready_of log n c maxage clock anew all)) s q
       go None none = inl (subst (λ (steps : List Entry). Rotates steps s q) (sym (steps_numbers log n c maxage clock anew all none)) (by_numbers safe none))
       go (Some f) is = inr (subst (λ (steps : List Entry). RotatesDated steps s q) (sym (steps_dates log n c maxage clock anew all f is)) (by_dates forward f is))
 
 -- ---- the laws
 
 pub family_fits : (clock : Clock) (m : Names) (log : Path) (n : Naming) (c : Count) (maxage : Option ℕ) (anew : Make) (stand : Stand) → IsFamily log n → n.start ≤ 999999 → IsCount c → IsFileAt m log → IsDirectoryAt m n.dir → AreThere n m stand.members → what_hinders n c clock stand ≡ []
-    → FitAll m (reverse (steps_of (ready_of log n c maxage clock anew stand.members)))
+    → FitAll m (reverse (bare_steps (ready_of log n c maxage clock anew stand.members)))
 family_fits clock m log n c maxage anew stand family start small file dir there free = fits clock log n c maxage anew stand family start small there.named free m file dir there
 
 pub family_is_one : (clock : Clock) (s : LogSet) (log : Path) → IsUnplaced s log → IsFamily log s.naming → (c : Count) (maxage : Option ℕ) (anew : Make) (stand : Stand) (p q : Past) (es : List Entry) → IsFamily s.log s.naming → s.naming.start ≤ 999999 → IsCount c → IsJournal p → NoneAttached s q → Made p es q → AreQuiet es
     → SawFile log (reverse es) → Shown s.naming stand.members (reverse es) → what_hinders s.naming c clock stand ≡ [] → has_begun s q ≡ false → IsSafe s q → IsForwardFor clock s q → (world q).now ≡ clock.now.seconds
-    → SomeRule (rules_of q) s.log (λ r. (r.count ≡ c) × (r.maxage ≡ maxage)) → RotatesSet (steps_of (ready_of log s.naming c maxage clock anew stand.members)) s q
+    → SomeRule (rules_of q) s.log (λ r. (r.count ≡ c) × (r.maxage ≡ maxage)) → RotatesSet (bare_steps (ready_of log s.naming c maxage clock anew stand.members)) s q
 family_is_one clock s log on there_too c maxage anew stand p q es family start small journal attached made quiet saw shown free not_begun safe forward now_is rule =
     rotates clock s log on there_too c maxage anew stand p q es family start small journal attached made quiet saw shown free not_begun now_is rule safe forward
 
 pub family_is_aside : (clock : Clock) (s : LogSet) (log : Path) (n : Naming) (c : Count) (maxage : Option ℕ) (anew : Make) (stand : Stand) → IsFamily log n → n.start ≤ 999999 → IsCount c → AreNamed n stand.members → what_hinders n c clock stand ≡ [] → (Meet s.log s.naming log n → ⊥)
-    → Each (IsAside s) (steps_of (ready_of log n c maxage clock anew stand.members))
+    → Each (IsAside s) (bare_steps (ready_of log n c maxage clock anew stand.members))
 family_is_aside clock s log n c maxage anew stand family start small named free apart = lies_apart clock log n c maxage anew stand family start small named free s apart

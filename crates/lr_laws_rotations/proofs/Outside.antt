@@ -16,7 +16,7 @@ use Rattle.lr_family.specs.Named.{member_name}
 use Rattle.lr_family.specs.Spots.{path_at}
 use Rattle.lr_family.proofs.Numbers.{Every, every_filter}
 use Rattle.lr_chain.specs.Rotation.{is_left, leftovers, kept, retired, unlink_at, move_at, leftover_steps, shift_steps, turn_steps, retire_steps, rotation}
-use Rattle.lr_laws_family.specs.Numbered.{HasName, HaveNext}
+use Rattle.lr_laws_family.specs.Numbered.{HasName, HaveNextNames}
 use Rattle.lr_laws_family.proofs.Numbers.{kept_next, first_named}
 
 -- the name of a place has a member's shape
@@ -48,7 +48,7 @@ module _ (s : LogSet) (log : Path) (n : Naming) (numbered : n.dated ≡ None) (a
   moves_aside [] i next = tt
   moves_aside (k ∷ ks) i next = ((place_out k i.0, place_out (k + 1) next.0), moves_aside ks i.1 next.1)
 
-  pub lies_aside : (c : Count) (places from : List ℕ) → Every (HasName n) places → HaveNext n c places → Every (HasName n) (retired c from) → Each (IsAside s) (rotation n c log places from)
+  pub lies_aside : (c : Count) (places from : List ℕ) → Every (HasName n) places → HaveNextNames n c places → Every (HasName n) (retired c from) → Each (IsAside s) (rotation n c log places from)
   lies_aside c places from named next gone =
       each_append (IsAside s) (leftover_steps n c places) (turn_steps n c log places ++ retire_steps n c from)
       (unlinks_aside (leftovers c places) (every_filter (HasName n) (is_left c) places named))

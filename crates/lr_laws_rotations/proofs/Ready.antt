@@ -13,12 +13,12 @@ use Rattle.lr_chain.specs.Ready.{IsCount}
 use Rattle.lr_chain.specs.Rotation.{places_of, is_left, going, retired}
 use Rattle.lr_chain.proofs.Bounds.{none_too_high, have_next as next_places}
 use Rattle.lr_chain.proofs.Retired.{every_retired}
-use Rattle.lr_laws_family.specs.Numbered.{HasName, HaveNext}
+use Rattle.lr_laws_family.specs.Numbered.{HasName, HaveNextNames}
 use Rattle.lr_laws_family.proofs.Numbers.{place_of, first_named, next_at}
 use Rattle.lr_laws_rotations.proofs.GoingMembers.{Goer, goer}
 
 -- each place that a member or the log comes to has a name
-pub have_next : (n : Naming) (c : Count) (members : List Member) → n.dated ≡ None → n.start ≤ 999999 → IsCount c → AreNamed n members → number_hindrances n c members ≡ [] → HaveNext n c (places_of members)
+pub have_next : (n : Naming) (c : Count) (members : List Member) → n.dated ≡ None → n.start ≤ 999999 → IsCount c → AreNamed n members → number_hindrances n c members ≡ [] → HaveNextNames n c (places_of members)
 have_next n (count.Keep k) members none start small named free = omega (arith, start, small)
 have_next n count.Always members none start small named free = (
   omega (arith, start),
@@ -26,7 +26,7 @@ have_next n count.Always members none start small named free = (
 )
 
 -- so does each place at which something goes behind the moves
-pub gone_named : (n : Naming) (c : Count) (maxage : Option ℕ) (now : ℤ) (members : List Member) → n.dated ≡ None → HaveNext n c (places_of members) → Every (HasName n) (retired c (going c maxage now members))
+pub gone_named : (n : Naming) (c : Count) (maxage : Option ℕ) (now : ℤ) (members : List Member) → n.dated ≡ None → HaveNextNames n c (places_of members) → Every (HasName n) (retired c (going c maxage now members))
 gone_named n c maxage now members none next = every_retired (HasName n) c (going c maxage now members) (every_from (λ k. HasName n (suc k)) (going c maxage now members) behind) (λ e. first_named n c (places_of members) next)
   where
     behind : (k : ℕ) → Contains (going c maxage now members) k → HasName n (suc k)

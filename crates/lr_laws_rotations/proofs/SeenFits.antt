@@ -30,12 +30,12 @@ use Rattle.lr_family.proofs.Shown.{not_none}
 use Rattle.lr_chain.specs.Hindrances.{what_hinders}
 use Rattle.lr_chain.specs.Prepared.{ready_of}
 use Rattle.lr_chain.specs.Ready.{IsCount}
-use Rattle.lr_laws_family.specs.Members.{IsFamily, HasNone, AreThere}
+use Rattle.lr_laws_family.specs.Members.{IsFamily, NoMemberHas, AreThere}
 use Rattle.lr_laws_family.specs.Shown.{SawFile, SawDir, WasSeen, IsUnseen, unlisted, gone, no_dir, Shown}
 use Rattle.lr_laws_family.proofs.Directory.{member_in}
 use Rattle.lr_laws_family.proofs.Picking.{IsThere}
 use Rattle.lr_laws_family.proofs.Stood.{file_stands}
-use Rattle.lr_laws_rotations.specs.Steps.{steps_of}
+use Rattle.lr_laws_rotations.specs.Steps.{bare_steps}
 use Rattle.lr_laws_rotations.proofs.Families.{family_fits}
 
 -- ---- names in between: those of later at some paths, those of before at all others
@@ -88,9 +88,9 @@ between_more xs n n' more y = ⊎_elim (λ e. inl (sym e)) (λ e. ⊎_elim (λ s
 -- ---- the rotation
 
 pub seen_fits : (clock : Clock) (log : Path) (n : Naming) (c : Count) (maxage : Option ℕ) (anew : Make) (stand : Stand) (p q : Past) (es : List Entry) → IsFamily log n → n.start ≤ 999999 → IsCount c → Made p es q → ChangeNothing es
-    → SawFile log (reverse es) → SawDir n.dir (reverse es) → Shown n stand.members (reverse es) → what_hinders n c clock stand ≡ [] → FitAll (names (world q)) (reverse (steps_of (ready_of log n c maxage clock anew stand.members)))
+    → SawFile log (reverse es) → SawDir n.dir (reverse es) → Shown n stand.members (reverse es) → what_hinders n c clock stand ≡ [] → FitAll (names (world q)) (reverse (bare_steps (ready_of log n c maxage clock anew stand.members)))
 seen_fits clock log n c maxage anew stand p q es family start small made still saw saw_dir shown free =
-    fit_more mid (names (world q)) (reverse (steps_of (ready_of log n c maxage clock anew stand.members))) (between_more paths (names (world p)) (names (world q)) (quiet_more IsAny p q (made_quiet IsAny p q es any made still)))
+    fit_more mid (names (world q)) (reverse (bare_steps (ready_of log n c maxage clock anew stand.members))) (between_more paths (names (world p)) (names (world q)) (quiet_more IsAny p q (made_quiet IsAny p q es any made still)))
     (family_fits clock mid log n c maxage anew stand family start small (at_path log (inl refl) (file_stands p q es made still log saw)) dir there free)
   where
     any : AttachedOnlySince IsAny p q
@@ -130,7 +130,7 @@ seen_fits clock log n c maxage anew stand p q es family start small made still s
         let h = All-head (WasSeen (reverse es)) m ms seen in
         All-cons (IsThere mid) m ms (at_path m.path (on m (inl refl)) (file_stands p q es made still m.path (m.seen, h.0, h.1))) (files ms (λ y i. on y (inr i)) (All-tail (WasSeen (reverse es)) m ms seen))
 
-    other : (x : Path) → IsMember n x → HasNone stand.members x → IsIn x paths → ⊥
+    other : (x : Path) → IsMember n x → NoMemberHas stand.members x → IsIn x paths → ⊥
     other x is out (inl e) = family.apart (subst (IsMember n) (sym e) is)
     other x is out (inr h) = let r = in_unmap (λ (m : Member). m.path) x stand.members h in not_none x r.0 stand.members out r.1 r.2
 

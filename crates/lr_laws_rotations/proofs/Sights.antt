@@ -18,7 +18,7 @@ use Rattle.lr_family.proofs.Shown.{not_none}
 use Rattle.lr_family.proofs.Unique.{joined_same}
 use Rattle.lr_chain.specs.Rotation.{places_of}
 use Rattle.lr_laws_rotations.proofs.Places as places
-use Rattle.lr_laws_family.specs.Members.{HasNone}
+use Rattle.lr_laws_family.specs.Members.{NoMemberHas}
 use Rattle.lr_laws_family.specs.Shown.{WasSeen, IsUnseen, unlisted, gone, no_dir, Shown}
 use Rattle.lr_laws_family.proofs.Picking.{named_all}
 use Rattle.lr_laws_family.proofs.Numbers.{at_number, member_at}
@@ -26,7 +26,7 @@ use Rattle.lr_laws_family.proofs.Numbers.{at_number, member_at}
 module _ (n : Naming) (none : n.dated ≡ None) where
   -- what is known of the members by their places, and of each that a look saw it, is what looks show of a family
   module _ (members : List Member) (ts : List Entry) (named : AreNamed n members) (old : places.Shown n (places_of members) ts) where
-    unseen : (x : Path) → IsMember n x → HasNone members x → IsUnseen n.dir x ts
+    unseen : (x : Path) → IsMember n x → NoMemberHas members x → IsUnseen n.dir x ts
     unseen x is out = by_old (old.others k.0 k.1.bound absent)
       where
         numbered : IsMember n x → (place : ℕ) × IsMemberAt n place x

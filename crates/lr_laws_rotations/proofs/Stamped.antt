@@ -16,7 +16,7 @@ use Rattle.lr_family.specs.Places.{IsPlaceOf, AreNamed}
 use Rattle.lr_family.proofs.Placed.{some_dated, no_number}
 use Rattle.lr_chain.specs.Serials.{IsNext}
 use Rattle.lr_chain.proofs.Newest.{HasOne, IsStamp, any_in}
-use Rattle.lr_laws_family.specs.Members.{HasNone}
+use Rattle.lr_laws_family.specs.Members.{NoMemberHas}
 use Rattle.lr_laws_family.proofs.Picking.{has_or_none}
 
 -- a member with this place has the path of a stamp and a serial number
@@ -48,10 +48,10 @@ module _ (n : Naming) (good : or_none is_format n.dated ≡ true) (ms : List Mem
       next.above k (any_in (IsStamp t k) ms (one_of (IsStamp t k) ms m i (d.2 ∙ (ap (λ (u : ℤ). at.Stamp u d.1) s.0 ∙ ap (at.Stamp t) s.1))))
 
   -- none has the path of the serial number that comes next
-  pub next_free : (x : Path) → IsDatedAt n t serial x → HasNone ms x
+  pub next_free : (x : Path) → IsDatedAt n t serial x → NoMemberHas ms x
   next_free x is = go (has_or_none x ms)
     where
-      go : ((m : Member) × IsIn m ms × (m.path ≡ x)) ⊎ HasNone ms x → HasNone ms x
+      go : ((m : Member) × IsIn m ms × (m.path ≡ x)) ⊎ NoMemberHas ms x → NoMemberHas ms x
       go (inl h) = let lt = lower h.0 serial x h.1 h.2 is in absurd (omega (arith, lt))
       go (inr none) = none
 

@@ -17,7 +17,7 @@ use Rattle.lr_chain.specs.Ready.{removal_at, move_from, move_step}
 use Rattle.lr_chain.specs.Rotation.{places_of, going, leftovers, kept, retired, unlink_at, move_at, rotation}
 use Rattle.lr_chain.proofs.DatedSteps.{map_reverse}
 use Rattle.lr_chain.proofs.Either.{ready_numbers, ready_dates}
-use Rattle.lr_laws_rotations.specs.Steps.{unlinks, steps_of}
+use Rattle.lr_laws_rotations.specs.Steps.{unlinks, bare_steps}
 
 pub unlinks_at : (n : Naming) (ks : List ℕ) → unlinks (map (removal_at n) ks) ≡ map (unlink_at n) ks
 unlinks_at n [] = refl
@@ -28,7 +28,7 @@ moves_at n [] = refl
 moves_at n (k ∷ ks) = ap (λ (es : List Entry). move_at n k ∷ es) (moves_at n ks)
 
 numbered_steps : (log : Path) (n : Naming) (c : Count) (maxage : Option ℕ) (now : ℤ) (anew : Make) (members : List Member)
-    → steps_of (numbered_ready log n c maxage now anew members) ≡ rotation n c log (places_of members) (going c maxage now members)
+    → bare_steps (numbered_ready log n c maxage now anew members) ≡ rotation n c log (places_of members) (going c maxage now members)
 numbered_steps log n c maxage now anew members = all (unlinks_at n (leftovers c ks)) (moves_at n (kept c ks)) (unlinks_at n (retired c from))
   where
     ks : List ℕ
@@ -49,15 +49,15 @@ unlinks_of [] = refl
 unlinks_of (x ∷ xs) = ap (λ (es : List Entry). unlink x ∷ es) (unlinks_of xs)
 
 dated_steps : (log : Path) (n : Naming) (c : Count) (maxage : Option ℕ) (clock : Clock) (anew : Make) (members : List Member)
-    → steps_of (dated_ready log n c maxage clock anew members) ≡ dated_rotation c log (dated_target n clock members) (all_by n maxage clock members)
+    → bare_steps (dated_ready log n c maxage clock anew members) ≡ dated_rotation c log (dated_target n clock members) (all_by n maxage clock members)
 dated_steps log n c maxage clock anew members = ap (λ (es : List Entry). Renames log (dated_target n clock members) ∷ es) (unlinks_of (reverse g) ∙ map_reverse unlink g)
   where
     g : List Ranked
     g = gone c 0 (all_by n maxage clock members)
 
 module _ (log : Path) (n : Naming) (c : Count) (maxage : Option ℕ) (clock : Clock) (anew : Make) (members : List Member) where
-  pub steps_numbers : n.dated ≡ None → steps_of (ready_of log n c maxage clock anew members) ≡ rotation n c log (places_of members) (going c maxage clock.now.seconds members)
-  steps_numbers none = ap steps_of (ready_numbers log n c maxage clock anew members none) ∙ numbered_steps log n c maxage clock.now.seconds anew members
+  pub steps_numbers : n.dated ≡ None → bare_steps (ready_of log n c maxage clock anew members) ≡ rotation n c log (places_of members) (going c maxage clock.now.seconds members)
+  steps_numbers none = ap bare_steps (ready_numbers log n c maxage clock anew members none) ∙ numbered_steps log n c maxage clock.now.seconds anew members
 
-  pub steps_dates : (f : Format) → n.dated ≡ Some f → steps_of (ready_of log n c maxage clock anew members) ≡ dated_rotation c log (dated_target n clock members) (all_by n maxage clock members)
-  steps_dates f is = ap steps_of (ready_dates log n c maxage clock anew members f is) ∙ dated_steps log n c maxage clock anew members
+  pub steps_dates : (f : Format) → n.dated ≡ Some f → bare_steps (ready_of log n c maxage clock anew members) ≡ dated_rotation c log (dated_target n clock members) (all_by n maxage clock members)
+  steps_dates f is = ap bare_steps (ready_dates log n c maxage clock anew members f is) ∙ dated_steps log n c maxage clock anew members

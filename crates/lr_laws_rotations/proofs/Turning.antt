@@ -28,7 +28,7 @@ use Rattle.lr_chain.specs.Standing.{AreGoing}
 use Rattle.lr_chain.proofs.Falling.{falls_all}
 use Rattle.lr_chain.proofs.Turned.{run, Renamed, renamed_so, stays_below}
 use Rattle.lr_laws_rotations.proofs.Places.{IsFamily, AreThere, MayGo}
-use Rattle.lr_laws_family.specs.Numbered.{HasName, HaveNext}
+use Rattle.lr_laws_family.specs.Numbered.{HasName, HaveNextNames}
 use Rattle.lr_laws_rotations.proofs.Fitting.{Before, unlinked, moved, move_free, log_free, after_one, left_apart, so_standing, above_all, all_below, at_start}
 use Rattle.lr_laws_family.proofs.Numbers.{kept_next, first_named, top_named, next_named, next_at}
 
@@ -143,7 +143,7 @@ module _ (s : LogSet) (p : Past) (log : Path) (on : IsUnplaced s log) (family : 
 
   -- ---- the whole
 
-  module _ (places from : List ℕ) (f : IsFileAt (names (world p)) log) (t : AreThere s.naming (names (world p)) places) (next : HaveNext s.naming c places) (going : AreGoing c places from) (may : MayGo s p c from) where
+  module _ (places from : List ℕ) (f : IsFileAt (names (world p)) log) (t : AreThere s.naming (names (world p)) places) (next : HaveNextNames s.naming c places) (going : AreGoing c places from) (may : MayGo s p c from) where
     falls : Falls places
     falls = falls_all places t.falling
 
@@ -188,7 +188,7 @@ module _ (s : LogSet) (p : Past) (log : Path) (on : IsUnplaced s log) (family : 
         (turns_both s p above_all before (leftover_steps s.naming c places ++ turn_steps s.naming c log places) (retire_steps s.naming c from) turn
         (λ l. retires_turn before behind l from first (falls_all from going.falling) (every_from (HasCome before behind) from came) (every_from (MayLeave before) from may)))))
 
-pub is_one : (s : LogSet) (p : Past) (log : Path) → IsUnplaced s log → (c : Count) (places from : List ℕ) → IsFamily log s.naming → IsFileAt (names (world p)) log → AreThere s.naming (names (world p)) places → HaveNext s.naming c places → AreGoing c places from → MayGo s p c from
+pub is_one : (s : LogSet) (p : Past) (log : Path) → IsUnplaced s log → (c : Count) (places from : List ℕ) → IsFamily log s.naming → IsFileAt (names (world p)) log → AreThere s.naming (names (world p)) places → HaveNextNames s.naming c places → AreGoing c places from → MayGo s p c from
     → has_begun s p ≡ false → IsSafe s p → SomeRule (rules_of p) s.log (λ r. r.count ≡ c) → Rotates (rotation s.naming c log places from) s p
 is_one s p log on c places from family f t next going may not_begun safe rule = record {
   numbered = numbered s family;

@@ -12,5 +12,5 @@ unlinks removals = map (λ r. Unlinks r.path) removals
 
 -- The steps of the rotation, in order: the leftovers are unlinked, the members are moved, the log comes to its target, and those
 -- are unlinked that go behind that.
-abbrev pub steps_of : Ready → List Entry
-steps_of ready = unlinks ready.leftovers ++ (shift_of ready ++ Renames ready.log ready.target ∷ unlinks ready.retire)
+abbrev pub bare_steps : Ready → List Entry
+bare_steps ready = unlinks ready.leftovers ++ (shift_of ready ++ Renames ready.log ready.target ∷ unlinks ready.retire)

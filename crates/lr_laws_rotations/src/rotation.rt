@@ -25,7 +25,7 @@ ghost use Rattle.lr_chain.specs.Prepared.{ready_of};
 ghost use Rattle.lr_chain.specs.Ready.{IsCount};
 ghost use Rattle.lr_laws_family.specs.Members.{IsFamily};
 ghost use Rattle.lr_laws_family.specs.Shown.{SawFile, Shown};
-ghost use Rattle.lr_laws_rotations.specs.Steps.{steps_of};
+ghost use Rattle.lr_laws_rotations.specs.Steps.{bare_steps};
 
 /// Behind looks of a run that saw the log and its members, where the run has begun no rotation of the set, nothing hinders
 /// one, and no writer was attached to a member, they are those of one rotation of the set; of dates where the set's moments
@@ -38,12 +38,12 @@ pub fn rotation_is_one()
         → SawFile log (reverse es) → Shown s.naming stand.members (reverse es)
         → what_hinders s.naming c clock stand ≡ [] → has_begun s q ≡ false → IsSafe s q → IsForwardFor clock s q
         → (world q).now ≡ clock.now.seconds → SomeRule (rules_of q) s.log (λ r. (r.count ≡ c) × (r.maxage ≡ maxage))
-        → RotatesSet (steps_of (ready_of log s.naming c maxage clock anew stand.members)) s q }
+        → RotatesSet (bare_steps (ready_of log s.naming c maxage clock anew stand.members)) s q }
 {}
 
 /// They lie aside of each set that the log's doesn't meet.
 pub fn rotation_is_aside()
     ensures { (clock : Clock) (s : LogSet) (log : Path) (n : Naming) (c : Count) (maxage : Option ℕ) (anew : Make) (stand : Stand)
         → IsFamily log n → n.start ≤ 999999 → IsCount c → AreNamed n stand.members → what_hinders n c clock stand ≡ []
-        → (Meet s.log s.naming log n → ⊥) → Each (IsAside s) (steps_of (ready_of log n c maxage clock anew stand.members)) }
+        → (Meet s.log s.naming log n → ⊥) → Each (IsAside s) (bare_steps (ready_of log n c maxage clock anew stand.members)) }
 {}

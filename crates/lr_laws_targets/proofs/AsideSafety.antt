@@ -59,15 +59,15 @@ use Rattle.lr_laws_family.specs.Beside.{MakesAt}
 use Rattle.lr_laws_family.specs.Members.{IsNoMember}
 use Rattle.lr_laws_family.specs.Weave.{Weave, FirstWoven}
 use Rattle.lr_laws_family.proofs.Weaving.{weave_back}
-use Rattle.lr_laws_rotations.specs.Steps.{unlinks, steps_of}
+use Rattle.lr_laws_rotations.specs.Steps.{unlinks, bare_steps}
 use Rattle.lr_laws_rotations.proofs.Behind.{ahead_of, HasCopy, MayRetire, retires_behind}
 use Rattle.lr_laws_rotations.proofs.LogFitting.{IsNoRename, log_fits_on}
 use Rattle.lr_laws_rotations.proofs.SetMembers.{keyless_no_member}
 use Rattle.lr_laws_rotations.proofs.Weaving.{IsApart, IsApartOrMakes, apart_alike, IsWoven, woven, keyed, logged}
 use Rattle.lr_laws_targets.specs.Apart.{HasNames}
-use Rattle.lr_laws_targets.specs.Rotation.{paths_in}
+use Rattle.lr_laws_targets.specs.Rotation.{removal_paths}
 use Rattle.lr_laws_targets.specs.Seen.{IsLogSeen}
-use Rattle.lr_laws_targets.specs.Target.{Target, IsSetAside, transfer_of, rotation_of}
+use Rattle.lr_laws_targets.specs.Target.{Target, IsTargetAside, transfer_of, target_entries}
 use Rattle.lr_laws_targets.proofs.DatedWeaving.{IsDatedWoven, dated_woven, turned_filter, rotation_filter as dated_filter, later_rotation as later_dated}
 use Rattle.lr_laws_targets.proofs.Given.{journal_before}
 use Rattle.lr_laws_targets.proofs.LogSeen.{any_names}
@@ -127,16 +127,16 @@ module _ (s : LogSet) (x : Path) (a : IsAsideOf s x) where
 
   -- the steps of members
   module _ (n : Naming) (away : IsNoMember n x) (out : IsMember n s.log → ⊥) where
-    unlinks_leave : (rs : List Removal) → All (IsMember n) (paths_in rs) → Each (LeavesWaiting s x) (unlinks rs)
+    unlinks_leave : (rs : List Removal) → All (IsMember n) (removal_paths rs) → Each (LeavesWaiting s x) (unlinks rs)
     unlinks_leave [] all = tt
     unlinks_leave (r ∷ rs) all = (
       record {
         to_log = λ none. none;
         gives = tt;
         no_rename = λ to is. cc;
-        leaves = λ es m. put_other (names_after m (changes_of es)) r.path x thing.Nothing (λ same. away (subst (IsMember n) (sym same) (All-head (IsMember n) r.path (paths_in rs) all)));
+        leaves = λ es m. put_other (names_after m (changes_of es)) r.path x thing.Nothing (λ same. away (subst (IsMember n) (sym same) (All-head (IsMember n) r.path (removal_paths rs) all)));
       },
-      unlinks_leave rs (All-tail (IsMember n) r.path (paths_in rs) all),
+      unlinks_leave rs (All-tail (IsMember n) r.path (removal_paths rs) all),
     )
 
     abbrev MovesMember : Move → Type 0
@@ -183,7 +183,7 @@ record AtTurn (s : LogSet) (v : Past) (ahead : List Entry) (target : Path) (q : 
 -- ---- the set's own log
 
 module _ (clock : Clock) (way : Way) (s : LogSet) (state : Path) (rules : Rules) (u v : Past) (looks : List Entry) (quiet : AreQuiet looks) (made : Made u (reverse looks) v) (here : Here way s state clock.now.seconds rules v) (none_at : NoneAttached s v) (forward : IsForwardFor clock s v)
-    (t : Target) (seen : IsLogSeen rules clock looks t) (same : t.log ≡ s.log) (naming : s.naming ≡ t.naming) (asked : t.naming.aside ≡ true) (a : IsSetAside t) (rule : SomeRule (rules_of v) s.log (λ r. (r.count ≡ t.count) × (r.maxage ≡ t.maxage))) where
+    (t : Target) (seen : IsLogSeen rules clock looks t) (same : t.log ≡ s.log) (naming : s.naming ≡ t.naming) (asked : t.naming.aside ≡ true) (a : IsTargetAside t) (rule : SomeRule (rules_of v) s.log (λ r. (r.count ≡ t.count) × (r.maxage ≡ t.maxage))) where
   abbrev W : Entry → Type 0
   W = IsApartOrMakes s
 
@@ -200,7 +200,7 @@ module _ (clock : Clock) (way : Way) (s : LogSet) (state : Path) (rules : Rules)
   abbrev names_are : HasNames t
   names_are = any_names rules clock looks t seen
 
-  straight_one : RotatesSet (steps_of t.ready) s v
+  straight_one : RotatesSet (bare_steps t.ready) s v
   straight_one = owns.one clock way s state rules u v looks quiet made here none_at forward t seen same naming (inl at_log) rule
 
   abbrev target : Path
@@ -223,7 +223,7 @@ module _ (clock : Clock) (way : Way) (s : LogSet) (state : Path) (rules : Rules)
   abbrev behind : List Entry
   behind = Unlinks waits ∷ unlinks t.ready.retire
 
-  steps_are : rotation_of t ≡ ahead ++ (aside_step ∷ (clearing job ++ (copy_step ∷ behind)))
+  steps_are : target_entries t ≡ ahead ++ (aside_step ∷ (clearing job ++ (copy_step ∷ behind)))
   steps_are =
       ap (λ (j : Option Job). unlinks t.ready.leftovers ++ (map move_step t.ready.moves ++ (transfer_of t.ready j t.aside ++ unlinks t.ready.retire))) a.job_is
       ∙ (ap (λ (o : Option Path). unlinks t.ready.leftovers ++ (map move_step t.ready.moves ++ (transfer_of t.ready (Some job) o ++ unlinks t.ready.retire))) (a.aside_is ∙ ap (λ (x : Path). Some (aside_path x)) same)
@@ -231,10 +231,10 @@ module _ (clock : Clock) (way : Way) (s : LogSet) (state : Path) (rules : Rules)
       ∙ sym (append_assoc (unlinks t.ready.leftovers) (map move_step t.ready.moves) (aside_step ∷ (clearing job ++ (copy_step ∷ behind))))))
 
   -- those of the log's rename in their place
-  straight_steps : steps_of t.ready ≡ ahead ++ (Renames t.ready.log target ∷ unlinks t.ready.retire)
+  straight_steps : bare_steps t.ready ≡ ahead ++ (Renames t.ready.log target ∷ unlinks t.ready.retire)
   straight_steps = sym (append_assoc (unlinks t.ready.leftovers) (map move_step t.ready.moves) (Renames t.ready.log target ∷ unlinks t.ready.retire))
 
-  straight_back : reverse (steps_of t.ready) ≡ reverse (unlinks t.ready.retire) ++ (Renames t.ready.log target ∷ reverse ahead)
+  straight_back : reverse (bare_steps t.ready) ≡ reverse (unlinks t.ready.retire) ++ (Renames t.ready.log target ∷ reverse ahead)
   straight_back = ap reverse straight_steps ∙ (reverse-append ahead (Renames t.ready.log target ∷ unlinks t.ready.retire)
       ∙ (ap (λ (es : List Entry). es ++ reverse ahead) (reverse-append (Renames t.ready.log target ∷ []) (unlinks t.ready.retire)) ∙ append_assoc (reverse (unlinks t.ready.retire)) (Renames t.ready.log target ∷ []) (reverse ahead)))
 
@@ -305,7 +305,7 @@ module _ (clock : Clock) (way : Way) (s : LogSet) (state : Path) (rules : Rules)
     turn_key newest n (put_aside is out) = absurd (target_no_aside out)
     turn_key newest n (taken_up out is key) = key
 
-    by_numbers : Rotates (steps_of t.ready) s v → AtTurn s v ahead target q
+    by_numbers : Rotates (bare_steps t.ready) s v → AtTurn s v ahead target q
     by_numbers r = go rot.1
       where
         rot : IsRotation s v r.limit (Renames t.ready.log target ∷ reverse ahead)
@@ -328,7 +328,7 @@ module _ (clock : Clock) (way : Way) (s : LogSet) (state : Path) (rules : Rules)
         go (inr (free, inl (place, lt, from_key, to_key))) = absurd (member_apart s t.ready.log (pos place) from_key at_log)
         go (inr (free, inr turn)) = there free (turn_key (pos 0) (names_after (names (world v)) (changes_of (reverse ahead))) turn)
 
-    by_dates : RotatesDated (steps_of t.ready) s v → AtTurn s v ahead target q
+    by_dates : RotatesDated (bare_steps t.ready) s v → AtTurn s v ahead target q
     by_dates r = go rot.1
       where
         rot : IsDatedRotationBy s v r.newest false (Renames t.ready.log target ∷ reverse ahead)
@@ -391,14 +391,14 @@ module _ (clock : Clock) (way : Way) (s : LogSet) (state : Path) (rules : Rules)
   -- ---- all
 
   -- a first part of those before it is one of the steps of its rename
-  ahead_first : (all : List Entry) → FirstWoven W ahead all → FirstWoven W (steps_of t.ready) all
+  ahead_first : (all : List Entry) → FirstWoven W ahead all → FirstWoven W (bare_steps t.ready) all
   ahead_first all f = record {
     made = f.made;
     first = (f.first.0 ++ (Renames t.ready.log target ∷ unlinks t.ready.retire), straight_steps ∙ (ap (λ (es : List Entry). es ++ (Renames t.ready.log target ∷ unlinks t.ready.retire)) f.first.1 ∙ append_assoc f.made f.first.0 (Renames t.ready.log target ∷ unlinks t.ready.retire)));
     woven = f.woven;
   }
 
-  pub aside_safe : (acts : List Entry) (q : Past) → FirstWoven W (rotation_of t) (filter is_change acts) → Made v (reverse acts) q → NoneAttached s q → IsSafe s q
+  pub aside_safe : (acts : List Entry) (q : Past) → FirstWoven W (target_entries t) (filter is_change acts) → Made v (reverse acts) q → NoneAttached s q → IsSafe s q
   aside_safe acts q w all_made none_q = set_aside (first_split W ahead aside_step (clearing job ++ (copy_step ∷ behind)) (filter is_change acts) (subst (λ (steps : List Entry). FirstWoven W steps (filter is_change acts)) steps_are w))
     where
       -- behind the copy's rename

@@ -15,13 +15,13 @@ use Rattle.lr_host.proofs.Lists.{in_append}
 use Rattle.lr_laws.specs.Follow.{changed_paths}
 use Rattle.lr_laws.proofs.Outside.{in_reach_own, no_name_elsewhere, apart_outside}
 use Rattle.lr_copy.specs.declared.job.Job.{Job}
-use Rattle.lr_laws_targets.specs.AllTurns.{IsStatePath, IsOfState, IsItsDir, AlsoDoes, IsOf, IsOfOther, StandsBetween, part_paths, dir_paths, paths_of, paths_of_others, other_paths}
+use Rattle.lr_laws_targets.specs.AllTurns.{IsStatePath, IsOfState, IsItsDir, AlsoDoes, IsOf, IsOfOther, StandsBetween, job_part_paths, dir_paths, target_paths, paths_of_others, other_paths}
 use Rattle.lr_laws_family.specs.Members.{IsNoMember}
-use Rattle.lr_laws_targets.specs.Target.{Target, HasDir, rotation_of}
+use Rattle.lr_laws_targets.specs.Target.{Target, HasDir, target_entries}
 use Rattle.lr_laws_targets.proofs.Others.{IsFileChange, own_turns, no_job}
 use Rattle.lr_laws_targets.specs.BesideSets.{LiesBeside, IsBesideSet}
 use Rattle.lr_laws_targets.specs.Own.{ChangesNames, LieOutside}
-use Rattle.lr_laws_targets.specs.Apart.{HasNames, HaveNames}
+use Rattle.lr_laws_targets.specs.Apart.{HasNames, TargetsHaveNames}
 use Rattle.lr_laws_targets.proofs.Own.{member_own, any_change}
 
 -- ---- beside a set
@@ -86,12 +86,12 @@ module _ (s : LogSet) (state : Path) (no_state : IsName s.log s.naming state →
   state_beside (entry.Unlinks x) h = (state_out x h, tt)
   state_beside _ h = absurd h
 
-  others_beside : (ts : List Target) → HaveNames ts → ((x : Target) → IsIn x ts → x.log ≢ s.log → Meet s.log s.naming x.log x.naming → ⊥) → (e : Entry) → IsOfOther s.log ts e → LiesBeside s e
+  others_beside : (ts : List Target) → TargetsHaveNames ts → ((x : Target) → IsIn x ts → x.log ≢ s.log → Meet s.log s.naming x.log x.naming → ⊥) → (e : Entry) → IsOfOther s.log ts e → LiesBeside s e
   others_beside [] h apart e i = absurd i
   others_beside (t ∷ ts) h apart e (inl i) = any_beside s t e h.0 (apart t (inl refl) i.0) i.1
   others_beside (t ∷ ts) h apart e (inr i) = others_beside ts h.1 (λ x j. apart x (inr j)) e i
 
-  pub between_beside : (t : Target) (ts : List Target) (e : Entry) → t.log ≡ s.log → t.naming ≡ s.naming → HasDir t → CopiesOutside s t → HaveNames ts → ((x : Target) → IsIn x ts → x.log ≢ s.log → Meet s.log s.naming x.log x.naming → ⊥) → StandsBetween state t ts e → IsBesideSet s e
+  pub between_beside : (t : Target) (ts : List Target) (e : Entry) → t.log ≡ s.log → t.naming ≡ s.naming → HasDir t → CopiesOutside s t → TargetsHaveNames ts → ((x : Target) → IsIn x ts → x.log ≢ s.log → Meet s.log s.naming x.log x.naming → ⊥) → StandsBetween state t ts e → IsBesideSet s e
   between_beside t ts e same naming_is dir out h apart (inl o) = inl (others_beside ts h apart e (subst (λ (x : Path). IsOfOther x ts e) same o))
   between_beside t ts e same naming_is dir out h apart (inr (inl o)) = inl (state_beside e o)
   between_beside t ts e same naming_is dir out h apart (inr (inr also)) = also_beside s t e same naming_is dir out also
@@ -103,9 +103,9 @@ in_flat log n [] x own i = absurd i
 in_flat log n (e ∷ es) x own i = ⊎_elim (λ j. own e (inl refl) x j) (λ j. in_flat log n es x (λ d k. own d (inr k)) j) (in_append x (changed_paths e) (flat_map changed_paths es) i)
 
 -- all paths of a rotation are names of its set
-in_names : (t : Target) → HasNames t → (x : Path) → IsIn x (paths_of t) → IsName t.log t.naming x
+in_names : (t : Target) → HasNames t → (x : Path) → IsIn x (target_paths t) → IsName t.log t.naming x
 in_names t h x (inl is) = inl (the_log (sym is))
-in_names t h x (inr i) = ⊎_elim (part t.job refl) behind (in_append x (part_paths t.job) (dir_paths t.ready.dir ++ flat_map changed_paths (rotation_of t)) i)
+in_names t h x (inr i) = ⊎_elim (part t.job refl) behind (in_append x (job_part_paths t.job) (dir_paths t.ready.dir ++ flat_map changed_paths (target_entries t)) i)
   where
     -- the directory is one that the rotation makes
     dir : (o : Option (Path × Option ℕ)) → t.ready.dir ≡ o → IsIn x (dir_paths o) → IsName t.log t.naming x
@@ -113,11 +113,11 @@ in_names t h x (inr i) = ⊎_elim (part t.job refl) behind (in_append x (part_pa
     dir (Some (y, mode)) is (inl same) = any_change t (entry.MakesDir y mode) h (inr (mode, is)) x (inl same)
     dir (Some (y, mode)) is (inr none) = absurd none
 
-    behind : IsIn x (dir_paths t.ready.dir ++ flat_map changed_paths (rotation_of t)) → IsName t.log t.naming x
-    behind k = ⊎_elim (dir t.ready.dir refl) (in_flat t.log t.naming (rotation_of t) x (λ e j. any_change t e h (inl j))) (in_append x (dir_paths t.ready.dir) (flat_map changed_paths (rotation_of t)) k)
+    behind : IsIn x (dir_paths t.ready.dir ++ flat_map changed_paths (target_entries t)) → IsName t.log t.naming x
+    behind k = ⊎_elim (dir t.ready.dir refl) (in_flat t.log t.naming (target_entries t) x (λ e j. any_change t e h (inl j))) (in_append x (dir_paths t.ready.dir) (flat_map changed_paths (target_entries t)) k)
 
     -- the part file is one that the rotation makes
-    part : (j : Option Job) → t.job ≡ j → IsIn x (part_paths j) → IsName t.log t.naming x
+    part : (j : Option Job) → t.job ≡ j → IsIn x (job_part_paths j) → IsName t.log t.naming x
     part None is k = absurd k
     part (Some job) is (inl same) = any_change t (entry.Makes job.part None) h (inr (inr (job, is, refl))) x (inl same)
     part (Some job) is (inr none) = absurd none
@@ -130,25 +130,25 @@ module _ (log : Path) (n : Naming) where
     (λ m. none (member_own log n x m)),
   )
 
-  no_own : (t : Target) → HasNames t → (Meet t.log t.naming log n → ⊥) → (x : Path) → IsIn x (paths_of t) → IsOwnName log n x → ⊥
+  no_own : (t : Target) → HasNames t → (Meet t.log t.naming log n → ⊥) → (x : Path) → IsIn x (target_paths t) → IsOwnName log n x → ⊥
   no_own t h apart x i own = apart (x, inr (in_names t h x i, own))
 
-  pub one_outside : (t : Target) → HasNames t → (Meet t.log t.naming log n → ⊥) → LieOutside (paths_of t) log n
+  pub one_outside : (t : Target) → HasNames t → (Meet t.log t.naming log n → ⊥) → LieOutside (target_paths t) log n
   one_outside t h apart x i = name_out x (no_own t h apart x i)
 
   -- of all other logs, and of the state
-  others_no_own : (ts : List Target) → HaveNames ts → ((x : Target) → IsIn x ts → x.log ≢ log → Meet x.log x.naming log n → ⊥) → (y : Path) → IsIn y (paths_of_others log ts) → IsOwnName log n y → ⊥
+  others_no_own : (ts : List Target) → TargetsHaveNames ts → ((x : Target) → IsIn x ts → x.log ≢ log → Meet x.log x.naming log n → ⊥) → (y : Path) → IsIn y (paths_of_others log ts) → IsOwnName log n y → ⊥
   others_no_own [] h apart y i own = i
   others_no_own (x ∷ xs) h apart y i own = go (λ i. others_no_own xs h.1 (λ z j. apart z (inr j)) y i own) (bytes_eq x.log log) refl i
     where
       differ : bytes_eq x.log log ≡ false → x.log ≢ log
       differ e same = let yes : bytes_eq x.log log ≡ true = (bytes_eq-Decides x.log log).1 same in cc
 
-      go : (IsIn y (paths_of_others log xs) → ⊥) → (b : Bool) → bytes_eq x.log log ≡ b → IsIn y (cond b (paths_of_others log xs) (paths_of x ++ paths_of_others log xs)) → ⊥
+      go : (IsIn y (paths_of_others log xs) → ⊥) → (b : Bool) → bytes_eq x.log log ≡ b → IsIn y (cond b (paths_of_others log xs) (target_paths x ++ paths_of_others log xs)) → ⊥
       go further true e i = further i
-      go further false e i = ⊎_elim (λ j. no_own x h.0 (apart x (inl refl) (differ e)) y j own) further (in_append y (paths_of x) (paths_of_others log xs) i)
+      go further false e i = ⊎_elim (λ j. no_own x h.0 (apart x (inl refl) (differ e)) y j own) further (in_append y (target_paths x) (paths_of_others log xs) i)
 
-  module _ (state : Path) (ts : List Target) (h : HaveNames ts) (apart : (x : Target) → IsIn x ts → x.log ≢ log → Meet x.log x.naming log n → ⊥) (no_state : IsName log n state → ⊥) (no_part : IsName log n (state ++ codes ".tmp") → ⊥) where
+  module _ (state : Path) (ts : List Target) (h : TargetsHaveNames ts) (apart : (x : Target) → IsIn x ts → x.log ≢ log → Meet x.log x.naming log n → ⊥) (no_state : IsName log n state → ⊥) (no_part : IsName log n (state ++ codes ".tmp") → ⊥) where
     pub none_own : (x : Path) → IsIn x (other_paths state log ts) → IsOwnName log n x → ⊥
     none_own x (inl is) own = no_state (inl (subst (IsOwnName log n) (sym is) own))
     none_own x (inr (inl is)) own = no_part (inl (subst (IsOwnName log n) (sym is) own))

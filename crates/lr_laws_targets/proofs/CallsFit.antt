@@ -36,7 +36,7 @@ use Rattle.lr_family.specs.Parts.{IsMember}
 use Rattle.lr_family.specs.Spots.{path_at}
 use Rattle.lr_scripts.specs.declared.removal.Removal.{Removal}
 use Rattle.lr_copy.specs.declared.job.Job.{Job}
-use Rattle.lr_copy.specs.Fits.{ArePaths, HasPlace, IsStale}
+use Rattle.lr_copy.specs.Fits.{ArePaths, CopyHasPlace, IsStale}
 use Rattle.lr_chain.specs.declared.ready.Move.{Move}
 use Rattle.lr_chain.specs.declared.ready.Ready.{Ready}
 use Rattle.lr_chain.specs.DatedReady.{removal_of}
@@ -55,10 +55,10 @@ use Rattle.lr_laws_rotations.proofs.Alike.{IsLike, like_self, AreLike, Reads, fi
 use Rattle.lr_laws_rotations.proofs.CopyFits.{copy_fits, copied_to, copied_other}
 use Rattle.lr_laws_rotations.proofs.SeenFits.{seen_fits}
 use Rattle.lr_laws_rotations.proofs.Moments.{saw_one, saw_file}
-use Rattle.lr_laws_rotations.specs.Steps.{unlinks, steps_of}
+use Rattle.lr_laws_rotations.specs.Steps.{unlinks, bare_steps}
 use Rattle.lr_laws_targets.specs.Apart.{HasNames}
 use Rattle.lr_laws_targets.specs.Calls.{transfer_calls, calls_of}
-use Rattle.lr_laws_targets.specs.Rotation.{paths_in}
+use Rattle.lr_laws_targets.specs.Rotation.{removal_paths}
 use Rattle.lr_laws_targets.specs.Seen.{IsLogSeen}
 use Rattle.lr_laws_targets.specs.Target.{Target, source_by, IsMissingDir, IsDirSeenBy, IsJob}
 use Rattle.lr_laws_targets.proofs.Directories.{dir_now, log_dir, missing_free}
@@ -107,13 +107,13 @@ bare t h none = subst IsBare (sym (h.ready ∙ ap (λ (ms : List Member). ready_
 -- ---- what depends on members alone, or leaves others alone
 
 module _ (n : Naming) where
-  reads_of : (rs : List Removal) → All (IsMember n) (paths_in rs) → Each (Reads (IsMember n)) (unlinks rs)
+  reads_of : (rs : List Removal) → All (IsMember n) (removal_paths rs) → Each (Reads (IsMember n)) (unlinks rs)
   reads_of [] a = tt
-  reads_of (r ∷ rs) a = (All-head (IsMember n) r.path (paths_in rs) a, reads_of rs (All-tail (IsMember n) r.path (paths_in rs) a))
+  reads_of (r ∷ rs) a = (All-head (IsMember n) r.path (removal_paths rs) a, reads_of rs (All-tail (IsMember n) r.path (removal_paths rs) a))
 
-  pub unlinks_spare : (x : Path) → IsNoMember n x → (rs : List Removal) → All (IsMember n) (paths_in rs) → Each (Spares x) (unlinks rs)
+  pub unlinks_spare : (x : Path) → IsNoMember n x → (rs : List Removal) → All (IsMember n) (removal_paths rs) → Each (Spares x) (unlinks rs)
   unlinks_spare x out [] a = tt
-  unlinks_spare x out (r ∷ rs) a = (these_spare (IsMember n) x (entry.Unlinks r.path) out (All-head (IsMember n) r.path (paths_in rs) a), unlinks_spare x out rs (All-tail (IsMember n) r.path (paths_in rs) a))
+  unlinks_spare x out (r ∷ rs) a = (these_spare (IsMember n) x (entry.Unlinks r.path) out (All-head (IsMember n) r.path (removal_paths rs) a), unlinks_spare x out rs (All-tail (IsMember n) r.path (removal_paths rs) a))
 
   abbrev MovesMember : Move → Type 0
   MovesMember m = IsMember n m.from × IsMember n m.to
@@ -160,7 +160,7 @@ module _ (t : Target) (h : HasNames t) (shifted : Names) (can_turn : CanCall shi
     from_is : job.from ≡ t.ready.log
     from_is = shape.from_is ∙ ap (λ (a : Option Path). source_by a t.ready.log) stays
 
-    place : HasPlace job shifted
+    place : CopyHasPlace job shifted
     place = record {
       log = subst (λ (x : Path). IsFileAt shifted x) (sym from_is) can_turn.0;
       directory = subst (λ (x : Path). IsDirectoryAt shifted x) (ap parent_of (sym shape.to_is) ∙ sym paths.dir_is) can_turn.3;
@@ -236,7 +236,7 @@ module _ (t : Target) (h : HasNames t) (shifted : Names) (can_turn : CanCall shi
     part_apart : job.part ≢ path
     part_apart e = paths.part_apart (e ∙ sym aside_from)
 
-    aside_place : HasPlace job turned
+    aside_place : CopyHasPlace job turned
     aside_place = record {
       log = subst (λ (x : Path). IsFileAt turned x) (sym aside_from) (can_turn.0.0, waits);
       directory = directory_stays;
@@ -388,12 +388,12 @@ module _ (rules : Rules) (clock : Clock) (t : Target) (p q : Past) (es : List En
 
   module _ (saw : SawDir t.naming.dir (reverse es)) where
     -- the steps of what is ready fit
-    own_fits : FitAll now (reverse (steps_of t.ready))
-    own_fits = subst (λ (r : Ready). FitAll now (reverse (steps_of r))) (sym h.ready)
+    own_fits : FitAll now (reverse (bare_steps t.ready))
+    own_fits = subst (λ (r : Ready). FitAll now (reverse (bare_steps r))) (sym h.ready)
         (seen_fits clock t.ready.log t.naming t.count t.maxage t.ready.make t.stand p q es first_family h.start h.count m still saw_first saw l.seen l.free)
 
     by_steps : FitCalls now (E ++ (S ++ R t ∷ U t))
-    by_steps = fit_calls now (steps_of t.ready) (steps_turn t) own_fits
+    by_steps = fit_calls now (bare_steps t.ready) (steps_turn t) own_fits
 
     -- behind the leftovers, and behind the moves
     abbrev left : Names

@@ -19,7 +19,7 @@ use Rattle.lr_family.specs.Kin.{IsKin}
 use Rattle.lr_family.specs.Stands.{AreNewestFirst}
 use Rattle.lr_laws_family.specs.Weave.{Among, none, own, FirstWoven}
 use Rattle.lr_laws_targets.specs.AllTurns.{StandsBetween}
-use Rattle.lr_laws_targets.specs.Target.{IsGiven, Target, rotation_of}
+use Rattle.lr_laws_targets.specs.Target.{IsGiven, Target, target_entries}
 use Rattle.lr_laws_targets.proofs.Given.{literal_gives}
 use Rattle.lr_laws_family.specs.Members.{IsFamily}
 use Rattle.lr_laws_family.specs.Shown.{unlisted, Shown}
@@ -103,8 +103,8 @@ turns state clock = record {
   each = λ t i. each t i;
 }
   where
-    each : (t : Target) → IsIn t (target clock ∷ []) → FirstWoven (StandsBetween state t (target clock ∷ [])) (rotation_of t) (turn clock ∷ [])
-    each t (inl is) = subst (λ (x : Target). FirstWoven (StandsBetween state x (target clock ∷ [])) (rotation_of x) (turn clock ∷ [])) is (record { made = turn clock ∷ []; first = ([], refl); woven = own (turn clock) none })
+    each : (t : Target) → IsIn t (target clock ∷ []) → FirstWoven (StandsBetween state t (target clock ∷ [])) (target_entries t) (turn clock ∷ [])
+    each t (inl is) = subst (λ (x : Target). FirstWoven (StandsBetween state x (target clock ∷ [])) (target_entries x) (turn clock ∷ [])) is (record { made = turn clock ∷ []; first = ([], refl); woven = own (turn clock) none })
     each t (inr other) = absurd other
 
 pub dated_turns : (rules : Rules) × (rules.sets ≡ rule ∷ []) × ((state : Path) (clock : Clock) → AllTurnsBy state clock rules (looks ++ turn clock ∷ []))

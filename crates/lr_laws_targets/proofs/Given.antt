@@ -37,7 +37,7 @@ use Rattle.lr_family.specs.Parts.{IsDated, IsMember}
 use Rattle.lr_chain.specs.Ready.{IsCount}
 use Rattle.lr_laws.proofs.AsideName.{no_numbered, no_dated}
 use Rattle.lr_laws_family.specs.Members.{IsNoMember}
-use Rattle.lr_laws_targets.specs.Target.{Gives, IsGiven, Target, GoesBy}
+use Rattle.lr_laws_targets.specs.Target.{GivesLog, IsGiven, Target, GoesBy}
 use Rattle.lr_laws_family.specs.Weave.{Among}
 
 -- what holds of all holds of each of them
@@ -47,7 +47,7 @@ all_in P xs x a c = subst P c.2 (a c.0 x c.1)
 -- ---- a literal word
 
 -- it gives its one path, whatever was seen
-pub literal_gives : (rules : List Rule) (rule : Rule) (word : List ℕ) (log : Path) (ts : List Entry) → is_wildcard word ≡ false → log ≡ literal_path word → Gives rules rule word log ts
+pub literal_gives : (rules : List Rule) (rule : Rule) (word : List ℕ) (log : Path) (ts : List Entry) → is_wildcard word ≡ false → log ≡ literal_path word → GivesLog rules rule word log ts
 literal_gives rules rule word log ts plain is = record { gives = λ p q es m e. literal plain is; alone = λ p q es m journal e wild. absurd (clash (is_wildcard word) plain wild) }
   where
     clash : (b : Bool) → b ≡ false → b ≡ true → ⊥
@@ -91,7 +91,7 @@ still_file u v before x quiet m file = file_more (names (world u)) (names (world
 
 pub gives : (u v : Past) (rules : List Rule) (looks : List Entry) (x : Target) → AreQuiet looks → Made u (reverse looks) v → (g : IsGiven rules looks x) → RuleGives g.rule x.log
 gives u v rules looks x quiet m g =
-    let t = stretch u v looks (Gives rules g.rule g.word x.log) quiet m g.given in
+    let t = stretch u v looks (GivesLog rules g.rule g.word x.log) quiet m g.given in
     (g.has.0, g.word, g.has.1, g.has.2, t.is.gives t.from t.to (reverse t.part) t.made (sym (reverse-reverse t.part)))
 
 -- ---- a log that the run passes over
@@ -151,8 +151,8 @@ pub no_meet : (way : Way) (s : LogSet) (u v : Past) (rules : List Rule) (looks :
 no_meet way s u v rules looks x quiet m begun journal steady is g file other meet =
     none.4.1 (subst (λ (k : Naming). IsMember k x.log) (sym (named none.1 (none.0, none.2, none.3) none.4.0)) member)
   where
-    t : Stretch u (Gives rules g.rule g.word x.log)
-    t = stretch u v looks (Gives rules g.rule g.word x.log) quiet m g.given
+    t : Stretch u (GivesLog rules g.rule g.word x.log)
+    t = stretch u v looks (GivesLog rules g.rule g.word x.log) quiet m g.given
 
     word_gives : WordGives g.word x.log
     word_gives = t.is.gives t.from t.to (reverse t.part) t.made (sym (reverse-reverse t.part))

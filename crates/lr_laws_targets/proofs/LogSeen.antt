@@ -5,7 +5,7 @@ use Rattle.lr_rules.specs.declared.path.Path.{Path}
 use Rattle.lr_rules.specs.declared.rules.Rules.{Rules}
 use Rattle.lr_host.specs.declared.entry.Entry.{Entry}
 use Rattle.lr_host.specs.Lists.{IsIn}
-use Rattle.lr_laws_targets.specs.Apart.{HasNames, HaveNames}
+use Rattle.lr_laws_targets.specs.Apart.{HasNames, TargetsHaveNames}
 use Rattle.lr_laws_targets.specs.Seen.{IsLogSeen, AreLogsSeen}
 use Rattle.lr_laws_targets.specs.Target.{Target, HasDir, IsMissingDir, IsDirSeenBy, IsDirSeen}
 use Rattle.lr_laws_targets.proofs.Given.{given_limits, beside_apart}
@@ -35,7 +35,7 @@ module _ (rules : Rules) (clock : Clock) (looks : List Entry) where
     job = λ job is. (l.job job is).0;
   }
 
-  pub have_names : (ts : List Target) → AreLogsSeen rules clock looks ts → HaveNames ts
+  pub have_names : (ts : List Target) → AreLogsSeen rules clock looks ts → TargetsHaveNames ts
   have_names [] seen = tt
   have_names (t ∷ ts) seen = (any_names t seen.0, have_names ts seen.1)
 

@@ -16,9 +16,9 @@ use Rattle.lr_host.proofs.Lists.{in_front, in_back}
 use Rattle.lr_host.proofs.Quiet.{disk_of_changes}
 use Rattle.lr_laws.specs.Follow.{changed_paths}
 use Rattle.lr_copy.specs.declared.job.Job.{Job}
-use Rattle.lr_laws_targets.specs.AllTurns.{IsStatePath, IsOfState, IsPartFile, IsItsDir, AlsoDoes, IsOf, IsOfOther, StandsBetween, part_paths, dir_paths, paths_of, paths_of_others, other_paths, paths_beside}
+use Rattle.lr_laws_targets.specs.AllTurns.{IsStatePath, IsOfState, IsPartFile, IsItsDir, AlsoDoes, IsOf, IsOfOther, StandsBetween, job_part_paths, dir_paths, target_paths, paths_of_others, other_paths, paths_beside}
 use Rattle.lr_laws_family.specs.Beside.{IsOn, IsBeside}
-use Rattle.lr_laws_targets.specs.Target.{Target, rotation_of}
+use Rattle.lr_laws_targets.specs.Target.{Target, target_entries}
 use Rattle.lr_laws_family.specs.Weave.{Weave}
 use Rattle.lr_laws_family.proofs.Fed.{IsTurn}
 use Rattle.lr_laws_targets.proofs.Rotating.{each_turn}
@@ -47,7 +47,7 @@ in_on [] e i t = absurd i
 in_on (x ∷ xs) e (inl is) t = on_more (changed_paths e) (flat_map changed_paths (x ∷ xs)) e (λ y h. in_front y (changed_paths x) (flat_map changed_paths xs) (subst (λ (d : Entry). IsIn y (changed_paths d)) (sym is) h)) (turn_on e t)
 in_on (x ∷ xs) e (inr i) t = on_more (flat_map changed_paths xs) (flat_map changed_paths (x ∷ xs)) e (λ y h. in_back y (changed_paths x) (flat_map changed_paths xs) h) (in_on xs e i t)
 
-pub rotation_turns : (t : Target) → Each IsTurn (rotation_of t)
+pub rotation_turns : (t : Target) → Each IsTurn (target_entries t)
 rotation_turns t = each_turn IsTurn (λ x. tt) (λ x y. tt) t
 
 -- the entry renames or unlinks a file, or makes, fills or empties one; or it makes a directory
@@ -74,7 +74,7 @@ also_changes t _ h = absurd h
 
 -- all that is done to a log is such a change
 pub own_turns : (t : Target) (e : Entry) → IsOf t e → IsFileChange e
-own_turns t e (inl i) = turn_changes e (each_in IsTurn (rotation_of t) e (rotation_turns t) i)
+own_turns t e (inl i) = turn_changes e (each_in IsTurn (target_entries t) e (rotation_turns t) i)
 own_turns t e (inr also) = also_changes t e also
 
 -- where it isn't copied, its directory may be made, and it is made anew besides, and nothing more
@@ -100,33 +100,33 @@ either false log other xs ys x e (inl i) differ = in_front x xs ys i
 either false log other xs ys x e (inr i) differ = in_back x xs ys i
 
 -- behind the log's path and the part file's those of the directory and of the rotation
-behind_part : (t : Target) (x : Path) → IsIn x (dir_paths t.ready.dir ++ flat_map changed_paths (rotation_of t)) → IsIn x (paths_of t)
-behind_part t x i = inr (in_back x (part_paths t.job) (dir_paths t.ready.dir ++ flat_map changed_paths (rotation_of t)) i)
+behind_part : (t : Target) (x : Path) → IsIn x (dir_paths t.ready.dir ++ flat_map changed_paths (target_entries t)) → IsIn x (target_paths t)
+behind_part t x i = inr (in_back x (job_part_paths t.job) (dir_paths t.ready.dir ++ flat_map changed_paths (target_entries t)) i)
 
-part_in : (t : Target) (x : Path) → IsPartFile t x → IsIn x (paths_of t)
-part_in t x p = inr (in_front x (part_paths t.job) (dir_paths t.ready.dir ++ flat_map changed_paths (rotation_of t)) (subst (λ (j : Option Job). IsIn x (part_paths j)) (sym p.1) (inl (sym p.2))))
+part_in : (t : Target) (x : Path) → IsPartFile t x → IsIn x (target_paths t)
+part_in t x p = inr (in_front x (job_part_paths t.job) (dir_paths t.ready.dir ++ flat_map changed_paths (target_entries t)) (subst (λ (j : Option Job). IsIn x (job_part_paths j)) (sym p.1) (inl (sym p.2))))
 
-also_on : (t : Target) (e : Entry) → AlsoDoes t e → IsOn (paths_of t) e
-also_on t (MakesDir x mode) d = behind_part t x (in_front x (dir_paths t.ready.dir) (flat_map changed_paths (rotation_of t)) (dir_in t x d))
+also_on : (t : Target) (e : Entry) → AlsoDoes t e → IsOn (target_paths t) e
+also_on t (MakesDir x mode) d = behind_part t x (in_front x (dir_paths t.ready.dir) (flat_map changed_paths (target_entries t)) (dir_in t x d))
 also_on t (Makes x mode) (inl is) = inl (sym is)
 also_on t (Makes x mode) (inr p) = part_in t x p
 also_on t (Appends x bytes) p = part_in t x p
 also_on t (Truncates x) p = inl (sym p.1)
 also_on t _ h = absurd h
 
-own_on : (t : Target) (e : Entry) → IsOf t e → IsOn (paths_of t) e
-own_on t e (inl i) = on_more (flat_map changed_paths (rotation_of t)) (paths_of t) e (λ x j. behind_part t x (in_back x (dir_paths t.ready.dir) (flat_map changed_paths (rotation_of t)) j)) (in_on (rotation_of t) e i (each_in IsTurn (rotation_of t) e (rotation_turns t) i))
+own_on : (t : Target) (e : Entry) → IsOf t e → IsOn (target_paths t) e
+own_on t e (inl i) = on_more (flat_map changed_paths (target_entries t)) (target_paths t) e (λ x j. behind_part t x (in_back x (dir_paths t.ready.dir) (flat_map changed_paths (target_entries t)) j)) (in_on (target_entries t) e i (each_in IsTurn (target_entries t) e (rotation_turns t) i))
 own_on t e (inr also) = also_on t e also
 
 pub other_on : (log : Path) (ts : List Target) (e : Entry) → IsOfOther log ts e → IsOn (paths_of_others log ts) e
 other_on log [] e h = absurd h
-other_on log (t ∷ ts) e (inl h) = on_more (paths_of t) (paths_of_others log (t ∷ ts)) e
-    (λ x i. either (bytes_eq t.log log) log t.log (paths_of t) (paths_of_others log ts) x refl (inl i) (λ same j. h.0 ((bytes_eq-Decides t.log log).0 same))) (own_on t e h.1)
+other_on log (t ∷ ts) e (inl h) = on_more (target_paths t) (paths_of_others log (t ∷ ts)) e
+    (λ x i. either (bytes_eq t.log log) log t.log (target_paths t) (paths_of_others log ts) x refl (inl i) (λ same j. h.0 ((bytes_eq-Decides t.log log).0 same))) (own_on t e h.1)
 other_on log (t ∷ ts) e (inr h) = on_more (paths_of_others log ts) (paths_of_others log (t ∷ ts)) e (λ x i. behind (bytes_eq t.log log) x i) (other_on log ts e h)
   where
-    behind : (b : Bool) (x : Path) → IsIn x (paths_of_others log ts) → IsIn x (cond b (paths_of_others log ts) (paths_of t ++ paths_of_others log ts))
+    behind : (b : Bool) (x : Path) → IsIn x (paths_of_others log ts) → IsIn x (cond b (paths_of_others log ts) (target_paths t ++ paths_of_others log ts))
     behind true x i = i
-    behind false x i = in_back x (paths_of t) (paths_of_others log ts) i
+    behind false x i = in_back x (target_paths t) (paths_of_others log ts) i
 
 state_in : (state log : Path) (ts : List Target) (x : Path) → IsStatePath state x → IsIn x (other_paths state log ts)
 state_in state log ts x (inl is) = inl (sym is)
@@ -171,18 +171,18 @@ beside_changes paths log e (inl h) = on_changes paths e h
 beside_changes paths log (Makes x mode) (inr h) = refl
 beside_changes paths log _ (inr h) = absurd h
 
-disk_changes : (paths : List Path) (x : Target) (acts : List Entry) → Weave (IsBeside paths x.log) (rotation_of x) (filter is_change acts) → filter is_change acts ≡ filter is_disk_change acts
-disk_changes paths x acts w = sym (all_pass is_disk_change (filter is_change acts) (weave_each (IsBeside paths x.log) (λ e. is_disk_change e ≡ true) (rotation_of x) (filter is_change acts) w
+disk_changes : (paths : List Path) (x : Target) (acts : List Entry) → Weave (IsBeside paths x.log) (target_entries x) (filter is_change acts) → filter is_change acts ≡ filter is_disk_change acts
+disk_changes paths x acts w = sym (all_pass is_disk_change (filter is_change acts) (weave_each (IsBeside paths x.log) (λ e. is_disk_change e ≡ true) (target_entries x) (filter is_change acts) w
     (each_turn (λ e. is_disk_change e ≡ true) (λ x. refl) (λ x y. refl) x) (λ e h. beside_changes paths x.log e h))) ∙ disk_of_changes acts
 
 -- ---- one log of a run
 
 -- the changes of the disk are its rotation, with others on their paths between
-pub rotates_beside : (state : Path) (x : Target) (ts : List Target) (acts : List Entry) → x.job ≡ None → Weave (StandsBetween state x ts) (rotation_of x) (filter is_change acts) → Weave (IsBeside (paths_beside state x ts) x.log) (rotation_of x) (filter is_disk_change acts)
-rotates_beside state x ts acts none w = subst (Weave (IsBeside paths x.log) (rotation_of x)) (disk_changes paths x acts on) on
+pub rotates_beside : (state : Path) (x : Target) (ts : List Target) (acts : List Entry) → x.job ≡ None → Weave (StandsBetween state x ts) (target_entries x) (filter is_change acts) → Weave (IsBeside (paths_beside state x ts) x.log) (target_entries x) (filter is_disk_change acts)
+rotates_beside state x ts acts none w = subst (Weave (IsBeside paths x.log) (target_entries x)) (disk_changes paths x acts on) on
   where
     paths : List Path
     paths = paths_beside state x ts
 
-    on : Weave (IsBeside paths x.log) (rotation_of x) (filter is_change acts)
-    on = weave_as (StandsBetween state x ts) (IsBeside paths x.log) (rotation_of x) (filter is_change acts) (λ e h. between_beside state x ts e none h) w
+    on : Weave (IsBeside paths x.log) (target_entries x) (filter is_change acts)
+    on = weave_as (StandsBetween state x ts) (IsBeside paths x.log) (target_entries x) (filter is_change acts) (λ e h. between_beside state x ts e none h) w

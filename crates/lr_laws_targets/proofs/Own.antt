@@ -26,8 +26,8 @@ use Rattle.lr_laws_rotations.specs.Steps.{unlinks}
 use Rattle.lr_laws_targets.specs.AllTurns.{IsPartFile, AlsoDoes, IsOf}
 use Rattle.lr_laws_targets.specs.Apart.{HasNames}
 use Rattle.lr_laws_targets.specs.Own.{IsOfFamily, ChangesOfFamily, ChangesOwn, ChangesNames, MakesItsDir}
-use Rattle.lr_laws_targets.specs.Rotation.{paths_in, rotation_by}
-use Rattle.lr_laws_targets.specs.Target.{Target, HasDir, transfer_of, rotation_of}
+use Rattle.lr_laws_targets.specs.Rotation.{removal_paths, rotation_by}
+use Rattle.lr_laws_targets.specs.Target.{Target, HasDir, transfer_of, target_entries}
 use Rattle.lr_laws_targets.proofs.PartFile.{part_joined, job_part}
 use Rattle.lr_laws_targets.proofs.Plan.{plan_is_one}
 use Rattle.lr_laws_targets.proofs.Way.{first_own, aside_own}
@@ -68,9 +68,9 @@ module _ (log : Path) (n : Naming) where
   one_of y a x (inl is) = subst (IsOfFamily log n) is a
   one_of y a x (inr none) = absurd none
 
-  unlinks_of : (rs : List Removal) → All (IsMember n) (paths_in rs) → Each (ChangesOfFamily log n) (unlinks rs)
+  unlinks_of : (rs : List Removal) → All (IsMember n) (removal_paths rs) → Each (ChangesOfFamily log n) (unlinks rs)
   unlinks_of [] h = tt
-  unlinks_of (r ∷ rs) h = (one_of r.path (inr (inl (All-head (IsMember n) r.path (paths_in rs) h))), unlinks_of rs (All-tail (IsMember n) r.path (paths_in rs) h))
+  unlinks_of (r ∷ rs) h = (one_of r.path (inr (inl (All-head (IsMember n) r.path (removal_paths rs) h))), unlinks_of rs (All-tail (IsMember n) r.path (removal_paths rs) h))
 
   abbrev MovesMember : Move → Type 0
   MovesMember m = IsMember n m.from × IsMember n m.to
@@ -114,11 +114,11 @@ module _ (t : Target) (h : HasNames t) where
       )
 
   -- each rename and unlink of the rotation is on the log, members and their part files
-  turns_of_family : Each (ChangesOfFamily t.log t.naming) (rotation_of t)
+  turns_of_family : Each (ChangesOfFamily t.log t.naming) (target_entries t)
   turns_of_family = each_part (ChangesOfFamily t.log t.naming) t (unlinks_of t.log t.naming t.ready.leftovers family_members.early) (moves_of t.log t.naming t.ready.moves family_members.moves) (transfer_of_family t.job t.aside refl refl) (unlinks_of t.log t.naming t.ready.retire family_members.gone)
 
-  pub own_paths : Each (ChangesOwn t.log t.naming) (rotation_of t)
-  own_paths = each_as (ChangesOfFamily t.log t.naming) (ChangesOwn t.log t.naming) (rotation_of t) (λ e own. changes_own t.log t.naming e own) turns_of_family
+  pub own_paths : Each (ChangesOwn t.log t.naming) (target_entries t)
+  own_paths = each_as (ChangesOfFamily t.log t.naming) (ChangesOwn t.log t.naming) (target_entries t) (λ e own. changes_own t.log t.naming e own) turns_of_family
 
   -- the part file of its copy
   part_file_of : (y : Path) → IsPartFile t y → IsOfFamily t.log t.naming y
@@ -137,7 +137,7 @@ module _ (t : Target) (h : HasNames t) where
 
 -- it is on those names, or makes the family's directory
 pub family_change : (t : Target) (e : Entry) → HasNames t → IsOf t e → ChangesOfFamily t.log t.naming e ⊎ MakesItsDir t e
-family_change t e h (inl i) = inl (each_in (ChangesOfFamily t.log t.naming) (rotation_of t) e (turns_of_family t h) i)
+family_change t e h (inl i) = inl (each_in (ChangesOfFamily t.log t.naming) (target_entries t) e (turns_of_family t h) i)
 family_change t e h (inr also) = also_of t h e also
 
 pub own_or_makes : (t : Target) (e : Entry) → HasNames t → IsOf t e → ChangesOwn t.log t.naming e ⊎ MakesItsDir t e

@@ -42,14 +42,14 @@ use Rattle.lr_laws_family.proofs.OrMade.{Spares}
 use Rattle.lr_laws_family.proofs.Stood.{file_stands}
 use Rattle.lr_laws_family.proofs.These.{spared_alone}
 use Rattle.lr_laws_family.proofs.Weaving.{weave_back}
-use Rattle.lr_laws_rotations.specs.Steps.{unlinks, steps_of}
+use Rattle.lr_laws_rotations.specs.Steps.{unlinks, bare_steps}
 use Rattle.lr_laws_rotations.proofs.Families.{family_is_one}
 use Rattle.lr_laws_rotations.proofs.LogFitting.{IsNoRename, log_fits_on, log_fits_first}
 use Rattle.lr_laws_rotations.proofs.Moments.{saw_one}
 use Rattle.lr_laws_rotations.proofs.Weaving.{IsApartOrMakes, IsWoven, woven}
 use Rattle.lr_laws_targets.specs.Apart.{HasNames}
 use Rattle.lr_laws_targets.specs.Seen.{IsLogSeen}
-use Rattle.lr_laws_targets.specs.Target.{Target, rotation_of}
+use Rattle.lr_laws_targets.specs.Target.{Target, target_entries}
 use Rattle.lr_laws_targets.proofs.CallsFit.{unlinks_spare, moves_spare}
 use Rattle.lr_laws_targets.proofs.DatedWeaving.{IsDatedWoven, dated_woven, rotation_filter as dated_filter, later_rotation as later_dated}
 use Rattle.lr_laws_targets.proofs.Given.{journal_before}
@@ -88,7 +88,7 @@ module _ (s : LogSet) (t : Target) (h : HasNames t) (same : t.log ≡ s.log) (m 
   abbrev behind : List Entry
   behind = unlinks t.ready.retire
 
-  turned_round : reverse (steps_of t.ready) ≡ reverse behind ++ (Renames t.ready.log t.ready.target ∷ reverse ahead)
+  turned_round : reverse (bare_steps t.ready) ≡ reverse behind ++ (Renames t.ready.log t.ready.target ∷ reverse ahead)
   turned_round = ap reverse (sym (append_assoc (unlinks t.ready.leftovers) (map move_step t.ready.moves) (Renames t.ready.log t.ready.target ∷ behind)))
       ∙ (reverse-append ahead (Renames t.ready.log t.ready.target ∷ behind)
       ∙ (ap (λ (es : List Entry). es ++ reverse ahead) (reverse-append (Renames t.ready.log t.ready.target ∷ []) behind) ∙ append_assoc (reverse behind) (Renames t.ready.log t.ready.target ∷ []) (reverse ahead)))
@@ -105,7 +105,7 @@ module _ (s : LogSet) (t : Target) (h : HasNames t) (same : t.log ≡ s.log) (m 
   there : IsFileAt (names_after m (changes_of (reverse ahead))) s.log
   there = (file.0, spared_alone m s.log (reverse ahead) (each_reverse (Spares s.log) ahead spared) ∙ file.1)
 
-  log_fits : LogFits s m (reverse (steps_of t.ready))
+  log_fits : LogFits s m (reverse (bare_steps t.ready))
   log_fits = subst (LogFits s m) (sym turned_round)
       (log_fits_on s m (reverse behind) (Renames t.ready.log t.ready.target ∷ reverse ahead) (each_reverse (IsNoRename s) behind (unlinks_rename_none s t.naming out t.ready.retire)) (ahead_fits, λ to is. there))
 
@@ -148,18 +148,18 @@ module _ (clock : Clock) (way : Way) (s : LogSet) (state : Path) (rules : Rules)
   ready = seen.ready ∙ ap (λ (n : Naming). ready_of t.ready.log n t.count t.maxage clock t.ready.make t.stand.members) (sym naming)
 
   -- its steps are those of one rotation of the set
-  pub one : RotatesSet (steps_of t.ready) s v
-  one = subst (λ (r : Ready). RotatesSet (steps_of r) s v) (sym ready)
+  pub one : RotatesSet (bare_steps t.ready) s v
+  one = subst (λ (r : Ready). RotatesSet (bare_steps r) s v) (sym ready)
       (family_is_one clock s t.ready.log at (first_family s t h same naming family) t.count t.maxage t.ready.make t.stand u v (reverse looks) family start h.count (journal_before u v (reverse looks) made here.journal) none_at made quiet_back saw_first shown free here.not_begun here.safe forward here.now_is rule)
 
-  module _ (acts : List Entry) (q : Past) (w : FirstWoven (IsApartOrMakes s) (steps_of t.ready) (filter is_change acts)) (behind : Made v (reverse acts) q) (none_q : NoneAttached s q) where
-    split : reverse (steps_of t.ready) ≡ reverse w.first.0 ++ reverse w.made
+  module _ (acts : List Entry) (q : Past) (w : FirstWoven (IsApartOrMakes s) (bare_steps t.ready) (filter is_change acts)) (behind : Made v (reverse acts) q) (none_q : NoneAttached s q) where
+    split : reverse (bare_steps t.ready) ≡ reverse w.first.0 ++ reverse w.made
     split = ap reverse w.first.1 ∙ reverse-append w.made w.first.0
 
     fits : LogFits s (names (world v)) (reverse w.made)
     fits = log_fits_first s (names (world v)) (reverse w.first.0) (reverse w.made) (subst (LogFits s (names (world v))) split (log_fits s t h same (names (world v)) file))
 
-    by_numbers : Rotates (steps_of t.ready) s v → IsSafe s q
+    by_numbers : Rotates (bare_steps t.ready) s v → IsSafe s q
     by_numbers one = (walk s v q one.limit (reverse acts) one.numbered behind
         (log_filter s (names (world v)) (reverse acts) (subst (LogFits s (names (world v))) (sym (filter_reverse is_change acts)) all.fits))
         (rotation_filter s one.limit v q (reverse acts) behind (subst (IsRotation s v one.limit) (sym (filter_reverse is_change acts)) all.rotation))
@@ -169,7 +169,7 @@ module _ (clock : Clock) (way : Way) (s : LogSet) (state : Path) (rules : Rules)
         all = woven s v one.limit (reverse w.made) (reverse (filter is_change acts)) (weave_back (IsApartOrMakes s) w.made (filter is_change acts) w.woven)
             (later_rotation s v one.limit (reverse w.first.0) (reverse w.made) (subst (IsRotation s v one.limit) split one.rotation)) fits
 
-    by_dates : RotatesDated (steps_of t.ready) s v → IsSafe s q
+    by_dates : RotatesDated (bare_steps t.ready) s v → IsSafe s q
     by_dates one =
         dated_walked s v q one.newest (reverse acts) one.dated here.journal here.safe here.not_begun one.forward behind
         (log_filter s (names (world v)) (reverse acts) (subst (LogFits s (names (world v))) (sym (filter_reverse is_change acts)) all.fits))
@@ -184,5 +184,5 @@ module _ (clock : Clock) (way : Way) (s : LogSet) (state : Path) (rules : Rules)
     steps_safe = ⊎_elim by_numbers by_dates one
 
   -- it is renamed to its final path
-  pub own_safe : t.job ≡ None → (acts : List Entry) (q : Past) → FirstWoven (IsApartOrMakes s) (rotation_of t) (filter is_change acts) → Made v (reverse acts) q → NoneAttached s q → IsSafe s q
+  pub own_safe : t.job ≡ None → (acts : List Entry) (q : Past) → FirstWoven (IsApartOrMakes s) (target_entries t) (filter is_change acts) → Made v (reverse acts) q → NoneAttached s q → IsSafe s q
   own_safe none acts q w behind none_q = steps_safe acts q (subst (λ (steps : List Entry). FirstWoven (IsApartOrMakes s) steps (filter is_change acts)) (renamed_are t none) w) behind none_q

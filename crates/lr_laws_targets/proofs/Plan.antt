@@ -23,12 +23,12 @@ use Rattle.lr_laws_targets.specs.Apart.{HasNames}
 use Rattle.lr_laws_targets.proofs.Way.{source_apart}
 use Rattle.lr_laws_family.specs.Dated.{dated}
 use Rattle.lr_laws_family.specs.Numbered.{numbered}
-use Rattle.lr_laws_family.specs.Turned.{IsRotation}
+use Rattle.lr_laws_family.specs.Turned.{IsFamilyRotation}
 use Rattle.lr_laws_family.proofs.Dates.{dated_is_one}
 use Rattle.lr_laws_family.proofs.Numbers.{rising, numbered_is_one}
 use Rattle.lr_laws_family.specs.Rotation.{Rotation, By}
 use Rattle.lr_laws_rotations.proofs.Ready.{have_next}
-use Rattle.lr_laws_targets.specs.Rotation.{by_of, paths_in, rotation_by}
+use Rattle.lr_laws_targets.specs.Rotation.{by_of, removal_paths, rotation_by}
 use Rattle.lr_chain.proofs.Serials.{is_next}
 use Rattle.lr_laws_rotations.proofs.Stamped.{next_free}
 
@@ -41,25 +41,25 @@ same_parts : (log : Path) (stood : List Member) (by : By) {a a' : Path} {b b' : 
 same_parts log stood by {a} {a'} {b} {b'} {c} {c'} {d} {d'} {e} {e'} p q r s t =
     ap (λ x. with_parts log stood by x b c d e) p ∙ (ap (λ x. with_parts log stood by a' x c d e) q ∙ (ap (λ x. with_parts log stood by a' b' x d e) r ∙ (ap (λ x. with_parts log stood by a' b' c' x e) s ∙ ap (λ x. with_parts log stood by a' b' c' d' x) t)))
 
-removals_at : (n : Naming) (ks : List ℕ) → paths_in (map (removal_at n) ks) ≡ map (path_at n) ks
+removals_at : (n : Naming) (ks : List ℕ) → removal_paths (map (removal_at n) ks) ≡ map (path_at n) ks
 removals_at n [] = refl
 removals_at n (k ∷ ks) = ap (λ xs. path_at n k ∷ xs) (removals_at n ks)
 
-removals_of : (ms : List Ranked) → paths_in (map removal_of ms) ≡ map (λ (m : Ranked). m.path) ms
+removals_of : (ms : List Ranked) → removal_paths (map removal_of ms) ≡ map (λ (m : Ranked). m.path) ms
 removals_of [] = refl
 removals_of (m ∷ ms) = ap (λ xs. m.path ∷ xs) (removals_of ms)
 
 pub by_places : (t : Target) (clock : Clock) → with_dir None t.ready ≡ numbered_ready t.ready.log t.naming t.count t.maxage clock.now.seconds t.ready.make t.stand.members
     → rotation_by t ≡ numbered t.naming t.count (going t.count t.maxage clock.now.seconds t.stand.members) t.stand.members t.log (source_of t) (by_of t.job t.aside)
 by_places t clock is = same_parts t.log t.stand.members (by_of t.job t.aside)
-    refl (ap (λ (r : Ready). paths_in r.leftovers) is ∙ removals_at t.naming (leftovers t.count (places_of t.stand.members))) (ap (λ (r : Ready). r.moves) is) (ap (λ (r : Ready). r.target) is)
-    (ap (λ (r : Ready). paths_in r.retire) is ∙ removals_at t.naming (retired t.count (going t.count t.maxage clock.now.seconds t.stand.members)))
+    refl (ap (λ (r : Ready). removal_paths r.leftovers) is ∙ removals_at t.naming (leftovers t.count (places_of t.stand.members))) (ap (λ (r : Ready). r.moves) is) (ap (λ (r : Ready). r.target) is)
+    (ap (λ (r : Ready). removal_paths r.retire) is ∙ removals_at t.naming (retired t.count (going t.count t.maxage clock.now.seconds t.stand.members)))
 
 pub by_stamps : (t : Target) (clock : Clock) → with_dir None t.ready ≡ dated_ready t.ready.log t.naming t.count t.maxage clock t.ready.make t.stand.members
     → rotation_by t ≡ dated t.count (all_by t.naming t.maxage clock t.stand.members) t.stand.members t.log (source_of t) (dated_target t.naming clock t.stand.members) (by_of t.job t.aside)
 by_stamps t clock is = same_parts t.log t.stand.members (by_of t.job t.aside)
-    refl (ap (λ (r : Ready). paths_in r.leftovers) is) (ap (λ (r : Ready). r.moves) is) (ap (λ (r : Ready). r.target) is)
-    (ap (λ (r : Ready). paths_in r.retire) is ∙ removals_of (reverse (gone t.count 0 (all_by t.naming t.maxage clock t.stand.members))))
+    refl (ap (λ (r : Ready). removal_paths r.leftovers) is) (ap (λ (r : Ready). r.moves) is) (ap (λ (r : Ready). r.target) is)
+    (ap (λ (r : Ready). removal_paths r.retire) is ∙ removals_of (reverse (gone t.count 0 (all_by t.naming t.maxage clock t.stand.members))))
 
 -- ---- it is one of the family
 
@@ -73,23 +73,23 @@ module _ (t : Target) (h : HasNames t) where
   abbrev now : ℤ
   now = h.clock.now.seconds
 
-  of_numbers : n.dated ≡ None → IsRotation n (rotation_by t)
-  of_numbers none = subst (IsRotation n) (sym (by_places t h.clock (h.ready ∙ ready_numbers t.ready.log n t.count t.maxage h.clock t.ready.make members none)))
+  of_numbers : n.dated ≡ None → IsFamilyRotation n (rotation_by t)
+  of_numbers none = subst (IsFamilyRotation n) (sym (by_places t h.clock (h.ready ∙ ready_numbers t.ready.log n t.count t.maxage h.clock t.ready.make members none)))
       (numbered_is_one n t.count (going t.count t.maxage now members) members t.log (source_of t) (by_of t.job t.aside) h.family none (source_apart t h) h.named
       (have_next n t.count members none h.start h.count h.named (sym (hinders_numbers n t.count h.clock t.stand none (free_there n t.count h.clock t.stand h.free)) ∙ h.free))
       (going_are t.count t.maxage now members (rising n none members h.named h.newest_first)))
 
-  of_dates : (f : Format) → n.dated ≡ Some f → IsRotation n (rotation_by t)
+  of_dates : (f : Format) → n.dated ≡ Some f → IsFamilyRotation n (rotation_by t)
   of_dates f is =
       let at = target_at n t.count h.clock t.stand h.free f is h.family.format h.named in
-      subst (IsRotation n) (sym (by_stamps t h.clock (h.ready ∙ ready_dates t.ready.log n t.count t.maxage h.clock t.ready.make members f is)))
+      subst (IsFamilyRotation n) (sym (by_stamps t h.clock (h.ready ∙ ready_dates t.ready.log n t.count t.maxage h.clock t.ready.make members f is)))
       (dated_is_one n t.count (all_by n t.maxage h.clock members) members t.log (source_of t) (dated_target n h.clock members) (by_of t.job t.aside) (clock_seconds n.dated h.clock) (next_serial members (clock_seconds n.dated h.clock)) at (source_apart t h)
       (next_free n h.family.format members h.named (clock_seconds n.dated h.clock) (next_serial members (clock_seconds n.dated h.clock)) (is_next members (clock_seconds n.dated h.clock)) (dated_target n h.clock members) at)
       (all_dated n t.maxage now (clock_seconds n.dated h.clock) (next_serial members (clock_seconds n.dated h.clock)) (dated_target n h.clock members) members h.named at))
 
-  pub plan_is_one : IsRotation t.naming (rotation_by t)
+  pub plan_is_one : IsFamilyRotation t.naming (rotation_by t)
   plan_is_one = go t.naming.dated refl
     where
-      go : (d : Option Format) → t.naming.dated ≡ d → IsRotation t.naming (rotation_by t)
+      go : (d : Option Format) → t.naming.dated ≡ d → IsFamilyRotation t.naming (rotation_by t)
       go None is = of_numbers is
       go (Some format) is = of_dates format is

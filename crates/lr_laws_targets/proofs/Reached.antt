@@ -12,7 +12,7 @@ use Rattle.lr_copy.specs.declared.job.Job.{Job}
 use Rattle.lr_copy.specs.Fits.{ArePaths}
 use Rattle.lr_laws_family.specs.Members.{IsFamily, IsNoMember}
 use Rattle.lr_laws_targets.specs.Apart.{HasNames}
-use Rattle.lr_laws_targets.specs.Target.{Target, IsSetAside, IsTakenUp}
+use Rattle.lr_laws_targets.specs.Target.{Target, IsTargetAside, IsTakenUp}
 use Rattle.lr_laws_targets.proofs.Beside.{CopiesOutside}
 use Rattle.lr_laws_targets.proofs.Given.{member_in}
 use Rattle.lr_laws_targets.proofs.Own.{target_member}
@@ -84,7 +84,7 @@ module _ (s : LogSet) (t : Target) (h : HasNames t) (same : t.log ≡ s.log) (na
       go false e = e
 
   -- so does all that its copy does besides, where it is set aside
-  pub aside_copies : IsSetAside t → CopiesOutside s t
+  pub aside_copies : IsTargetAside t → CopiesOutside s t
   aside_copies a job is = (part_out job is, ap (λ (j : Job). j.cut) (one a.job job (sym a.job_is ∙ is)) ∙ a.uncut)
     where
       one : (x y : Job) → Some x ≡ Some y → y ≡ x

@@ -12,9 +12,9 @@ use Rattle.lr_chain.specs.declared.ready.Move.{Move}
 use Rattle.lr_chain.specs.Ready.{move_step}
 use Rattle.lr_laws_family.specs.Rotation as family
 use Rattle.lr_laws_family.proofs.Fed.{IsTurn}
-use Rattle.lr_laws_rotations.specs.Steps.{unlinks, steps_of}
-use Rattle.lr_laws_targets.specs.Rotation.{paths_in, rotation_by}
-use Rattle.lr_laws_targets.specs.Target.{Target, source_by, transfer_of, rotation_of}
+use Rattle.lr_laws_rotations.specs.Steps.{unlinks, bare_steps}
+use Rattle.lr_laws_targets.specs.Rotation.{removal_paths, rotation_by}
+use Rattle.lr_laws_targets.specs.Target.{Target, source_by, transfer_of, target_entries}
 use Rattle.lr_laws_targets.specs.Apart.{HasNames}
 use Rattle.lr_laws_targets.proofs.Way.{not_aside}
 
@@ -22,18 +22,18 @@ pub two : {xs ys xs' ys' : List Entry} → xs ≡ xs' → ys ≡ ys' → xs ++ y
 two {ys = ys} {xs' = xs'} a b = ap (λ x. x ++ ys) a ∙ ap (λ y. xs' ++ y) b
 
 -- where the log isn't copied, they are the steps of what is ready
-pub renamed_are : (t : Target) → t.job ≡ None → rotation_of t ≡ steps_of t.ready
+pub renamed_are : (t : Target) → t.job ≡ None → target_entries t ≡ bare_steps t.ready
 renamed_are t none = ap (λ (j : Option Job). unlinks t.ready.leftovers ++ (map move_step t.ready.moves ++ (transfer_of t.ready j t.aside ++ unlinks t.ready.retire))) none
 
 -- ---- what holds of each
 
-pub each_part : (P : Entry → Type 0) (t : Target) → Each P (unlinks t.ready.leftovers) → Each P (map move_step t.ready.moves) → Each P (transfer_of t.ready t.job t.aside) → Each P (unlinks t.ready.retire) → Each P (rotation_of t)
+pub each_part : (P : Entry → Type 0) (t : Target) → Each P (unlinks t.ready.leftovers) → Each P (map move_step t.ready.moves) → Each P (transfer_of t.ready t.job t.aside) → Each P (unlinks t.ready.retire) → Each P (target_entries t)
 each_part P t a b c d =
     each_append P (unlinks t.ready.leftovers) (map move_step t.ready.moves ++ (transfer_of t.ready t.job t.aside ++ unlinks t.ready.retire)) a
     (each_append P (map move_step t.ready.moves) (transfer_of t.ready t.job t.aside ++ unlinks t.ready.retire) b (each_append P (transfer_of t.ready t.job t.aside) (unlinks t.ready.retire) c d))
 
 -- a rotation renames and unlinks alone
-pub each_turn : (P : Entry → Type 0) → ((x : Path) → P (Unlinks x)) → ((x y : Path) → P (Renames x y)) → (t : Target) → Each P (rotation_of t)
+pub each_turn : (P : Entry → Type 0) → ((x : Path) → P (Unlinks x)) → ((x y : Path) → P (Renames x y)) → (t : Target) → Each P (target_entries t)
 each_turn P unlink rename t =
     each_part P t (each_map P (λ r. Unlinks r.path) t.ready.leftovers (λ r. unlink r.path)) (each_map P move_step t.ready.moves (λ m. rename m.from m.to)) (transfer t.job t.aside) (each_map P (λ r. Unlinks r.path) t.ready.retire (λ r. unlink r.path))
   where
@@ -55,12 +55,12 @@ moves_turn [] = tt
 moves_turn (m ∷ ms) = (tt, moves_turn ms)
 
 -- so do the steps of what is ready
-pub steps_turn : (t : Target) → Each IsTurn (steps_of t.ready)
+pub steps_turn : (t : Target) → Each IsTurn (bare_steps t.ready)
 steps_turn t = each_turn IsTurn (λ x. tt) (λ x y. tt) (record { log = t.log; naming = t.naming; count = t.count; maxage = t.maxage; stand = t.stand; ready = t.ready; job = None; aside = None })
 
 -- ---- they are those of the rotation of its family, but for what brings the log to its target
 
-unlinks_in : (rs : List Removal) → unlinks rs ≡ family.unlinks (paths_in rs)
+unlinks_in : (rs : List Removal) → unlinks rs ≡ family.unlinks (removal_paths rs)
 unlinks_in [] = refl
 unlinks_in (r ∷ rs) = ap (λ (es : List Entry). Unlinks r.path ∷ es) (unlinks_in rs)
 
@@ -69,27 +69,27 @@ module _ (t : Target) where
   moves = map move_step t.ready.moves
 
   abbrev first : List Entry
-  first = family.unlinks (paths_in t.ready.leftovers)
+  first = family.unlinks (removal_paths t.ready.leftovers)
 
-  parts : rotation_of t ≡ family.steps_before (rotation_by t) ++ (transfer_of t.ready t.job t.aside ++ family.steps_behind (rotation_by t))
+  parts : target_entries t ≡ family.steps_before (rotation_by t) ++ (transfer_of t.ready t.job t.aside ++ family.steps_behind (rotation_by t))
   parts = ap (λ (ls : List Entry). ls ++ (moves ++ (transfer_of t.ready t.job t.aside ++ unlinks t.ready.retire))) (unlinks_in t.ready.leftovers)
       ∙ (ap (λ (rs : List Entry). first ++ (moves ++ (transfer_of t.ready t.job t.aside ++ rs))) (unlinks_in t.ready.retire) ∙ sym (append_assoc first moves (transfer_of t.ready t.job t.aside ++ family.steps_behind (rotation_by t))))
 
   -- by its copy, and by where it is set aside
-  pub by_both : (j : Option Job) (a : Option Path) → t.job ≡ j → t.aside ≡ a → rotation_of t ≡ family.steps_before (rotation_by t) ++ (transfer_of t.ready j a ++ family.steps_behind (rotation_by t))
+  pub by_both : (j : Option Job) (a : Option Path) → t.job ≡ j → t.aside ≡ a → target_entries t ≡ family.steps_before (rotation_by t) ++ (transfer_of t.ready j a ++ family.steps_behind (rotation_by t))
   by_both j a is aside = parts
       ∙ (ap (λ (k : Option Job). family.steps_before (rotation_by t) ++ (transfer_of t.ready k t.aside ++ family.steps_behind (rotation_by t))) is
       ∙ ap (λ (b : Option Path). family.steps_before (rotation_by t) ++ (transfer_of t.ready j b ++ family.steps_behind (rotation_by t))) aside)
 
   -- where the log is renamed, from where it stands or waits
-  pub renamed_steps : HasNames t → t.job ≡ None → rotation_of t ≡ family.steps_of (rotation_by t)
+  pub renamed_steps : HasNames t → t.job ≡ None → target_entries t ≡ family.rotation_steps (rotation_by t)
   renamed_steps h none =
       let stays : t.aside ≡ None = not_aside t h.way none in
       by_both None None none stays
       ∙ ap (λ (x : Path). family.steps_before (rotation_by t) ++ (Renames x t.ready.target ∷ family.steps_behind (rotation_by t))) (sym (ap (λ (a : Option Path). source_by a t.ready.log) stays))
 
   -- where it is copied from where it stands
-  pub copied_steps : (job : Job) → t.job ≡ Some job → t.aside ≡ None → rotation_of t ≡ (family.steps_before (rotation_by t) ++ clearing job) ++ (Renames job.part job.to ∷ family.steps_behind (rotation_by t))
+  pub copied_steps : (job : Job) → t.job ≡ Some job → t.aside ≡ None → target_entries t ≡ (family.steps_before (rotation_by t) ++ clearing job) ++ (Renames job.part job.to ∷ family.steps_behind (rotation_by t))
   copied_steps job is stays = by_both (Some job) None is stays
       ∙ (ap (λ (es : List Entry). family.steps_before (rotation_by t) ++ es) (append_assoc (clearing job) (Renames job.part job.to ∷ []) (family.steps_behind (rotation_by t)))
       ∙ sym (append_assoc (family.steps_before (rotation_by t)) (clearing job) (Renames job.part job.to ∷ family.steps_behind (rotation_by t))))

@@ -38,7 +38,7 @@ use Rattle.lr_laws_rotations.proofs.Over.{first_aside}
 use Rattle.lr_laws_family.proofs.Weaving.{weave_as}
 use Rattle.lr_laws_rotations.proofs.Weaving.{IsApart, IsApartOrMakes}
 use Rattle.lr_laws_targets.specs.AllTurns.{IsOfState, IsOfSome, StandsBetween}
-use Rattle.lr_laws_targets.specs.Target.{Target, GoesBy, rotation_of}
+use Rattle.lr_laws_targets.specs.Target.{Target, GoesBy, target_entries}
 use Rattle.lr_laws_targets.proofs.AsideSafety.{aside_safe}
 use Rattle.lr_laws_targets.proofs.CallsFit.{log_paths}
 use Rattle.lr_laws_targets.proofs.Given.{gives, no_meet, naming_same, goes_by, by_rule}
@@ -98,11 +98,11 @@ module _ (clock : Clock) (way : Way) (s : LogSet) (state : Path) (rules : Rules)
       (by_rule (λ r. (r.count ≡ t.count) × (r.maxage ≡ t.maxage)) v rules.sets looks t here.rules_are l.given (given_of t l) (l.given.count_is, l.given.maxage_is))
 
   acts_safe : IsRenaming way → (ts : List Target) → AreLogsSeen rules clock looks ts → (acts : List Entry) (q : Past) → IsForwardFor clock s v → Each (λ e. IsOfSome ts e ⊎ IsOfState state e) (filter is_change acts)
-      → ((t : Target) → IsIn t ts → FirstWoven (StandsBetween state t ts) (rotation_of t) (filter is_change acts)) → Made v (reverse acts) q → NoneAttached s q → IsSafe s q
+      → ((t : Target) → IsIn t ts → FirstWoven (StandsBetween state t ts) (target_entries t) (filter is_change acts)) → Made v (reverse acts) q → NoneAttached s q → IsSafe s q
   acts_safe renaming ts seen acts q forward all each mq none_q = ⊎_elim own others (find s ts)
     where
       -- what stands between its steps lies beside
-      woven_in : (t : Target) → IsIn t ts → IsLogSeen rules clock looks t → t.log ≡ s.log → CopiesOutside s t → FirstWoven (IsApartOrMakes s) (rotation_of t) (filter is_change acts)
+      woven_in : (t : Target) → IsIn t ts → IsLogSeen rules clock looks t → t.log ≡ s.log → CopiesOutside s t → FirstWoven (IsApartOrMakes s) (target_entries t) (filter is_change acts)
       woven_in t i l same out = let w = each t i in
           record { made = w.made; first = w.first; woven = weave_as (StandsBetween state t ts) (IsApartOrMakes s) w.made (filter is_change acts) (λ e b. beside_apart s e (between t ts l seen same out e b)) w.woven }
 

@@ -16,7 +16,7 @@ use Rattle.lr_family.specs.declared.stand.Member.{Member}
 use Rattle.lr_copy.specs.declared.job.Job.{Job}
 use Rattle.lr_laws_family.specs.Beside.{IsBeside}
 use Rattle.lr_laws_family.specs.Made.{IsBetween, RotatesAmong}
-use Rattle.lr_laws_family.specs.Rotation.{part_paths, steps_of}
+use Rattle.lr_laws_family.specs.Rotation.{part_paths, rotation_steps}
 use Rattle.lr_laws_family.specs.Shown.{SawFile, WasSeen, IsUnseen, unlisted, gone, no_dir, Shown}
 use Rattle.lr_laws_family.specs.Weave.{Weave}
 use Rattle.lr_laws_family.proofs.Woven.{among}
@@ -83,8 +83,8 @@ module _ (state : Path) (clock : Clock) (rules : Rules) (reads tail : List Entry
     source_seen : SawFile (source_of x) front
     source_seen = subst (λ (y : Path). SawFile y front) (sym (ap (λ (a : Option Path). source_by a x.ready.log) (not_aside x names.way none))) first_seen
 
-    woven : Weave (IsBetween paths (rotation_by x)) (steps_of (rotation_by x)) (filter is_disk_change t.turns.acts)
-    woven = subst (λ (j : Option Job). Weave (IsBeside (part_paths (by_of j x.aside) ++ paths) x.log) (steps_of (rotation_by x)) (filter is_disk_change t.turns.acts)) (sym none)
+    woven : Weave (IsBetween paths (rotation_by x)) (rotation_steps (rotation_by x)) (filter is_disk_change t.turns.acts)
+    woven = subst (λ (j : Option Job). Weave (IsBeside (part_paths (by_of j x.aside) ++ paths) x.log) (rotation_steps (rotation_by x)) (filter is_disk_change t.turns.acts)) (sym none)
         (subst (λ (steps : List Entry). Weave (IsBeside paths x.log) steps (filter is_disk_change t.turns.acts)) (renamed_steps x names none) (rotates_beside state x t.turns.targets t.turns.acts none (t.whole x i)))
 
     pub rotates : RotatesAmong (paths_beside state x t.turns.targets) x.naming (rotation_by x) (reads ++ entry.Starts state clock.now rules ∷ tail)

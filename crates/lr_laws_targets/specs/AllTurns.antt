@@ -7,7 +7,7 @@ use Rattle.lr_host.specs.declared.entry.Entry.TheVariants as entry
 use Rattle.lr_host.specs.Lists.{IsIn}
 use Rattle.lr_laws.specs.Follow.{changed_paths}
 use Rattle.lr_copy.specs.declared.job.Job.{Job}
-use Rattle.lr_laws_targets.specs.Target.{Target, rotation_of}
+use Rattle.lr_laws_targets.specs.Target.{Target, target_entries}
 
 -- the path is the state's, or that of its part file
 abbrev pub IsStatePath : Path → Path → Type 0
@@ -44,7 +44,7 @@ AlsoDoes t _ = ⊥
 
 -- the entry is of the rotation of this log
 abbrev pub IsOf : Target → Entry → Type 0
-IsOf t e = IsIn e (rotation_of t) ⊎ AlsoDoes t e
+IsOf t e = IsIn e (target_entries t) ⊎ AlsoDoes t e
 
 -- of one of these logs
 abbrev pub IsOfSome : List Target → Entry → Type 0
@@ -61,9 +61,9 @@ abbrev pub StandsBetween : Path → Target → List Target → Entry → Type 0
 StandsBetween state t targets e = IsOfOther t.log targets e ⊎ (IsOfState state e ⊎ AlsoDoes t e)
 
 -- the path of the part file, where the log is copied
-abbrev pub part_paths : Option Job → List Path
-part_paths None = []
-part_paths (Some job) = job.part ∷ []
+abbrev pub job_part_paths : Option Job → List Path
+job_part_paths None = []
+job_part_paths (Some job) = job.part ∷ []
 
 -- the path of the directory that is made, if any
 abbrev pub dir_paths : Option (Path × Option ℕ) → List Path
@@ -71,13 +71,13 @@ dir_paths None = []
 dir_paths (Some (dir, mode)) = dir ∷ []
 
 -- all paths that a rotation changes
-abbrev pub paths_of : Target → List Path
-paths_of t = t.log ∷ (part_paths t.job ++ (dir_paths t.ready.dir ++ flat_map changed_paths (rotation_of t)))
+abbrev pub target_paths : Target → List Path
+target_paths t = t.log ∷ (job_part_paths t.job ++ (dir_paths t.ready.dir ++ flat_map changed_paths (target_entries t)))
 
 -- the paths that the rotations of other logs change, and those of the state
 abbrev pub paths_of_others : Path → List Target → List Path
 paths_of_others log [] = []
-paths_of_others log (t ∷ ts) = cond (bytes_eq t.log log) (paths_of_others log ts) (paths_of t ++ paths_of_others log ts)
+paths_of_others log (t ∷ ts) = cond (bytes_eq t.log log) (paths_of_others log ts) (target_paths t ++ paths_of_others log ts)
 
 abbrev pub other_paths : Path → Path → List Target → List Path
 other_paths state log targets = state ∷ (state ++ codes ".tmp") ∷ paths_of_others log targets

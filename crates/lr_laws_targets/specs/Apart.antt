@@ -9,7 +9,7 @@ use Rattle.lr_family.specs.Parts.{part_of, IsMember}
 use Rattle.lr_family.specs.Places.{AreNamed}
 use Rattle.lr_family.specs.Stands.{AreNewestFirst}
 use Rattle.lr_laws_family.specs.Members.{IsFamily, IsNoMember}
-use Rattle.lr_laws_targets.specs.Target.{Target, IsReadyBy, HasWay, HasDir, HasJob}
+use Rattle.lr_laws_targets.specs.Target.{Target, IsReadyBy, HasWay, HasDir, TargetHasJob}
 
 -- Each member that was seen, the newest first, has the path of its place; the count and the first number are such as a rule in its
 -- limits gives; and nothing hinders the rotation by some clock: so each member has a name that it comes to, and so has the log. The
@@ -28,8 +28,8 @@ pub record HasNames (t : Target) : Type 0 where
   pub beside : t.naming.aside ≡ true → IsNoMember t.naming (aside_path t.log)
   pub parts : (member : Path) → IsMember t.naming member → part_of member ≢ t.log
   pub dir : HasDir t
-  pub job : HasJob t
+  pub job : TargetHasJob t
 
-abbrev pub HaveNames : List Target → Type 0
-HaveNames [] = Unit {0}
-HaveNames (t ∷ ts) = HasNames t × HaveNames ts
+abbrev pub TargetsHaveNames : List Target → Type 0
+TargetsHaveNames [] = Unit {0}
+TargetsHaveNames (t ∷ ts) = HasNames t × TargetsHaveNames ts

@@ -13,8 +13,8 @@ by_of (Some job) None = Copy job
 by_of (Some job) (Some path) = Aside job
 
 -- the paths of these removals
-abbrev pub paths_in : List Removal → List Path
-paths_in removals = map (λ r. r.path) removals
+abbrev pub removal_paths : List Removal → List Path
+removal_paths removals = map (λ r. r.path) removals
 
 -- the rotation, as its plan has it
 abbrev pub rotation_by : Target → Rotation
@@ -22,9 +22,9 @@ rotation_by t = record {
   log = t.log;
   source = source_of t;
   stood = t.stand.members;
-  early = paths_in t.ready.leftovers;
+  early = removal_paths t.ready.leftovers;
   moves = t.ready.moves;
   target = t.ready.target;
-  gone = paths_in t.ready.retire;
+  gone = removal_paths t.ready.retire;
   by = by_of t.job t.aside;
 }

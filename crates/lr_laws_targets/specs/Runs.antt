@@ -11,7 +11,7 @@ use Rattle.lr_host.specs.Steps.{is_change}
 use Rattle.lr_host.specs.Told.{Each}
 use Rattle.lr_laws_family.specs.Weave.{Weave, FirstWoven}
 use Rattle.lr_laws_targets.specs.AllTurns.{IsOfState, IsOfSome, StandsBetween}
-use Rattle.lr_laws_targets.specs.Target.{Target, rotation_of}
+use Rattle.lr_laws_targets.specs.Target.{Target, target_entries}
 use Rattle.lr_laws_targets.specs.Seen.{AreLogsSeen}
 
 -- All logs were looked at while nothing was changed. Of the changes behind that, each is of the rotation of one of the logs, or the
@@ -25,13 +25,13 @@ pub record AllTurnsBy (state : Path) (clock : Clock) (rules : Rules) (ts : List 
   pub targets : List Target
   pub seen : AreLogsSeen rules clock looks targets
   pub all : Each (λ e. IsOfSome targets e ⊎ IsOfState state e) (filter is_change acts)
-  pub each : (t : Target) → IsIn t targets → FirstWoven (StandsBetween state t targets) (rotation_of t) (filter is_change acts)
+  pub each : (t : Target) → IsIn t targets → FirstWoven (StandsBetween state t targets) (target_entries t) (filter is_change acts)
 
 -- Each log was rotated whole: its renames and unlinks stand in order, with the changes of others between, and what its rotation
 -- does besides.
 pub record AllTurnedBy (state : Path) (clock : Clock) (rules : Rules) (ts : List Entry) : Type 0 where
   pub turns : AllTurnsBy state clock rules ts
-  pub whole : (t : Target) → IsIn t turns.targets → Weave (StandsBetween state t turns.targets) (rotation_of t)
+  pub whole : (t : Target) → IsIn t turns.targets → Weave (StandsBetween state t turns.targets) (target_entries t)
       (filter is_change turns.acts)
 
 -- What a run did behind what it read: nothing more, or it started at the clock's moment, looked, and rotated.

@@ -9,7 +9,7 @@ use Rattle.lr_chain.specs.Hindrances.{what_hinders}
 use Rattle.lr_laws_family.specs.Members.{IsFamily}
 use Rattle.lr_laws_family.specs.Shown.{Shown}
 use Rattle.lr_laws_family.specs.Weave.{Among}
-use Rattle.lr_laws_targets.specs.Target.{IsGiven, IsWaySeen, Target, IsReadyBy, IsDirSeen, IsJobOf}
+use Rattle.lr_laws_targets.specs.Target.{IsGiven, IsWaySeen, Target, IsReadyBy, IsDirSeen, IsTargetJob}
 
 -- The log has a path, and a word of a rule gives it; it was seen as a file, and the members of its family were, wherever these
 -- looks stand. Nothing hinders its rotation, which is that of the members that were seen, by the rule's count and age and by the
@@ -24,7 +24,7 @@ pub record IsLogSeen (rules : Rules) (clock : Clock) (looks : List Entry) (t : T
   pub free : what_hinders t.naming t.count clock t.stand ≡ []
   pub ready : IsReadyBy clock t
   pub dir : IsDirSeen t looks
-  pub job : IsJobOf t looks
+  pub job : IsTargetJob t looks
 
 abbrev pub AreLogsSeen : Rules → Clock → List Entry → List Target → Type 0
 AreLogsSeen rules clock looks [] = Unit {0}

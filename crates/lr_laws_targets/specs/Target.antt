@@ -35,7 +35,7 @@ use Rattle.lr_laws_family.specs.Weave.{Among}
 -- What looks and listings tell of a log where they are true: this word of one of the rules gives it. Where the word is a wildcard
 -- that gives another log too, which named a file before and of which it is a member, by numbers or dates, it is none by the naming
 -- of a rule that gives that log.
-pub record Gives (rules : List Rule) (rule : Rule) (word : List ℕ) (log : Path) (ts : List Entry) : Type 0 where
+pub record GivesLog (rules : List Rule) (rule : Rule) (word : List ℕ) (log : Path) (ts : List Entry) : Type 0 where
   pub gives : (p q : Past) (es : List Entry) → Made p es q → ts ≡ reverse es → WordGives word log
   pub alone : (p q : Past) (es : List Entry) → Made p es q → IsJournal p → ts ≡ reverse es → is_wildcard word ≡ true
       → (x : Path) → x ≢ log → path_fault x ≡ None → WordGives word x → IsFileAt (names (world p)) x
@@ -70,7 +70,7 @@ pub record StaysBefore (t : Target) : Type 0 where
   pub first_is : t.ready.log ≡ t.log
 
 -- it is set aside, to the path beside it, and copied from there, where it isn't emptied
-pub record IsSetAside (t : Target) : Type 0 where
+pub record IsTargetAside (t : Target) : Type 0 where
   pub aside_is : t.aside ≡ Some (aside_path t.log)
   pub first_is : t.ready.log ≡ t.log
   pub job : Job
@@ -85,7 +85,7 @@ pub record IsTakenUp (t : Target) : Type 0 where
 
 -- one of the two, of a log that may be set aside
 abbrev pub GoesAside : Target → Type 0
-GoesAside t = (t.naming.aside ≡ true) × (IsSetAside t ⊎ IsTakenUp t)
+GoesAside t = (t.naming.aside ≡ true) × (IsTargetAside t ⊎ IsTakenUp t)
 
 -- one of the three
 abbrev pub HasWay : Target → Type 0
@@ -107,8 +107,8 @@ transfer_of ready (Some job) None = clearing job ++ Renames job.part job.to ∷ 
 transfer_of ready (Some job) (Some path) = Renames ready.log path ∷ (clearing job ++ Renames job.part job.to ∷ Unlinks path ∷ [])
 
 -- The renames and unlinks of its rotation, in order.
-abbrev pub rotation_of : Target → List Entry
-rotation_of t = unlinks t.ready.leftovers ++ (map move_step t.ready.moves ++ (transfer_of t.ready t.job t.aside
+abbrev pub target_entries : Target → List Entry
+target_entries t = unlinks t.ready.leftovers ++ (map move_step t.ready.moves ++ (transfer_of t.ready t.job t.aside
     ++ unlinks t.ready.retire))
 
 -- the rotation that is ready is that of the members that stood, by this clock, whether a directory is made or not
@@ -124,7 +124,7 @@ pub record IsGiven (rules : List Rule) (looks : List Entry) (t : Target) : Type 
   pub word : List ℕ
   pub among : Contains rules rule
   pub has : Contains rule.words word
-  pub given : Among (Gives rules rule word t.log) looks
+  pub given : Among (GivesLog rules rule word t.log) looks
   pub naming_is : naming_of rule t.log ≡ t.naming
   pub count_is : rule.count ≡ t.count
   pub maxage_is : rule.maxage ≡ t.maxage
@@ -167,9 +167,9 @@ pub record IsJob (t : Target) (job : Job) : Type 0 where
   pub dir_is : job.dir ≡ t.naming.dir
 
 -- where there is a job, it is such a one
-abbrev pub HasJob : Target → Type 0
-HasJob t = (job : Job) → t.job ≡ Some job → IsJob t job
+abbrev pub TargetHasJob : Target → Type 0
+TargetHasJob t = (job : Job) → t.job ≡ Some job → IsJob t job
 
 -- and where an old part file goes, these looks saw one
-abbrev pub IsJobOf : Target → List Entry → Type 0
-IsJobOf t looks = (job : Job) → t.job ≡ Some job → IsJob t job × (job.stale ≡ true → Among (Sees job.part IsFile) looks)
+abbrev pub IsTargetJob : Target → List Entry → Type 0
+IsTargetJob t looks = (job : Job) → t.job ≡ Some job → IsJob t job × (job.stale ≡ true → Among (Sees job.part IsFile) looks)

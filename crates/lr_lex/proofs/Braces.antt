@@ -5,7 +5,7 @@ use Rattle.std.proofs.lemmas.Bool.{and_parts, and_right}
 use Rattle.std.specs.List.{list_all}
 use Rattle.lr_lex.specs.declared.sign.Sign.{Sign}
 use Rattle.lr_lex.specs.declared.sign.Sign.TheVariants.{Blank, Mark, Plain, Quoted}
-use Rattle.lr_lex.specs.Words.{is_gap, is_open, is_plain, opens, before_open}
+use Rattle.lr_lex.specs.Words.{is_gap, is_open, is_plain_byte, opens, before_open}
 use Rattle.lr_lex.specs.Scanning.{sign_byte, sign_bytes, InkEnds}
 use Rattle.std.proofs.lemmas.Str.{IsUtf8-append}
 use Rattle.lr_lex.proofs.Ascii.{utf8_around, one_text}
@@ -17,13 +17,13 @@ not-all [] k lt ink = absurd (omega arith)
 not-all (s ∷ ss) zero lt ink = ap (λ b. b && list_all is_gap ss) ink
 not-all (s ∷ ss) (suc k) lt ink = ap (λ b. is_gap s && b) (not-all ss k (omega arith) ink) ∙ and_right (is_gap s) false refl
 
-plain-ink : (s : Sign) (b : ℕ) → is_plain b s ≡ true → is_gap s ≡ false
+plain-ink : (s : Sign) (b : ℕ) → is_plain_byte b s ≡ true → is_gap s ≡ false
 plain-ink Blank b e = absurd (cc)
 plain-ink Mark b e = absurd (cc)
 plain-ink (Plain c) b e = refl
 plain-ink (Quoted c) b e = absurd (cc)
 
-pub plain-byte : (s : Sign) (b : ℕ) → is_plain b s ≡ true → sign_byte s ≡ b
+pub plain-byte : (s : Sign) (b : ℕ) → is_plain_byte b s ≡ true → sign_byte s ≡ b
 plain-byte Blank b e = absurd (cc)
 plain-byte Mark b e = absurd (cc)
 plain-byte (Plain c) b e = eqb-true c b e
@@ -94,13 +94,13 @@ pub whole : (ss : List Sign) (k : ℕ) → k < length ss → take k ss ++ get_or
 whole ss k lt = ap (λ l. take k ss ++ l) (sym (more_signs ss k lt)) ∙ take-append-drop k ss
 
 -- the signs before and behind a byte below 128 are of texts
-pub utf8_parts : (ss : List Sign) (k b : ℕ) → k < length ss → b < 128 → is_plain b (get_or ss k Blank) ≡ true → IsUtf8 (sign_bytes ss) → IsUtf8 (sign_bytes (take k ss)) × IsUtf8 (sign_bytes (drop (k + 1) ss))
+pub utf8_parts : (ss : List Sign) (k b : ℕ) → k < length ss → b < 128 → is_plain_byte b (get_or ss k Blank) ≡ true → IsUtf8 (sign_bytes ss) → IsUtf8 (sign_bytes (take k ss)) × IsUtf8 (sign_bytes (drop (k + 1) ss))
 utf8_parts ss k b lt small is u =
     let e : sign_byte (get_or ss k Blank) ≡ b = plain-byte (get_or ss k Blank) b is in
     utf8_around (take k ss) (drop (k + 1) ss) (get_or ss k Blank) (omega (arith, e))
     (subst (λ l. IsUtf8 (sign_bytes l)) (sym (whole ss k lt)) u)
 
-pub utf8_from : (ss : List Sign) (k b : ℕ) → k < length ss → b < 128 → is_plain b (get_or ss k Blank) ≡ true → IsUtf8 (sign_bytes ss) → IsUtf8 (sign_bytes (drop k ss))
+pub utf8_from : (ss : List Sign) (k b : ℕ) → k < length ss → b < 128 → is_plain_byte b (get_or ss k Blank) ≡ true → IsUtf8 (sign_bytes ss) → IsUtf8 (sign_bytes (drop k ss))
 utf8_from ss k b lt small is u =
     let e : sign_byte (get_or ss k Blank) ≡ b = plain-byte (get_or ss k Blank) b is in
     let rest : IsUtf8 (sign_bytes (drop (k + 1) ss)) = (utf8_parts ss k b lt small is u).1 in

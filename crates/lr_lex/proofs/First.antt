@@ -14,11 +14,11 @@ use Rattle.lr_lex.specs.declared.said.Said.TheVariants as says
 use Rattle.lr_lex.specs.declared.place.Place.{Place}
 use Rattle.lr_lex.specs.Signs.{line_signs, signs, left_open}
 use Rattle.lr_lex.specs.Words.{closes, opens, before_open, is_brace, line_words}
-use Rattle.lr_lex.specs.Lines.{Line, line_at, lines, longer, line_of, after_line}
-use Rattle.lr_lex.specs.Items.{Told, said, items_of, body, ended, behind_script, is_end, script_text, by_first, by_words, by_signs, by_sign, is_sign, begins_script, is_name_sign, line_of_words, fault, is_text, told, taken, script, answer}
+use Rattle.lr_lex.specs.Lines.{NumberedLine, line_at, lines, longer, line_of, after_line}
+use Rattle.lr_lex.specs.Items.{Told, said, items_of, body, ended, behind_script, is_end, script_text, by_first, by_words, by_signs, by_sign, is_no_blank, begins_script, is_name_sign, line_of_words, fault, is_text, told, taken, script, answer}
 use Rattle.lr_lex.specs.declared.lexer.Lexer.{Lexer}
-use Rattle.lr_lex.specs.Lexing.{coming, coming_from, ByKind, Gives}
-use Rattle.lr_lex.specs.Scanning.{Passes, lines_from, IsScript}
+use Rattle.lr_lex.specs.Lexing.{coming, coming_from, ByKind, LexerGives}
+use Rattle.lr_lex.specs.Scanning.{LinePasses, lines_from, IsScript}
 
 -- ---- sizes
 
@@ -76,7 +76,7 @@ nonempty (suc n) e = omega arith
 
 -- ---- a lexer
 
-pub passes : (old new : Place) (bytes : List ℕ) → 0 < length old.rest.now → Passes old new → bytes ≡ line_of old.rest.now → lines_from old ≡ line_at old.line old.at bytes ∷ lines_from new
+pub passes : (old new : Place) (bytes : List ℕ) → 0 < length old.rest.now → LinePasses old new → bytes ≡ line_of old.rest.now → lines_from old ≡ line_at old.line old.at bytes ∷ lines_from new
 passes old new bytes h p be =
     lines-are old.line old.at old.rest.now h
     ∙ ap (λ x. line_at old.line old.at x ∷ lines (old.line + 1) (old.at + length (line_of old.rest.now) + 1) (after_line old.rest.now)) (sym be)
@@ -88,7 +88,7 @@ pub empty-lines : (l : Place) → length l.rest.now ≡ 0 → lines_from l ≡ [
 empty-lines l e = ap (λ r. lines l.line l.at r) (nil_from_length l.rest.now e)
 
 -- a script's lines are passed over
-pub skipped : (ls : List Line) → items_of (suc (length (body ls))) ls ≡ items_of 0 (behind_script ls)
+pub skipped : (ls : List NumberedLine) → items_of (suc (length (body ls))) ls ≡ items_of 0 (behind_script ls)
 skipped [] = refl
 skipped (l ∷ ls) = by_test (is_end l) (skipped ls)
   where
@@ -118,21 +118,21 @@ signs-fine n at names (Some ss) =
     either (closes ss) (says.Item (item.Close n)) (by_words n names (opens ss) (list_any is_brace (before_open ss)) ws)
     tt (words-fine n names (opens ss) (list_any is_brace (before_open ss)) ws (slice_get ws 0))
 
-sign-fine : (l : Line) (b : Option ℕ) → NoMemory (by_sign l b)
+sign-fine : (l : NumberedLine) (b : Option ℕ) → NoMemory (by_sign l b)
 sign-fine l None = tt
 sign-fine l (Some b) =
     either (b == 35) says.Nothing (by_signs l.number l.at (is_name_sign b) (line_signs (is_name_sign b) l.bytes))
     tt (signs-fine l.number l.at (is_name_sign b) (line_signs (is_name_sign b) l.bytes))
 
-pub said-fine : (l : Line) → NoMemory (said l)
+pub said-fine : (l : NumberedLine) → NoMemory (said l)
 unfolding said
 said-fine l =
     either (nat_lt 8192 (length l.bytes)) (fault l.number kind.LineTooLong) _ (λ e. cc)
-    (either (not (is_text l.bytes)) (fault l.number kind.NotUtf8) (by_sign l (find is_sign l.bytes)) (λ e. cc) (sign-fine l (find is_sign l.bytes)))
+    (either (not (is_text l.bytes)) (fault l.number kind.NotUtf8) (by_sign l (find is_no_blank l.bytes)) (λ e. cc) (sign-fine l (find is_no_blank l.bytes)))
 
 -- ---- a script's lines
 
-pub script-ends : (here new : Place) (l : Line) → lines_from here ≡ l ∷ lines_from new → is_end l ≡ true
+pub script-ends : (here new : Place) (l : NumberedLine) → lines_from here ≡ l ∷ lines_from new → is_end l ≡ true
     → (script_text (body (lines_from here)) ≡ []) × (ended (lines_from here) ≡ true) × (behind_script (lines_from here) ≡ lines_from new)
 script-ends here new l e end = (
   ap (λ ls. script_text (body ls)) e ∙ ap (λ t. script_text (cond t [] (l ∷ body (lines_from new)))) end,
@@ -140,7 +140,7 @@ script-ends here new l e end = (
   ap (λ ls. behind_script ls) e ∙ ap (λ t. cond t (lines_from new) (behind_script (lines_from new))) end,
 )
 
-pub script-goes : (here new : Place) (l : Line) → lines_from here ≡ l ∷ lines_from new → is_end l ≡ false
+pub script-goes : (here new : Place) (l : NumberedLine) → lines_from here ≡ l ∷ lines_from new → is_end l ≡ false
     → (script_text (body (lines_from here)) ≡ (l.bytes ++ 10 ∷ []) ++ script_text (body (lines_from new))) × (ended (lines_from here) ≡ ended (lines_from new)) × (behind_script (lines_from here) ≡ behind_script (lines_from new))
 script-goes here new l e end = (
   ap (λ ls. script_text (body ls)) e ∙ ap (λ t. script_text (cond t [] (l ∷ body (lines_from new)))) end,
@@ -150,7 +150,7 @@ script-goes here new l e end = (
 
 -- ---- what comes
 
-pub step : (old new : Place) (l : Line) (s : Said) → lines_from old ≡ l ∷ lines_from new → s ≡ said l
+pub step : (old new : Place) (l : NumberedLine) (s : Said) → lines_from old ≡ l ∷ lines_from new → s ≡ said l
     → coming_from old ≡ told l.number s (lines_from new) ++ items_of (taken s (lines_from new)) (lines_from new)
 step old new l s e f =
     ap (items_of 0) e ∙ ap (λ x. told l.number x (lines_from new) ++ items_of (taken x (lines_from new)) (lines_from new)) (sym f)
@@ -161,7 +161,7 @@ same-script n w brace stray bytes text true reads test = ap (λ l. script n w br
 same-script n w brace stray bytes text false reads test =
     ap (λ b. cond (not b) (Err (record { line = n; kind = kind.NotUtf8 })) (Err (record { line = n; kind = kind.NoEndscript }))) test
 
-pub at_script : (old new behind : Place) (l : Line) (w : Word) (brace stray end : Bool) (bytes : List ℕ) → lines_from old ≡ l ∷ lines_from new → says.Script w brace stray ≡ said l → IsScript new bytes end behind
+pub at_script : (old new behind : Place) (l : NumberedLine) (w : Word) (brace stray end : Bool) (bytes : List ℕ) → lines_from old ≡ l ∷ lines_from new → says.Script w brace stray ≡ said l → IsScript new bytes end behind
     → coming_from old ≡ script l.number w brace stray bytes end ∷ coming_from behind
 at_script old new behind l w brace stray end bytes e f s =
     let text = script_text (body (lines_from new)) in
@@ -177,7 +177,7 @@ fine-by kind.NotUtf8 P Q other q = q
 fine-by kind.OpenQuote P Q other q = q
 fine-by kind.NoEndscript P Q other q = q
 
-pub at_fault : (old new : Place) (l : Line) (f : LexFault) (P : Type 0) → lines_from old ≡ l ∷ lines_from new → says.Fault f ≡ said l → ByKind f.kind P (coming_from old ≡ Err f ∷ coming_from new)
+pub at_fault : (old new : Place) (l : NumberedLine) (f : LexFault) (P : Type 0) → lines_from old ≡ l ∷ lines_from new → says.Fault f ≡ said l → ByKind f.kind P (coming_from old ≡ Err f ∷ coming_from new)
 at_fault old new l f P e is =
     let fine : NoMemory (says.Fault f) = subst NoMemory (sym is) (said-fine l) in
     fine-by f.kind P (coming_from old ≡ Err f ∷ coming_from new) fine (step old new l (says.Fault f) e is)
@@ -197,7 +197,7 @@ script-fine n w brace stray text end =
     (told-either end (Ok (item.Script w text brace stray n)) (Err (record { line = n; kind = kind.NoEndscript })) tt (λ e. cc))
 
 -- an answer that is the next told
-pub gives : (old new : Lexer) (t : Told) → ToldFine t → coming old ≡ t ∷ coming new → Gives old new (answer t)
+pub gives : (old new : Lexer) (t : Told) → ToldFine t → coming old ≡ t ∷ coming new → LexerGives old new (answer t)
 gives old new (Ok i) fine e = e
 gives old new (Err f) fine e = fine-by f.kind (coming new ≡ coming old) (coming old ≡ Err f ∷ coming new) fine e
 
@@ -210,15 +210,15 @@ some_of false x y e = absurd (cc)
 pub signs-are : (names : Bool) (bytes : List ℕ) (ss : List Sign) → line_signs names bytes ≡ Some ss → signs names 0 bytes ≡ ss
 signs-are names bytes ss e = some_of (eqb (left_open 0 bytes) 0) (signs names 0 bytes) ss e
 
-pub said-signs : (l : Line) (b : ℕ) (ss : List Sign) → nat_lt 8192 (length l.bytes) ≡ false → is_text l.bytes ≡ true → find is_sign l.bytes ≡ Some b → eqb b 35 ≡ false
+pub said-signs : (l : NumberedLine) (b : ℕ) (ss : List Sign) → nat_lt 8192 (length l.bytes) ≡ false → is_text l.bytes ≡ true → find is_no_blank l.bytes ≡ Some b → eqb b 35 ≡ false
     → line_signs (is_name_sign b) l.bytes ≡ Some ss → by_signs l.number l.at (is_name_sign b) (Some ss) ≡ said l
 unfolding said
 said-signs l b ss few text first other signs =
     ap (by_signs l.number l.at (is_name_sign b)) (sym signs)
     ∙ sym (ap (λ x. cond x says.Nothing (by_signs l.number l.at (is_name_sign b) (line_signs (is_name_sign b) l.bytes))) other)
     ∙ sym (ap (by_sign l) first)
-    ∙ sym (ap (λ x. cond (not x) (fault l.number kind.NotUtf8) (by_sign l (find is_sign l.bytes))) text)
-    ∙ sym (ap (λ x. cond x (fault l.number kind.LineTooLong) (cond (not (is_text l.bytes)) (fault l.number kind.NotUtf8) (by_sign l (find is_sign l.bytes)))) few)
+    ∙ sym (ap (λ x. cond (not x) (fault l.number kind.NotUtf8) (by_sign l (find is_no_blank l.bytes))) text)
+    ∙ sym (ap (λ x. cond x (fault l.number kind.LineTooLong) (cond (not (is_text l.bytes)) (fault l.number kind.NotUtf8) (by_sign l (find is_no_blank l.bytes)))) few)
 
 pub on_ok : {T E : Type 0} (r : Result T E) (a b : T) → IfOk r (λ v. v ≡ a) → a ≡ b → IfOk r (λ v. v ≡ b)
 on_ok (Ok v) a b h e = h ∙ e

@@ -4,8 +4,8 @@ use Rattle.lr_lex.specs.declared.word.Word.{Word}
 use Rattle.lr_lex.specs.declared.sign.Sign.{Sign}
 use Rattle.lr_lex.specs.declared.sign.Sign.TheVariants.{Blank, Mark, Plain, Quoted}
 use Rattle.lr_lex.specs.declared.scan.Scan.{Scan}
-use Rattle.lr_lex.specs.Words.{words, onto, joined, one, goes_on, is_gap, text_of}
-use Rattle.lr_lex.specs.Scanning.{ahead, to_come, draft, draft_bytes, with_draft, extended, behind_sign, Ends, Extends}
+use Rattle.lr_lex.specs.Words.{words, onto, joined, one, goes_on, is_gap, sign_text}
+use Rattle.lr_lex.specs.Scanning.{ahead, to_come, draft, draft_bytes, with_draft, extended, behind_sign, WordEnds, Extends}
 
 -- ---- parts of a state: words, whether a word is being read, and the word
 
@@ -53,7 +53,7 @@ come-is : (s : Scan) (ws : List Word) (inside : Bool) (w : Word) (at : ℕ) (ss 
 come-is s ws inside w at ss a b c =
     ap (λ x. so_far x s.inside (draft s) at ss) a ∙ ap (λ x. so_far ws x (draft s) at ss) b ∙ ap (λ x. so_far ws inside x at ss) c
 
-pub at_gap : (old new : Scan) (at : ℕ) → Ends old new → (ss : List Sign) → to_come old at (Blank ∷ ss) ≡ to_come new (at + 1) ss
+pub at_gap : (old new : Scan) (at : ℕ) → WordEnds old new → (ss : List Sign) → to_come old at (Blank ∷ ss) ≡ to_come new (at + 1) ss
 at_gap old new at e ss = gap-law old.words old.inside (draft old) at ss ∙ sym (come-is new _ false (draft new) (at + 1) ss e.words e.inside refl)
 
 pub at_ink : (old new : Scan) (at : ℕ) (s : Sign) → is_gap s ≡ false → Extends old new at s → (ss : List Sign) → to_come old at (s ∷ ss) ≡ to_come new (at + 1) ss
@@ -74,11 +74,11 @@ fresh s at ss a b = come-is s [] false (draft s) at ss a b refl
 pub no_bytes : (s : Scan) → s.inside ≡ false → draft_bytes s ≡ []
 no_bytes s e = ap (λ b. cond b s.bytes.items []) e
 
-more-text : (inside : Bool) (w : Word) (at : ℕ) (s : Sign) → (extended inside w (one at s)).text ≡ cond inside w.text [] ++ text_of s
+more-text : (inside : Bool) (w : Word) (at : ℕ) (s : Sign) → (extended inside w (one at s)).text ≡ cond inside w.text [] ++ sign_text s
 more-text true w at s = refl
 more-text false w at s = refl
 
-behind-ink : (bytes : List ℕ) (s : Sign) → is_gap s ≡ false → bytes ++ text_of s ≡ behind_sign bytes s
+behind-ink : (bytes : List ℕ) (s : Sign) → is_gap s ≡ false → bytes ++ sign_text s ≡ behind_sign bytes s
 behind-ink bytes Blank gap = absurd (cc)
 behind-ink bytes Mark gap = refl
 behind-ink bytes (Plain b) gap = refl

@@ -5,7 +5,7 @@ use Rattle.std.proofs.lemmas.List.{take_at}
 use Rattle.std.specs.Str.{is_utf8}
 use Rattle.std.specs.List.{list_any}
 use Rattle.std.proofs.lemmas.Str.{IsUtf8-append, IsUtf8-from_is_utf8, is_utf8-from_IsUtf8}
-use Rattle.lr_lex.specs.Lines.{Line, line_at, lines, longer, line_of, after_line}
+use Rattle.lr_lex.specs.Lines.{NumberedLine, line_at, lines, longer, line_of, after_line}
 use Rattle.lr_lex.specs.Items.{is_text, is_zero, is_end, body, ended, script_text}
 use Rattle.lr_lex.proofs.Ascii.{parts, one_text}
 
@@ -18,7 +18,7 @@ one-more : (b : ℕ) (text bs : List ℕ) → Closed text bs → Closed (b ∷ t
 one-more b text bs (inl e) = inl (ap (λ l. b ∷ l) e)
 one-more b text bs (inr e) = inr (ap (λ l. b ∷ l) e)
 
-longer-text : (n at b : ℕ) (ls : List Line) (bs : List ℕ) → Closed (script_text ls) bs → Closed (script_text (longer n at b ls)) (b ∷ bs)
+longer-text : (n at b : ℕ) (ls : List NumberedLine) (bs : List ℕ) → Closed (script_text ls) bs → Closed (script_text (longer n at b ls)) (b ∷ bs)
 longer-text n at b [] bs (inl e) = inr (ap (λ l. b ∷ l ++ 10 ∷ []) e)
 longer-text n at b [] bs (inr e) = let f = ap length e ∙ length-append bs (10 ∷ []) in absurd (omega (arith, f))
 longer-text n at b (l ∷ ls) bs c = one-more b (script_text (l ∷ ls)) bs c
@@ -55,7 +55,7 @@ closed-test : (text bs : List ℕ) → Closed text bs → is_text bs ≡ is_text
 closed-test text bs (inl e) = ap is_text (sym e)
 closed-test text bs (inr e) = newline-test bs ∙ ap is_text (sym e)
 
-all-body : (ls : List Line) → ended ls ≡ false → body ls ≡ ls
+all-body : (ls : List NumberedLine) → ended ls ≡ false → body ls ≡ ls
 all-body [] e = refl
 all-body (l ∷ ls) e =
     ap (λ t. cond t [] (l ∷ body ls)) (or_parts (is_end l) (ended ls) e).0 ∙ ap (λ x. l ∷ x) (all-body ls (or_parts (is_end l) (ended ls) e).1)

@@ -12,8 +12,8 @@ use Rattle.lr_lex.specs.declared.said.Said.{Said}
 use Rattle.lr_lex.specs.declared.said.Said.TheVariants as says
 use Rattle.lr_lex.specs.Signs.{signs, left_open, sign_of, quote_behind, escape, line_signs}
 use Rattle.lr_lex.specs.Words.{Rises, words, onto, one, is_gap, goes_on, is_open, is_brace, is_equals, parted, line_words, closes, opens, before_open}
-use Rattle.lr_lex.specs.Lines.{Line, line_at, lines, longer}
-use Rattle.lr_lex.specs.Items.{Told, said, by_sign, by_signs, by_words, line_of_words, begins_script, is_name_sign, is_sign, is_text, fault, told, taken, body, ended, script, script_text, items_of, items, words_told, all_words}
+use Rattle.lr_lex.specs.Lines.{NumberedLine, line_at, lines, longer}
+use Rattle.lr_lex.specs.Items.{Told, said, by_sign, by_signs, by_words, line_of_words, begins_script, is_name_sign, is_no_blank, is_text, fault, told, taken, body, ended, script, script_text, items_of, items, words_told, all_words}
 
 -- ---- runs of words
 
@@ -111,24 +111,24 @@ signs-rise at to n names ss le =
     (first-rises at to n names (opens ss) (list_any is_brace front) (line_words names at front)
     (later at (at + length front) to (line_words names at front) (omega (arith, before-length ss)) (line-rises names at front)))
 
-line-signs-rise : (l : Line) (b : ℕ) → SaidRises l.at (l.at + length l.bytes) (by_signs l.number l.at (is_name_sign b) (line_signs (is_name_sign b) l.bytes))
+line-signs-rise : (l : NumberedLine) (b : ℕ) → SaidRises l.at (l.at + length l.bytes) (by_signs l.number l.at (is_name_sign b) (line_signs (is_name_sign b) l.bytes))
 line-signs-rise l b = by_test (eqb (left_open 0 l.bytes) 0)
   where
     by_test : (t : Bool) → SaidRises l.at (l.at + length l.bytes) (by_signs l.number l.at (is_name_sign b) (cond t (Some (signs (is_name_sign b) 0 l.bytes)) None))
     by_test true = signs-rise l.at (l.at + length l.bytes) l.number (is_name_sign b) (signs (is_name_sign b) 0 l.bytes) (omega (arith, signs-length (is_name_sign b) 0 l.bytes))
     by_test false = omega arith
 
-sign-rises : (l : Line) (o : Option ℕ) → SaidRises l.at (l.at + length l.bytes) (by_sign l o)
+sign-rises : (l : NumberedLine) (o : Option ℕ) → SaidRises l.at (l.at + length l.bytes) (by_sign l o)
 sign-rises l None = omega arith
 sign-rises l (Some b) =
     either l.at (l.at + length l.bytes) (b == 35) says.Nothing (by_signs l.number l.at (is_name_sign b) (line_signs (is_name_sign b) l.bytes)) (omega arith) (line-signs-rise l b)
 
-said-rises : (l : Line) → SaidRises l.at (l.at + length l.bytes) (said l)
+said-rises : (l : NumberedLine) → SaidRises l.at (l.at + length l.bytes) (said l)
 unfolding said
 said-rises l =
     let to = l.at + length l.bytes in
-    either l.at to (nat_lt 8192 (length l.bytes)) (fault l.number kind.LineTooLong) (cond (not (is_text l.bytes)) (fault l.number kind.NotUtf8) (by_sign l (find is_sign l.bytes))) (omega arith)
-    (either l.at to (not (is_text l.bytes)) (fault l.number kind.NotUtf8) (by_sign l (find is_sign l.bytes)) (omega arith) (sign-rises l (find is_sign l.bytes)))
+    either l.at to (nat_lt 8192 (length l.bytes)) (fault l.number kind.LineTooLong) (cond (not (is_text l.bytes)) (fault l.number kind.NotUtf8) (by_sign l (find is_no_blank l.bytes))) (omega arith)
+    (either l.at to (not (is_text l.bytes)) (fault l.number kind.NotUtf8) (by_sign l (find is_no_blank l.bytes)) (omega arith) (sign-rises l (find is_no_blank l.bytes)))
 
 -- ---- what a line tells
 
@@ -145,7 +145,7 @@ script-rises at to n w brace stray text end h =
 only : (at to : ℕ) (t : Told) → Rises at (words_told t) to → Rises at (all_words (t ∷ [])) to
 only at to t h = subst (λ ws. Rises at ws to) (sym (append-nil (words_told t))) h
 
-told-rises : (at to n : ℕ) (s : Said) (ls : List Line) → SaidRises at to s → Rises at (all_words (told n s ls)) to
+told-rises : (at to n : ℕ) (s : Said) (ls : List NumberedLine) → SaidRises at to s → Rises at (all_words (told n s ls)) to
 told-rises at to n says.Nothing ls h = h
 told-rises at to n (says.Item i) ls h = only at to (Ok i) h
 told-rises at to n (says.Fault f) ls h = h
@@ -155,15 +155,15 @@ told-rises at to n (says.Script w brace stray) ls h =
 -- ---- lines
 
 -- the lines stand one behind another
-abbrev InPlace : ℕ → List Line → ℕ → Type 0
+abbrev InPlace : ℕ → List NumberedLine → ℕ → Type 0
 InPlace from [] to = from ≤ to
 InPlace from (l ∷ ls) to = (from ≤ l.at) × InPlace (l.at + length l.bytes) ls to
 
-sooner : (a b to : ℕ) (ls : List Line) → a ≤ b → InPlace b ls to → InPlace a ls to
+sooner : (a b to : ℕ) (ls : List NumberedLine) → a ≤ b → InPlace b ls to → InPlace a ls to
 sooner a b to [] le h = omega (arith, h)
 sooner a b to (l ∷ ls) le h = (omega (arith, h.0), h.1)
 
-longer-place : (n at b to : ℕ) (ls : List Line) → InPlace (at + 1) ls to → InPlace at (longer n at b ls) to
+longer-place : (n at b to : ℕ) (ls : List NumberedLine) → InPlace (at + 1) ls to → InPlace at (longer n at b ls) to
 longer-place n at b to [] h = (omega arith, h)
 longer-place n at b to (l ∷ ls) h = (omega arith, sooner (at + length (b ∷ l.bytes)) (l.at + length l.bytes) to ls (omega (arith, h.0)) h.1)
 
@@ -184,7 +184,7 @@ more-words : (ts us : List Told) → all_words (ts ++ us) ≡ all_words ts ++ al
 more-words [] us = refl
 more-words (t ∷ ts) us = ap (λ ws. words_told t ++ ws) (more-words ts us) ∙ sym (append_assoc (words_told t) (all_words ts) (all_words us))
 
-items-rise : (from to : ℕ) (ls : List Line) (skipped : ℕ) → InPlace from ls to → Rises from (all_words (items_of skipped ls)) to
+items-rise : (from to : ℕ) (ls : List NumberedLine) (skipped : ℕ) → InPlace from ls to → Rises from (all_words (items_of skipped ls)) to
 items-rise from to [] skipped h = h
 items-rise from to (l ∷ ls) (suc skipped) h =
     earlier from (l.at + length l.bytes) to (all_words (items_of skipped ls)) (omega (arith, h.0)) (items-rise (l.at + length l.bytes) to ls skipped h.1)

@@ -14,7 +14,7 @@ use Rattle.lr_lex.specs.declared.said.Said.TheVariants as says
 use Rattle.lr_lex.specs.declared.sign.Sign.{Sign}
 use Rattle.lr_lex.specs.Signs.{is_blank, is_quote, line_signs}
 use Rattle.lr_lex.specs.Words.{line_words, closes, opens, before_open, is_brace}
-use Rattle.lr_lex.specs.Lines.{Line, lines}
+use Rattle.lr_lex.specs.Lines.{NumberedLine, lines}
 
 -- ---- what a line says by itself
 
@@ -25,8 +25,8 @@ is_zero b = b == 0
 unfoldable pub is_text : List ℕ → Bool
 is_text bytes = is_utf8 bytes && not (list_any is_zero bytes)
 
-abbrev pub is_sign : ℕ → Bool
-is_sign b = not (is_blank b)
+abbrev pub is_no_blank : ℕ → Bool
+is_no_blank b = not (is_blank b)
 
 -- a line whose first sign past blanks is this one holds names
 abbrev pub is_name_sign : ℕ → Bool
@@ -71,17 +71,17 @@ by_signs number at names (Some ss) =
     else by_words number names (opens ss) (list_any is_brace (before_open ss)) (line_words names at (before_open ss))
 
 -- by the first sign past blanks
-abbrev pub by_sign : Line → Option ℕ → Said
+abbrev pub by_sign : NumberedLine → Option ℕ → Said
 by_sign l None = says.Nothing
 by_sign l (Some b) =
     if b == 35 then says.Nothing
     else by_signs l.number l.at (is_name_sign b) (line_signs (is_name_sign b) l.bytes)
 
-unfoldable pub said : Line → Said
+unfoldable pub said : NumberedLine → Said
 said l =
     if nat_lt 8192 (length l.bytes) then fault l.number kind.LineTooLong
     else if not (is_text l.bytes) then fault l.number kind.NotUtf8
-    else by_sign l (find is_sign l.bytes)
+    else by_sign l (find is_no_blank l.bytes)
 
 -- ---- scripts
 
@@ -90,30 +90,30 @@ from_place bytes None = []
 from_place bytes (Some k) = drop k bytes
 
 abbrev pub past_blanks : List ℕ → List ℕ
-past_blanks bytes = from_place bytes (position is_sign bytes)
+past_blanks bytes = from_place bytes (position is_no_blank bytes)
 
 -- `endscript`, and blanks
 abbrev pub is_end_word : List ℕ → Bool
 is_end_word bytes = bytes_eq (take 9 bytes) (codes "endscript") && list_all is_blank (drop 9 bytes)
 
 -- the line is `endscript` past blanks
-unfoldable pub is_end : Line → Bool
+unfoldable pub is_end : NumberedLine → Bool
 is_end l = is_end_word (past_blanks l.bytes)
 
 -- the lines before the first that ends a script, whether there is one, and the lines behind it
-abbrev pub body : List Line → List Line
+abbrev pub body : List NumberedLine → List NumberedLine
 body [] = []
 body (l ∷ ls) = if is_end l then [] else (l ∷ body ls)
 
-abbrev pub ended : List Line → Bool
+abbrev pub ended : List NumberedLine → Bool
 ended ls = list_any is_end ls
 
-abbrev pub behind_script : List Line → List Line
+abbrev pub behind_script : List NumberedLine → List NumberedLine
 behind_script [] = []
 behind_script (l ∷ ls) = if is_end l then ls else behind_script ls
 
 -- each line with its newline
-abbrev pub script_text : List Line → List ℕ
+abbrev pub script_text : List NumberedLine → List ℕ
 script_text ls = flat_map (λ l. l.bytes ++ 10 ∷ []) ls
 
 -- ---- items
@@ -129,19 +129,19 @@ script number w brace stray text ended =
     else Err (record { line = number; kind = kind.NoEndscript })
 
 -- what a line tells, with the lines behind it
-abbrev pub told : ℕ → Said → List Line → List Told
+abbrev pub told : ℕ → Said → List NumberedLine → List Told
 told number says.Nothing ls = []
 told number (says.Item i) ls = Ok i ∷ []
 told number (says.Fault f) ls = Err f ∷ []
 told number (says.Script w brace stray) ls = script number w brace stray (script_text (body ls)) (ended ls) ∷ []
 
 -- how many of the lines behind it are its script, with the one that ends it
-abbrev pub taken : Said → List Line → ℕ
+abbrev pub taken : Said → List NumberedLine → ℕ
 taken (says.Script w brace stray) ls = suc (length (body ls))
 taken other ls = 0
 
 -- what the lines tell, but for so many in front, which belong to a script
-abbrev pub items_of : ℕ → List Line → List Told
+abbrev pub items_of : ℕ → List NumberedLine → List Told
 items_of skipped [] = []
 items_of (suc skipped) (l ∷ ls) = items_of skipped ls
 items_of zero (l ∷ ls) = told l.number (said l) ls ++ items_of (taken (said l) ls) ls

@@ -23,7 +23,7 @@ ByKind k P Q = Q
 
 -- The answer is the first that was to come, and the others are still to come; none exactly where nothing was to come;
 -- after want of memory all is still to come.
-abbrev pub Gives : Lexer → Lexer → Result (Option Item) LexFault → Type 0
-Gives old new (Ok None) = (coming old ≡ []) × (coming new ≡ [])
-Gives old new (Ok (Some i)) = coming old ≡ Ok i ∷ coming new
-Gives old new (Err f) = ByKind f.kind (coming new ≡ coming old) (coming old ≡ Err f ∷ coming new)
+abbrev pub LexerGives : Lexer → Lexer → Result (Option Item) LexFault → Type 0
+LexerGives old new (Ok None) = (coming old ≡ []) × (coming new ≡ [])
+LexerGives old new (Ok (Some i)) = coming old ≡ Ok i ∷ coming new
+LexerGives old new (Err f) = ByKind f.kind (coming new ≡ coming old) (coming old ≡ Err f ∷ coming new)

@@ -2,22 +2,22 @@
 use Rattle.std.specs.Prelude.{ℕ, ◌==◌, ◌+◌, List, [], ◌∷◌, if◌then◌else◌}
 
 -- a line: its number, where it begins, and its bytes without its newline
-pub record Line : Type 0 where
+pub record NumberedLine : Type 0 where
   pub number : ℕ
   pub at : ℕ
   pub bytes : List ℕ
 
-abbrev pub line_at : ℕ → ℕ → List ℕ → Line
+abbrev pub line_at : ℕ → ℕ → List ℕ → NumberedLine
 line_at number at bytes = record { number = number; at = at; bytes = bytes }
 
 -- a byte before the first line
-abbrev pub longer : ℕ → ℕ → ℕ → List Line → List Line
+abbrev pub longer : ℕ → ℕ → ℕ → List NumberedLine → List NumberedLine
 longer number at b [] = line_at number at (b ∷ []) ∷ []
 longer number at b (l ∷ ls) = line_at number at (b ∷ l.bytes) ∷ ls
 
 -- The lines of a text whose first line has this number and begins at this place. A newline ends its line; behind the
 -- last newline there is a line only where bytes stand.
-abbrev pub lines : ℕ → ℕ → List ℕ → List Line
+abbrev pub lines : ℕ → ℕ → List ℕ → List NumberedLine
 lines number at [] = []
 lines number at (b ∷ bs) =
     if b == 10 then (line_at number at [] ∷ lines (number + 1) (at + 1) bs)

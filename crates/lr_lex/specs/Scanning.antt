@@ -6,8 +6,8 @@ use Rattle.lr_lex.specs.declared.word.Word.{Word}
 use Rattle.lr_lex.specs.declared.sign.Sign.{Sign}
 use Rattle.lr_lex.specs.declared.sign.Sign.TheVariants.{Blank, Mark, Plain, Quoted}
 use Rattle.lr_lex.specs.declared.scan.Scan.{Scan}
-use Rattle.lr_lex.specs.Words.{words, goes_on, onto, joined, one, text_of, is_gap}
-use Rattle.lr_lex.specs.Lines.{Line, lines, line_of, after_line}
+use Rattle.lr_lex.specs.Words.{words, goes_on, onto, joined, one, sign_text, is_gap}
+use Rattle.lr_lex.specs.Lines.{NumberedLine, lines, line_of, after_line}
 use Rattle.lr_lex.specs.Items.{is_text, body, ended, behind_script, script_text}
 
 -- ---- a line
@@ -44,7 +44,7 @@ abbrev pub with_draft : Bool → List Word → Word → List Word
 with_draft true ws w = ws ++ w ∷ []
 with_draft false ws w = ws
 
-pub record Ends (old : Scan) (new : Scan) : Type 0 where
+pub record WordEnds (old : Scan) (new : Scan) : Type 0 where
   pub words : new.words ≡ with_draft old.inside old.words (draft old)
   pub inside : new.inside ≡ false
 
@@ -61,7 +61,7 @@ pub record Extends (old : Scan) (new : Scan) (at : ℕ) (s : Sign) : Type 0 wher
 -- the bytes of the word that is being read, behind a sign
 abbrev pub behind_sign : List ℕ → Sign → List ℕ
 behind_sign bytes Blank = []
-behind_sign bytes s = bytes ++ text_of s
+behind_sign bytes s = bytes ++ sign_text s
 
 -- all signs from this place on are blanks, and the one before it is none
 pub record InkEnds (ss : List Sign) (end : ℕ) : Type 0 where
@@ -71,11 +71,11 @@ pub record InkEnds (ss : List Sign) (end : ℕ) : Type 0 where
 
 -- ---- a text
 
-abbrev pub lines_from : Place → List Line
+abbrev pub lines_from : Place → List NumberedLine
 lines_from p = lines p.line p.at p.rest.now
 
 -- new stands behind the first line of old
-pub record Passes (old : Place) (new : Place) : Type 0 where
+pub record LinePasses (old : Place) (new : Place) : Type 0 where
   pub rest : new.rest.now ≡ after_line old.rest.now
   pub at : new.at ≡ old.at + length (line_of old.rest.now) + 1
   pub line : new.line ≡ old.line + 1

@@ -14,30 +14,30 @@ abbrev pub is_ink : Sign → Bool
 is_ink sign = not (is_gap sign)
 
 -- the byte itself, outside quotes
-abbrev pub is_plain : ℕ → Sign → Bool
-is_plain byte (Plain b) = b == byte
-is_plain byte sign = false
+abbrev pub is_plain_byte : ℕ → Sign → Bool
+is_plain_byte byte (Plain b) = b == byte
+is_plain_byte byte sign = false
 
 abbrev pub is_open : Sign → Bool
-is_open sign = is_plain 123 sign
+is_open sign = is_plain_byte 123 sign
 
-abbrev pub is_close : Sign → Bool
-is_close sign = is_plain 125 sign
+abbrev pub is_close_sign : Sign → Bool
+is_close_sign sign = is_plain_byte 125 sign
 
 abbrev pub is_brace : Sign → Bool
-is_brace sign = is_open sign || is_close sign
+is_brace sign = is_open sign || is_close_sign sign
 
 abbrev pub is_equals : Sign → Bool
-is_equals sign = is_plain 61 sign
+is_equals sign = is_plain_byte 61 sign
 
 -- ---- words
 
 -- what the sign adds to its word
-abbrev pub text_of : Sign → List ℕ
-text_of Blank = []
-text_of Mark = []
-text_of (Plain b) = b ∷ []
-text_of (Quoted b) = b ∷ []
+abbrev pub sign_text : Sign → List ℕ
+sign_text Blank = []
+sign_text Mark = []
+sign_text (Plain b) = b ∷ []
+sign_text (Quoted b) = b ∷ []
 
 -- the signs begin inside a word
 abbrev pub goes_on : List Sign → Bool
@@ -45,7 +45,7 @@ goes_on [] = false
 goes_on (s ∷ ss) = is_ink s
 
 abbrev pub one : ℕ → Sign → Word
-one at s = record { text = text_of s; at = at; len = 1 }
+one at s = record { text = sign_text s; at = at; len = 1 }
 
 abbrev pub joined : Word → Word → Word
 joined w v = record { text = w.text ++ v.text; at = w.at; len = w.len + v.len }
@@ -76,7 +76,7 @@ line_words names at ss = if names then words at ss else words at (parted at ss (
 
 -- the only sign past blanks is a closing brace
 abbrev pub closes : List Sign → Bool
-closes ss = list_any is_close ss && count_by is_ink ss == 1
+closes ss = list_any is_close_sign ss && count_by is_ink ss == 1
 
 -- the last sign past blanks is an opening brace
 abbrev pub opens : List Sign → Bool

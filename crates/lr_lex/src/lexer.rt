@@ -18,7 +18,7 @@ pub struct Lexer<'a> {
 
 impl<'a> Lexer<'a> {
     ghost use Rattle.lr_lex.specs.Items.{items};
-    ghost use Rattle.lr_lex.specs.Lexing.{coming, Gives};
+    ghost use Rattle.lr_lex.specs.Lexing.{coming, LexerGives};
 
     /// A lexer at the start of a text of fewer than 2^32 bytes, which has taken no memory.
     pub fn new(alloc: Global, bytes: &'a [u8]) -> Lexer<'a>
@@ -40,7 +40,7 @@ impl<'a> Lexer<'a> {
     /// After a fault of a line the lexer goes on at the next line, after a fault of a script's text at the line behind
     /// its `endscript`, or at the end where it has none. After `Memory` it stands where it stood.
     pub fn next(&mut self) -> Result<Option<Item>, LexFault>
-        ensures { Gives self.old self.new result }
+        ensures { LexerGives self.old self.new result }
     {
         while !self.place.rest.is_empty() {
             let (line, behind) = pass(&self.place);

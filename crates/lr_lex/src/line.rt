@@ -1,7 +1,7 @@
 // The words and braces of a line.
 ghost use Rattle.std.specs.Prelude.{◌≡◌, ◌+◌, ◌<◌, ◌≤◌, ◌^◌, length, position, count_by, IfOk, IsUtf8, Some};
 ghost use Rattle.std.specs.List.{list_any};
-ghost use Rattle.lr_lex.specs.Words.{is_gap, is_ink, is_open, is_close, is_brace, is_equals, closes, opens, before_open};
+ghost use Rattle.lr_lex.specs.Words.{is_gap, is_ink, is_open, is_close_sign, is_brace, is_equals, closes, opens, before_open};
 ghost use Rattle.lr_lex.specs.Words.{words as words_of_signs, line_words, parted};
 ghost use Rattle.lr_lex.specs.Scanning.{sign_bytes, InkEnds};
 
@@ -24,7 +24,7 @@ fn open(sign: Sign) -> bool
 }
 
 fn close(sign: Sign) -> bool
-    ensures { result ≡ is_close sign }
+    ensures { result ≡ is_close_sign sign }
 {
     matches!(sign, Sign::Plain(b'}'))
 }
@@ -42,7 +42,7 @@ fn equals(sign: Sign) -> bool
 }
 
 fn has_close(signs: &[Sign]) -> bool
-    ensures { result ≡ list_any is_close signs.now }
+    ensures { result ≡ list_any is_close_sign signs.now }
 {
     signs.iter().any(|sign| close(*sign))
 }

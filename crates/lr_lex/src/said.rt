@@ -1,7 +1,8 @@
 // What a line says by itself.
 ghost use Rattle.std.specs.Prelude.{◌≡◌, ◌+◌, ◌<◌, ◌^◌, length, find, slice_get, IfOk, IsUtf8, Some};
 ghost use Rattle.lr_lex.specs.Lines.{line_at};
-ghost use Rattle.lr_lex.specs.Items.{fault, is_sign, is_name_sign, begins_script, first_begins_script, by_words, by_signs, said};
+ghost use Rattle.lr_lex.specs.Items.{fault, is_no_blank, is_name_sign, begins_script, first_begins_script};
+ghost use Rattle.lr_lex.specs.Items.{by_words, by_signs, said};
 ghost use Rattle.lr_lex.specs.Scanning.{sign_bytes};
 
 use crate::item::{Item, LexFault, LexKind};
@@ -30,7 +31,7 @@ pub enum Said {
 
 /// The first byte that is no blank.
 fn first_sign(line: &[u8]) -> Option<u8>
-    ensures { result ≡ find is_sign line.now }
+    ensures { result ≡ find is_no_blank line.now }
 {
     line.iter().copied().find(|byte| !blank(*byte))
 }

@@ -1,6 +1,6 @@
 // Words, sign by sign.
 ghost use Rattle.std.specs.Prelude.{◌≡◌, ◌==◌, ◌+◌, ◌≤◌, ◌<◌, ◌^◌, ◌-◌, ◌++◌, ◌∷◌, ℕ, [], length, IfOk, OnOk, IsUtf8, List, false};
-ghost use Rattle.lr_lex.specs.Scanning.{draft_bytes, behind_sign, to_come, Ends, Extends, sign_bytes};
+ghost use Rattle.lr_lex.specs.Scanning.{draft_bytes, behind_sign, to_come, WordEnds, Extends, sign_bytes};
 ghost use Rattle.lr_lex.specs.declared.sign.Sign.{Sign};
 
 use crate::sign::Sign;
@@ -50,7 +50,7 @@ impl Scan {
     /// Ends the word that is being read.
     fn end(&mut self) -> Result<(), Memory>
         requires { IsUtf8 (draft_bytes self.old) }
-        ensures ends { OnOk result (Ends self.old self.new) }
+        ensures ends { OnOk result (WordEnds self.old self.new) }
         ensures len { self.new.len ≡ self.old.len }
     {
         if self.inside {

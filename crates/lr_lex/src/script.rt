@@ -3,7 +3,7 @@ ghost use Rattle.std.specs.Prelude.{◌≡◌, ◌<◌, ℕ, length, position, I
 ghost use Rattle.std.specs.List.{list_all};
 ghost use Rattle.lr_lex.specs.Signs.{is_blank};
 ghost use Rattle.lr_lex.specs.Lines.{line_at};
-ghost use Rattle.lr_lex.specs.Items.{is_sign, past_blanks, is_end, script};
+ghost use Rattle.lr_lex.specs.Items.{is_no_blank, past_blanks, is_end, script};
 ghost use Rattle.lr_lex.specs.Scanning.{IsScript};
 
 use crate::item::{Item, LexFault, LexKind};
@@ -16,7 +16,7 @@ use lr_rules::Memory;
 use std::alloc::Global;
 
 fn first_place(line: &[u8]) -> Option<usize>
-    ensures { result ≡ position is_sign line.now }
+    ensures { result ≡ position is_no_blank line.now }
 {
     line.iter().position(|byte| !blank(*byte))
 }

@@ -1,7 +1,7 @@
 // The first line and the others.
 ghost use Rattle.std.specs.Prelude.{◌≡◌, ◌+◌, ◌<◌, ◌≤◌, length};
 ghost use Rattle.lr_lex.specs.Lines.{line_of, after_line};
-ghost use Rattle.lr_lex.specs.Scanning.{Passes};
+ghost use Rattle.lr_lex.specs.Scanning.{LinePasses};
 
 use crate::place::Place;
 use bstr::ByteSlice;
@@ -21,7 +21,7 @@ fn split_line<'a>(bytes: &'a [u8]) -> (&'a [u8], &'a [u8])
 pub fn pass<'a>(place: &Place<'a>) -> (&'a [u8], Place<'a>)
     requires { 0 < length place.now.rest.now }
     ensures line { result.0.now ≡ line_of place.now.rest.now }
-    ensures passes { Passes place.now result.1 }
+    ensures passes { LinePasses place.now result.1 }
     ensures less { length result.1.rest.now < length place.now.rest.now }
     ensures size { length (line_of place.now.rest.now) ≤ length place.now.rest.now }
 {

@@ -10,7 +10,7 @@ use Rattle.lr_host.specs.declared.thing.Seen.{Seen}
 use Rattle.lr_rules.specs.declared.path.Path.{Path}
 use Rattle.lr_looks.specs.Families.{LookedLog, looked_at}
 use Rattle.lr_looks.specs.Found.{FoundLog}
-use Rattle.lr_looks.specs.Ready.{Each}
+use Rattle.lr_looks.specs.Ready.{EachLook}
 use Rattle.lr_looks.specs.Sets.{where_in, of_set, looked_in, HaveLooksFrom}
 
 differs : (j k : ℕ) → (j ≡ k → ⊥) → eqb j k ≡ false
@@ -73,7 +73,7 @@ all_more P xs x h p = All-append P xs (x ∷ []) h (All-cons P x [] p none)
     none : All P []
     none = search rules
 
-pub each_grow : (P : LogLook → Type 0) (at : ℕ) (look : LogLook) (sets : List SetLooks) (new d : SetLooks) → at < length sets → new.logs ≡ (get_or sets at d).logs ++ look ∷ [] → P look → Each P sets → Each P (slice_set sets at new)
+pub each_grow : (P : LogLook → Type 0) (at : ℕ) (look : LogLook) (sets : List SetLooks) (new d : SetLooks) → at < length sets → new.logs ≡ (get_or sets at d).logs ++ look ∷ [] → P look → EachLook P sets → EachLook P (slice_set sets at new)
 each_grow P at look [] new d lt n p h = absurd (omega (arith, lt))
 each_grow P zero look (s ∷ ss) new d lt n p h = (subst (All P) (sym n) (all_more P s.logs look h.0 p), h.1)
 each_grow P (suc at) look (s ∷ ss) new d lt n p h = (h.0, each_grow P at look ss new d (omega (arith, lt)) n p h.1)
@@ -84,7 +84,7 @@ pub none_more : (k : ℕ) (sets : List SetLooks) (new : SetLooks) → new.logs �
 none_more k [] new e h = (ap (map (looked_in k)) e, tt)
 none_more k (s ∷ ss) new e h = (h.0, none_more (k + 1) ss new e h.1)
 
-pub each_none : (P : LogLook → Type 0) (sets : List SetLooks) (new : SetLooks) → new.logs ≡ [] → Each P sets → Each P (sets ++ new ∷ [])
+pub each_none : (P : LogLook → Type 0) (sets : List SetLooks) (new : SetLooks) → new.logs ≡ [] → EachLook P sets → EachLook P (sets ++ new ∷ [])
 each_none P [] new e h = (subst (All P) (sym e) none, tt)
   where
     none : All P []

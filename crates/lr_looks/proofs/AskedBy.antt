@@ -2,7 +2,7 @@
 use Rattle.std.proofs.Common.{◌≡◌, ◌<◌, ◌+◌, ℕ, zero, suc, List, [], ◌∷◌, ◌++◌, length, map, take, get_or, sym, ap, ◌∙◌, subst, arith, append_assoc}
 use Rattle.std.proofs.lemmas.List.{append-nil, map-append, take_more}
 use Rattle.lr_rules.specs.declared.rule.Rule.{Rule}
-use Rattle.lr_looks.specs.Asked.{Word, word_of, words_of, words_from, asked_by}
+use Rattle.lr_looks.specs.Asked.{Word, word_of, rule_words, words_from, asked_by}
 
 plus_none : (n : ℕ) → n ≡ n + 0
 plus_none n = omega arith
@@ -34,36 +34,36 @@ words_part set rule (x ∷ words) (suc at) word lt e =
 
 -- ---- the words of all rules
 
-from_step : (k : ℕ) (rules : List Rule) (at : ℕ) (rule : Rule) → at < length rules → rule ≡ get_or rules at rule → words_from k (take (suc at) rules) ≡ words_from k (take at rules) ++ words_of (k + at) rule
+from_step : (k : ℕ) (rules : List Rule) (at : ℕ) (rule : Rule) → at < length rules → rule ≡ get_or rules at rule → words_from k (take (suc at) rules) ≡ words_from k (take at rules) ++ rule_words (k + at) rule
 from_step k [] at rule lt e = absurd (omega (arith, lt))
-from_step k (r ∷ rules) zero rule lt e = append-nil (words_of k r) ∙ (ap (λ (q : Rule). words_of k q) (sym e) ∙ ap (λ n. words_of n rule) (plus_none k))
+from_step k (r ∷ rules) zero rule lt e = append-nil (rule_words k r) ∙ (ap (λ (q : Rule). rule_words k q) (sym e) ∙ ap (λ n. rule_words n rule) (plus_none k))
 from_step k (r ∷ rules) (suc at) rule lt e =
-    ap (λ xs. words_of k r ++ xs) (from_step (k + 1) rules at rule (omega (arith, lt)) e ∙ ap (λ n. words_from (k + 1) (take at rules) ++ words_of n rule) (moved k at))
-    ∙ sym (append_assoc (words_of k r) (words_from (k + 1) (take at rules)) (words_of (k + suc at) rule))
+    ap (λ xs. rule_words k r ++ xs) (from_step (k + 1) rules at rule (omega (arith, lt)) e ∙ ap (λ n. words_from (k + 1) (take at rules) ++ rule_words n rule) (moved k at))
+    ∙ sym (append_assoc (rule_words k r) (words_from (k + 1) (take at rules)) (rule_words (k + suc at) rule))
 
 none_more : (n : ℕ) → 0 + n ≡ n
 none_more n = omega arith
 
-pub asked_more : (rules : List Rule) (at : ℕ) (rule : Rule) → at < length rules → rule ≡ get_or rules at rule → asked_by (take (at + 1) rules) ≡ asked_by (take at rules) ++ words_of at rule
-asked_more rules at rule lt e = subst (λ n. asked_by (take n rules) ≡ asked_by (take at rules) ++ words_of at rule) (next at) (from_step 0 rules at rule lt e ∙ ap (λ n. asked_by (take at rules) ++ words_of n rule) (none_more at))
+pub asked_more : (rules : List Rule) (at : ℕ) (rule : Rule) → at < length rules → rule ≡ get_or rules at rule → asked_by (take (at + 1) rules) ≡ asked_by (take at rules) ++ rule_words at rule
+asked_more rules at rule lt e = subst (λ n. asked_by (take n rules) ≡ asked_by (take at rules) ++ rule_words at rule) (next at) (from_step 0 rules at rule lt e ∙ ap (λ n. asked_by (take at rules) ++ rule_words n rule) (none_more at))
   where
     next : (n : ℕ) → suc n ≡ n + 1
     next n = omega arith
 
-from_part : (k : ℕ) (rules : List Rule) (at : ℕ) (rule : Rule) → at < length rules → rule ≡ get_or rules at rule → IsPart (words_from k rules) (words_from k (take at rules)) (words_of (k + at) rule)
+from_part : (k : ℕ) (rules : List Rule) (at : ℕ) (rule : Rule) → at < length rules → rule ≡ get_or rules at rule → IsPart (words_from k rules) (words_from k (take at rules)) (rule_words (k + at) rule)
 from_part k [] at rule lt e = absurd (omega (arith, lt))
 from_part k (r ∷ rules) zero rule lt e = record {
   behind = words_from (k + 1) rules;
-  joined = ap (λ (q : Rule). words_of k q ++ words_from (k + 1) rules) (sym e) ∙ ap (λ n. words_of n rule ++ words_from (k + 1) rules) (plus_none k);
+  joined = ap (λ (q : Rule). rule_words k q ++ words_from (k + 1) rules) (sym e) ∙ ap (λ n. rule_words n rule ++ words_from (k + 1) rules) (plus_none k);
 }
 from_part k (r ∷ rules) (suc at) rule lt e =
     let p = from_part (k + 1) rules at rule (omega (arith, lt)) e in
     record {
       behind = p.behind;
       joined =
-          ap (λ xs. words_of k r ++ xs) (p.joined ∙ ap (λ n. words_from (k + 1) (take at rules) ++ (words_of n rule ++ p.behind)) (moved k at))
-          ∙ sym (append_assoc (words_of k r) (words_from (k + 1) (take at rules)) (words_of (k + suc at) rule ++ p.behind));
+          ap (λ xs. rule_words k r ++ xs) (p.joined ∙ ap (λ n. words_from (k + 1) (take at rules) ++ (rule_words n rule ++ p.behind)) (moved k at))
+          ∙ sym (append_assoc (rule_words k r) (words_from (k + 1) (take at rules)) (rule_words (k + suc at) rule ++ p.behind));
     }
 
-pub asked_part : (rules : List Rule) (at : ℕ) (rule : Rule) → at < length rules → rule ≡ get_or rules at rule → IsPart (asked_by rules) (asked_by (take at rules)) (words_of at rule)
-asked_part rules at rule lt e = subst (λ n. IsPart (asked_by rules) (asked_by (take at rules)) (words_of n rule)) (none_more at) (from_part 0 rules at rule lt e)
+pub asked_part : (rules : List Rule) (at : ℕ) (rule : Rule) → at < length rules → rule ≡ get_or rules at rule → IsPart (asked_by rules) (asked_by (take at rules)) (rule_words at rule)
+asked_part rules at rule lt e = subst (λ n. IsPart (asked_by rules) (asked_by (take at rules)) (rule_words n rule)) (none_more at) (from_part 0 rules at rule lt e)

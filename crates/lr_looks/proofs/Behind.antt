@@ -16,7 +16,7 @@ use Rattle.lr_family.specs.declared.stand.StandStop.{StandStop}
 use Rattle.lr_family.specs.declared.stand.StandStop.TheVariants as stop
 use Rattle.lr_family.specs.Among.{ShowsIn, ShowsNoneIn}
 use Rattle.lr_family.specs.Places.{AreNamed}
-use Rattle.lr_family.specs.Stands.{AreNewestFirst, IsFailedCall}
+use Rattle.lr_family.specs.Stands.{AreNewestFirst, IsFailedStand}
 use Rattle.lr_kept.proofs.Elements.{same_read}
 use Rattle.lr_looks.proofs.Known.{read_last}
 use Rattle.lr_rules.specs.declared.fault.Fault.{Fault}
@@ -27,13 +27,13 @@ use Rattle.lr_host.specs.Counted.{WentBy}
 use Rattle.lr_host.proofs.Counts.{free_none, went_free, went_call}
 use Rattle.lr_looks.specs.Found.{FoundLog, found_in, all_found_in, Hold}
 use Rattle.lr_looks.specs.Families.{ShowFamilies, HadMemory, AllHadMemory, stop_fault, family_fault, family_faults, LookedLog, looked_at, looked_by, looked_of, LookedAtFamilies, LookedAtSomeFamilies, FamilySight, Stood, Stopped, sight_of, ShowsAside, ShowsNoAside, ShowsMembersIn, ShowsFamily, behind_listing, with_listing, not_listed}
-use Rattle.lr_looks.specs.Internal.{TakesListing, before, taken, LacksListing, IsAt, NoListing, lacks, unadded, FamilyPart, AddsLooked, AddsFamily, AddsFamilies, LooksBySets}
+use Rattle.lr_looks.specs.Internal.{TakesListing, before, taken, LacksListing, IsListedAt, NoListing, lacks, unadded, FamilyPart, AddsLooked, AddsFamily, AddsFamilies, LooksBySets}
 use Rattle.lr_plan.specs.declared.looks.SetLooks.{SetLooks}
 use Rattle.lr_plan.specs.Planned.{AreMembersOf}
 use Rattle.lr_looks.specs.Sets.{HaveLooks}
 
 -- the listing at the place is the one that was read
-pub its_listing : (known : List Listing) (place : ℕ) (dir : Path) (x : Listing) → IsAt known place dir → x ≡ get_or known place x → slice_get known place ≡ Some x
+pub its_listing : (known : List Listing) (place : ℕ) (dir : Path) (x : Listing) → IsListedAt known place dir → x ≡ get_or known place x → slice_get known place ≡ Some x
 its_listing known place dir x h e = let same : get_or known place x ≡ h.0 = get_or_from_slice_get known place h.0 x h.1 in h.1 ∙ ap (λ (l : Listing). Some l) (sym (e ∙ same))
 
 behind : (known after : List Listing) (log : Path) (n : Naming) (place : ℕ) (x : Listing) (s : FamilySight) (ts us : List Entry) → slice_get after place ≡ Some x → TakesListing known n.dir after place ts → ShowsMembersIn log n x s us
@@ -129,7 +129,7 @@ some_told (Err x) known f s l = left_as l (λ ts h. record {
 })
 
 pub stop_went : {T E : Type 0} (r : Result T E) (why : StandStop) (faults all : List Fault) (a b : Counts)
-    → (IsFailedCall why → Rose a.faults b.faults) → Onward a b → OnOk r (all ≡ faults ++ stop_fault why) → WentBy r faults all a b
+    → (IsFailedStand why → Rose a.faults b.faults) → Onward a b → OnOk r (all ≡ faults ++ stop_fault why) → WentBy r faults all a b
 stop_went (Ok x) (stop.Call kind path) faults all a b rose on e = went_call faults all kind path a b e (rose (record {})) on
 stop_went (Ok x) (stop.NotFile path) faults all a b rose on e = went_free faults all (stop_fault (stop.NotFile path)) a b e
     (record { calls = refl; scripts = refl; none_around = ((λ h. h), tt) }) on

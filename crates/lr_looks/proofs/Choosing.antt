@@ -15,13 +15,13 @@ use Rattle.lr_kept.specs.declared.choice.Choice.{Choice}
 use Rattle.lr_kept.specs.declared.choice.Choice.TheVariants.{Kept, Again, MemberOf, Reserved, Meets}
 use Rattle.lr_kept.specs.Chosen.{IsChoice, HasFormat, HaveFormats}
 use Rattle.lr_looks.specs.declared.found.Found.{Found}
-use Rattle.lr_looks.specs.Choices.{names_of, found_names, is_wild, choice_fault, choice_faults, where_kept, kept_of, IsChoiceAmong}
+use Rattle.lr_looks.specs.Choices.{chosen_names, found_names, is_wild, choice_fault, choice_faults, where_kept, kept_of, IsChoiceAmong}
 use Rattle.lr_looks.specs.Found.{FoundLog, found_in, all_found_in, HaveLogPaths}
-use Rattle.lr_looks.specs.Internal.{IsWithin, AreWithin}
+use Rattle.lr_looks.specs.Internal.{IsWithinCounts, AreWithinCounts}
 
 -- ---- choices name logs of the list
 
-is_within : (logs : List (Bor Family)) (wild : List Bool) (reserved : List Path) (choices : List Choice) (k n : ℕ) (c : Choice) → length logs ≡ n → k < n → IsChoice logs wild reserved choices k c → IsWithin (length reserved) n c
+is_within : (logs : List (Bor Family)) (wild : List Bool) (reserved : List Path) (choices : List Choice) (k n : ℕ) (c : Choice) → length logs ≡ n → k < n → IsChoice logs wild reserved choices k c → IsWithinCounts (length reserved) n c
 is_within logs wild reserved choices k n Kept many lt h = record {}
 is_within logs wild reserved choices k n (Again i) many lt h = let b : i < k = h.before in omega (arith, b)
 is_within logs wild reserved choices k n (MemberOf i) many lt h = subst (λ m. i < m) many (slice_get_within logs i h.is.member.one h.is.member.at_one)
@@ -29,21 +29,21 @@ is_within logs wild reserved choices k n (Reserved i) many lt h = slice_get_with
 is_within logs wild reserved choices k n (Meets i) many lt h = let b : i < k = h.before in omega (arith, b)
 
 pub as_many : (reserved : List Path) (found : List Found) (choices : List Choice) → IsChoiceAmong reserved (all_found_in found) choices → length choices ≡ length found
-as_many reserved found choices c = c.chosen.as_many ∙ (sym (length-map c.logs names_of) ∙ (ap length c.same ∙ (length-map (all_found_in found) found_names ∙ length-map found found_in)))
+as_many reserved found choices c = c.chosen.as_many ∙ (sym (length-map c.logs chosen_names) ∙ (ap length c.same ∙ (length-map (all_found_in found) found_names ∙ length-map found found_in)))
 
-pub are_within : (reserved : List Path) (found : List Found) (choices : List Choice) → IsChoiceAmong reserved (all_found_in found) choices → AreWithin (length reserved) (length found) choices
+pub are_within : (reserved : List Path) (found : List Found) (choices : List Choice) → IsChoiceAmong reserved (all_found_in found) choices → AreWithinCounts (length reserved) (length found) choices
 are_within reserved found choices c = λ k d lt.
     let many : length choices ≡ length found = as_many reserved found choices c in
     is_within c.logs (map is_wild (all_found_in found)) reserved choices k (length found) (get_or choices k d) (sym c.chosen.as_many ∙ many) (omega (arith, many)) (c.chosen.each k (get_or choices k d) (slice_get-get_or choices k d lt))
 
 -- ---- formats of dates
 
-pub have_formats : (bs : List (Bor Family)) (fs : List FoundLog) → map names_of bs ≡ map found_names fs → HaveLogPaths fs → HaveFormats bs
+pub have_formats : (bs : List (Bor Family)) (fs : List FoundLog) → map chosen_names bs ≡ map found_names fs → HaveLogPaths fs → HaveFormats bs
 have_formats [] fs e h = All-nil (λ (b : Bor Family). HasFormat b.now)
 have_formats (b ∷ bs) [] e h = absurd (cc e)
 have_formats (b ∷ bs) (f ∷ fs) e h =
-    let one : names_of b ≡ found_names f = cc e in
-    let rest : map names_of bs ≡ map found_names fs = cc e in
+    let one : chosen_names b ≡ found_names f = cc e in
+    let rest : map chosen_names bs ≡ map found_names fs = cc e in
     All-cons (λ (b : Bor Family). HasFormat b.now) b bs (subst (λ (p : Path × Naming). or_none is_format p.1.dated ≡ true) (sym one) h.0.format) (have_formats bs fs rest h.1)
 
 -- ---- one log more

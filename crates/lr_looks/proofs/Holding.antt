@@ -9,8 +9,8 @@ use Rattle.lr_kept.specs.declared.choice.Choice.{Choice}
 use Rattle.lr_kept.specs.declared.choice.Choice.TheVariants.{Kept, Again, MemberOf, Reserved, Meets}
 use Rattle.lr_glob.specs.declared.found.Found.{Found as Match}
 use Rattle.lr_plan.specs.Planned.{is_file_kind}
-use Rattle.lr_looks.specs.Asked.{Word, word_of, words_of, words_from, asked_by, CanAsk, CanAskAll}
-use Rattle.lr_looks.specs.Choices.{kept_of, where_file, Keeps}
+use Rattle.lr_looks.specs.Asked.{Word, word_of, rule_words, words_from, asked_by, CanAsk, CanAskAll}
+use Rattle.lr_looks.specs.Choices.{kept_of, where_file, KeepsLogs}
 use Rattle.lr_looks.specs.Found.{FoundLog, HasBounds, HasLogPath, HaveBounds, HaveLogPaths, Hold}
 use Rattle.lr_looks.specs.Internal.{AreOf}
 use Rattle.lr_looks.proofs.Kindred.{start_fine, format_fine}
@@ -67,26 +67,26 @@ of_words P set rule (word ∷ words) h = (h word, of_words P set rule words h)
 
 bounds_from : (k : ℕ) (rules : List Rule) → CanAskAll rules → HoldsOf HasBounds (words_from k rules)
 bounds_from k [] can = tt
-bounds_from k (rule ∷ rules) can = of_both HasBounds (words_of k rule) (words_from (k + 1) rules)
+bounds_from k (rule ∷ rules) can = of_both HasBounds (rule_words k rule) (words_from (k + 1) rules)
     (of_words HasBounds k rule rule.words (λ word m. record { start = start_fine rule (All-head CanAsk rule rules can); format = format_fine rule (All-head CanAsk rule rules can) })) (bounds_from (k + 1) rules (All-tail CanAsk rule rules can))
 
 within_from : (k n : ℕ) (rules : List Rule) → k + length rules ≤ n → HoldsOf (λ f. f.log.set < n) (words_from k rules)
 within_from k n [] le = tt
-within_from k n (rule ∷ rules) le = of_both (λ f. f.log.set < n) (words_of k rule) (words_from (k + 1) rules) (of_words (λ f. f.log.set < n) k rule rule.words (λ word m. omega (arith, le))) (within_from (k + 1) n rules (omega (arith, le)))
+within_from k n (rule ∷ rules) le = of_both (λ f. f.log.set < n) (rule_words k rule) (words_from (k + 1) rules) (of_words (λ f. f.log.set < n) k rule rule.words (λ word m. omega (arith, le))) (within_from (k + 1) n rules (omega (arith, le)))
 
 -- ---- those that are found and kept
 
-still_hold : {reserved : List Path} (P : FoundLog → Type 0) (found kept : List FoundLog) (c d : List Fault) → Hold P found → Keeps reserved found c d kept → Hold P kept
+still_hold : {reserved : List Path} (P : FoundLog → Type 0) (found kept : List FoundLog) (c d : List Fault) → Hold P found → KeepsLogs reserved found c d kept → Hold P kept
 still_hold P found kept c d h k = subst (Hold P) (sym k.left_are) (files_hold P (kept_of found k.choices) (kept_hold P found k.choices h))
 
-kept_is : {reserved : List Path} (P : FoundLog → Type 0) (words : List Word) (found kept : List FoundLog) (c d : List Fault) → HoldsOf P words → AreFoundOf words found → Keeps reserved found c d kept → Hold P kept
+kept_is : {reserved : List Path} (P : FoundLog → Type 0) (words : List Word) (found kept : List FoundLog) (c d : List Fault) → HoldsOf P words → AreFoundOf words found → KeepsLogs reserved found c d kept → Hold P kept
 kept_is P words found kept c d h l k = still_hold P found kept c d (subst (Hold P) (sym l.found_are) (found_hold P words l.sights h)) k
 
-pub kept_paths : {reserved : List Path} (found kept : List FoundLog) (c d : List Fault) → HaveLogPaths found → Keeps reserved found c d kept → HaveLogPaths kept
+pub kept_paths : {reserved : List Path} (found kept : List FoundLog) (c d : List Fault) → HaveLogPaths found → KeepsLogs reserved found c d kept → HaveLogPaths kept
 kept_paths found kept c d h k = still_hold HasLogPath found kept c d h k
 
-pub kept_bounds : {reserved : List Path} (rules : List Rule) (found kept : List FoundLog) (c d : List Fault) → CanAskAll rules → AreFoundOf (asked_by rules) found → Keeps reserved found c d kept → HaveBounds kept
+pub kept_bounds : {reserved : List Path} (rules : List Rule) (found kept : List FoundLog) (c d : List Fault) → CanAskAll rules → AreFoundOf (asked_by rules) found → KeepsLogs reserved found c d kept → HaveBounds kept
 kept_bounds rules found kept c d can l k = kept_is HasBounds (asked_by rules) found kept c d (bounds_from 0 rules can) l k
 
-pub kept_within : {reserved : List Path} (rules : List Rule) (n : ℕ) (found kept : List FoundLog) (c d : List Fault) → length rules ≡ n → AreFoundOf (asked_by rules) found → Keeps reserved found c d kept → AreOf n kept
+pub kept_within : {reserved : List Path} (rules : List Rule) (n : ℕ) (found kept : List FoundLog) (c d : List Fault) → length rules ≡ n → AreFoundOf (asked_by rules) found → KeepsLogs reserved found c d kept → AreOf n kept
 kept_within rules n found kept c d many l k = kept_is (λ f. f.log.set < n) (asked_by rules) found kept c d (within_from 0 n rules (omega (arith, many))) l k

@@ -13,8 +13,8 @@ use Rattle.lr_rules.specs.declared.path.Path.{Path}
 use Rattle.lr_rules.specs.declared.rule.Naming.{Naming}
 use Rattle.lr_rules.specs.declared.rule.Rule.{Rule}
 use Rattle.lr_rules.specs.Limits.{is_log_word, is_criterion, is_count, is_small, is_size, is_make, is_extension, is_olddir, is_path_text, is_address, is_format, or_none, meets_limits}
-use Rattle.lr_rules.specs.Names.{IsMemberAt, is_step, steps_of, path_by, path_from, naming_of, family_dir, ext_of, ends_with, base_of}
-use Rattle.lr_rules.specs.Path.{path_fault, parent_of, last_of, last_start_of, is_absolute, is_bad, is_slash, has_bad_byte}
+use Rattle.lr_rules.specs.Names.{IsMemberAt, is_step, word_parts, path_by, path_from, naming_of, family_dir, ext_of, ends_with, base_of}
+use Rattle.lr_rules.specs.Path.{path_fault, parent_of, last_of, last_start_of, is_absolute, is_bad_byte, is_slash, has_bad_byte}
 use Rattle.lr_rules.proofs.Digits.{decimal_plain}
 use Rattle.lr_rules.proofs.PathLemmas.{last_joined, last_plain, plain_both}
 use Rattle.lr_family.specs.Kin.{IsKin, is_barred}
@@ -40,12 +40,12 @@ drop_clean f zero xs h = h
 drop_clean f (suc k) [] h = refl
 drop_clean f (suc k) (x ∷ xs) h = drop_clean f k xs (or_parts (f x) (list_any f xs) h).1
 
-unbarred : (xs : List ℕ) → list_any is_slash xs ≡ false → list_any is_bad xs ≡ false → list_any is_barred xs ≡ false
+unbarred : (xs : List ℕ) → list_any is_slash xs ≡ false → list_any is_bad_byte xs ≡ false → list_any is_barred xs ≡ false
 unbarred [] s b = refl
 unbarred (x ∷ xs) s b =
     let p = or_parts (is_slash x) (list_any is_slash xs) s in
-    let q = or_parts (is_bad x) (list_any is_bad xs) b in
-    or_from (is_barred x) (list_any is_barred xs) (or_from (is_slash x) (is_bad x) p.0 q.0) (unbarred xs p.1 q.1)
+    let q = or_parts (is_bad_byte x) (list_any is_bad_byte xs) b in
+    or_from (is_barred x) (list_any is_barred xs) (or_from (is_slash x) (is_bad_byte x) p.0 q.0) (unbarred xs p.1 q.1)
 
 take_within : (k : ℕ) (xs : List ℕ) → length (take k xs) ≤ length xs
 take_within k xs = let e : length (take k xs) ≡ min k (length xs) = length-take k xs in omega (arith, e)
@@ -129,7 +129,7 @@ filter_within (p ∷ ps) = go (is_step p) (filter_within ps)
     go true h = let kept : length (slashed (p ∷ filter is_step ps)) ≡ length (47 ∷ p) + length (slashed (filter is_step ps)) = length-append (47 ∷ p) (slashed (filter is_step ps)) in omega (arith, h, more, kept)
     go false h = omega (arith, h, more)
 
-steps_within : (word : List ℕ) → length (slashed (steps_of word)) ≤ length word + 1
+steps_within : (word : List ℕ) → length (slashed (word_parts word)) ≤ length word + 1
 steps_within word = let a = filter_within (slice_split is_slash word) in let b = split_length word in omega (arith, a, b)
 
 by_within : (parts : List (List ℕ)) → length (path_by parts) ≤ length (slashed parts) + 1
@@ -140,18 +140,18 @@ by_within (p ∷ ps) = omega arith
 from_within : (here word : List ℕ) → length (path_from here word) ≤ length here + length word + 3
 from_within here word = go (is_absolute word)
   where
-    a : length (slashed (steps_of word)) ≤ length word + 1
+    a : length (slashed (word_parts word)) ≤ length word + 1
     a = steps_within word
 
-    h : length (slashed (steps_of here)) ≤ length here + 1
+    h : length (slashed (word_parts here)) ≤ length here + 1
     h = steps_within here
 
-    both : length (slashed (steps_of here ++ steps_of word)) ≡ length (slashed (steps_of here)) + length (slashed (steps_of word))
-    both = ap length (flat_map-append (λ name. 47 ∷ name) (steps_of here) (steps_of word)) ∙ length-append (slashed (steps_of here)) (slashed (steps_of word))
+    both : length (slashed (word_parts here ++ word_parts word)) ≡ length (slashed (word_parts here)) + length (slashed (word_parts word))
+    both = ap length (flat_map-append (λ name. 47 ∷ name) (word_parts here) (word_parts word)) ∙ length-append (slashed (word_parts here)) (slashed (word_parts word))
 
-    go : (b : Bool) → length (cond b (path_by (steps_of word)) (path_by (steps_of here ++ steps_of word))) ≤ length here + length word + 3
-    go true = let c = by_within (steps_of word) in omega (arith, a, c)
-    go false = let c = by_within (steps_of here ++ steps_of word) in omega (arith, a, h, both, c)
+    go : (b : Bool) → length (cond b (path_by (word_parts word)) (path_by (word_parts here ++ word_parts word))) ≤ length here + length word + 3
+    go true = let c = by_within (word_parts word) in omega (arith, a, c)
+    go false = let c = by_within (word_parts here ++ word_parts word) in omega (arith, a, h, both, c)
 
 dir_within : (log : List ℕ) (o : Option (List ℕ)) → length log ≤ 2048 → or_none is_olddir o ≡ true → length (family_dir (parent_of log) o) ≤ 2600
 dir_within log None short h = let w = parent_within log in omega (arith, w, short)
@@ -181,7 +181,7 @@ end_plain ext h =
     let two = and_parts (nat_le (length ext) 128) _ one in
     let three = and_parts (not (list_any is_slash ext)) _ two.1 in
     let four = and_parts (not (has_bad_byte ext)) _ three.1 in
-    record { short = nat_le_true (length ext) 128 two.0; clean = unbarred ext (not_false (list_any is_slash ext) three.0) (not_false (list_any is_bad ext) four.0) }
+    record { short = nat_le_true (length ext) 128 two.0; clean = unbarred ext (not_false (list_any is_slash ext) three.0) (not_false (list_any is_bad_byte ext) four.0) }
 
 own_end : (ext name : List ℕ) → IsPlainEnd ext → IsPlainEnd (cond (ends_with ext name) ext [])
 own_end ext name h = go (ends_with ext name)
@@ -222,7 +222,7 @@ plain_of : (xs : List ℕ) → list_any is_barred xs ≡ false → list_any is_s
 plain_of [] h = refl
 plain_of (x ∷ xs) h =
     let p = or_parts (is_barred x) (list_any is_barred xs) h in
-    or_from (is_slash x) (list_any is_slash xs) (or_parts (is_slash x) (is_bad x) p.0).0 (plain_of xs p.1)
+    or_from (is_slash x) (list_any is_slash xs) (or_parts (is_slash x) (is_bad_byte x) p.0).0 (plain_of xs p.1)
 
 -- its name is longer than the log's
 apart : (n : Naming) (log : List ℕ) (place : ℕ) → IsPlainEnd n.ext → IsBase n.base n.ext (last_of log) → IsMemberAt n place log → ⊥
@@ -260,7 +260,7 @@ kin_of rule log limits p a b = record {
     name = last_of log
 
     clean : list_any is_barred (last_of log) ≡ false
-    clean = unbarred (last_of log) (last_plain log p) (drop_clean is_bad (last_start_of log) log (no_bad log p))
+    clean = unbarred (last_of log) (last_plain log p) (drop_clean is_bad_byte (last_start_of log) log (no_bad log p))
 
     ext : IsPlainEnd (ext_of rule.addextension rule.extension (last_of log))
     ext = ext_plain rule.addextension rule.extension (last_of log) (addextension_fine rule limits) (extension_fine rule limits)

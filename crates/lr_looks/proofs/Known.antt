@@ -12,7 +12,7 @@ use Rattle.lr_family.specs.Listed.{ShowsListing, NotListed}
 use Rattle.lr_kept.specs.Begun.{Found, place_in}
 use Rattle.lr_kept.proofs.Elements.{read_push_cases}
 use Rattle.lr_looks.specs.Families.{WasListed, WasNotListed}
-use Rattle.lr_looks.specs.Internal.{ArePlaces, TakesListing, before, taken, LacksListing, IsAt, NoListing, lacks, unadded}
+use Rattle.lr_looks.specs.Internal.{ArePlaces, TakesListing, before, taken, LacksListing, IsListedAt, NoListing, lacks, unadded}
 use Rattle.lr_family.specs.declared.stand.StandStop.TheVariants as stop
 
 pub read_last : (xs : List Listing) (y : Listing) → slice_get (xs ++ y ∷ []) (length xs) ≡ Some y
@@ -63,10 +63,10 @@ part_one known dir why new left = left_as left (λ ts s. lacks new s)
 pub part_unadded : (known : List Listing) (dir : Path) (l : Listing) {o n : Option Journal} → WasNotListed known dir → l.dir ≡ dir → Left (ShowsListing dir l.there l.parent l.names) o n → Left (NoListing known dir stop.Memory) o n
 part_unadded known dir l new e left = left_as left (λ ts s. unadded l refl new e s)
 
-pub at_end : (known after : List Listing) (dir : Path) (place : ℕ) (l : Listing) → l.dir ≡ dir → after ≡ known ++ l ∷ [] → place ≡ length known → IsAt after place dir
+pub at_end : (known after : List Listing) (dir : Path) (place : ℕ) (l : Listing) → l.dir ≡ dir → after ≡ known ++ l ∷ [] → place ≡ length known → IsListedAt after place dir
 at_end known after dir place l e a p = (l, subst (λ (ls : List Listing). slice_get ls place ≡ Some l) (sym a) (subst (λ (k : ℕ). slice_get (known ++ l ∷ []) k ≡ Some l) (sym p) (read_last known l)), e)
 
-pub at_before : (known : List Listing) (places : List ℕ → Option ℕ) (dir : Path) (place : ℕ) → ArePlaces known places → Some place ≡ places dir → IsAt known place dir
+pub at_before : (known : List Listing) (places : List ℕ → Option ℕ) (dir : Path) (place : ℕ) → ArePlaces known places → Some place ≡ places dir → IsListedAt known place dir
 at_before known places dir place so e = so.there dir place (sym e)
 
 none_listed : (dir : Path) (l : Listing) → WasListed [] dir l → ⊥

@@ -15,30 +15,30 @@ use Rattle.lr_glob.specs.declared.found.Found.{Found as Match}
 use Rattle.lr_glob.specs.declared.found.GlobStop.{GlobStop}
 use Rattle.lr_glob.specs.declared.found.GlobStop.TheVariants as stop
 use Rattle.lr_glob.specs.Sights.{is_long}
-use Rattle.lr_glob.specs.Stops.{IsFailedCall}
+use Rattle.lr_glob.specs.Stops.{IsFailedGlob}
 use Rattle.lr_glob.specs.Words.{Comes, Stopped}
 use Rattle.lr_looks.specs.declared.found.Found.{Found}
 use Rattle.lr_looks.specs.Asked.{Word, AreTexts}
 use Rattle.lr_host.specs.Counted.{Went, WentBy}
 use Rattle.lr_host.proofs.Counts.{AreFree, free_none, went_free, went_call, went_where}
 use Rattle.lr_looks.specs.Found.{FoundLog, found_in, all_found_in, HasLogPath, HaveLogPaths}
-use Rattle.lr_looks.specs.Sights.{WordSight, found_at, found_by, glob_fault, fault_of, found_of, faults_of, ShowsWord, ShowWords, WordHadMemory, WordsHadMemory, AreFoundOf, LookedAt, LookedAtSome}
+use Rattle.lr_looks.specs.Sights.{WordSight, found_at, found_by, glob_fault, sight_faults, found_of, all_sight_faults, ShowsWord, ShowWords, WordHadMemory, WordsHadMemory, AreFoundOf, LookedAtWords, LookedAtSomeWords}
 use Rattle.lr_looks.specs.Internal.{AddsFound}
 use Rattle.lr_looks.proofs.AskedBy.{IsPart}
 
 -- ---- one word
 
-looked_one : (w : Word) (s : WordSight) (faults all : List Fault) (found more : List FoundLog) (ts : List Entry) → WordHadMemory s → ShowsWord w (16_384 - length found) s ts → all ≡ faults ++ fault_of w s → more ≡ found ++ found_by w s
-    → LookedAt (w ∷ []) faults all found more ts
+looked_one : (w : Word) (s : WordSight) (faults all : List Fault) (found more : List FoundLog) (ts : List Entry) → WordHadMemory s → ShowsWord w (16_384 - length found) s ts → all ≡ faults ++ sight_faults w s → more ≡ found ++ found_by w s
+    → LookedAtWords (w ∷ []) faults all found more ts
 looked_one w s faults all found more ts m h f g = record {
   sights = s ∷ [];
   had_memory = (m, tt);
   shown = record { front = ts; back = []; joined = sym (append-nil ts); first = h; second = refl };
-  faults_are = f ∙ ap (λ fs. faults ++ fs) (sym (append-nil (fault_of w s)));
+  faults_are = f ∙ ap (λ fs. faults ++ fs) (sym (append-nil (sight_faults w s)));
   found_are = g ∙ ap (λ fs. found ++ fs) (sym (append-nil (found_by w s)));
 }
 
-some_one : (w : Word) (s : WordSight) (before : ℕ) (ts : List Entry) → ShowsWord w (16_384 - before) s ts → LookedAtSome before (w ∷ []) ts
+some_one : (w : Word) (s : WordSight) (before : ℕ) (ts : List Entry) → ShowsWord w (16_384 - before) s ts → LookedAtSomeWords before (w ∷ []) ts
 some_one w s before ts h = record { sights = s ∷ []; few = omega arith; shown = record { front = ts; back = []; joined = sym (append-nil ts); first = h; second = refl } }
 
 on_ok : {T E : Type 0} (r : Result T E) {P Q : Type 0} → (P → Q) → OnOk r P → OnOk r Q
@@ -60,20 +60,20 @@ had_memory stop.TooMany ne = tt
 had_memory stop.Memory ne = ne refl
 
 pub given_told : {T E : Type 0} (r : Result T E) (w : Word) (room : ℕ) (matches : List Match) (faults all : List Fault) (found : List Found) (more : List FoundLog) {o n : Option Journal} → room ≡ 16_384 - length found → Left (Comes w.text room (Ok matches)) o n
-    → OnOk r (all ≡ faults ++ fault_of w (Ok matches)) → OnOk r (more ≡ all_found_in found ++ found_by w (Ok matches)) → OnOk r (Left (LookedAt (w ∷ []) faults all (all_found_in found) more) o n)
+    → OnOk r (all ≡ faults ++ sight_faults w (Ok matches)) → OnOk r (more ≡ all_found_in found ++ found_by w (Ok matches)) → OnOk r (Left (LookedAtWords (w ∷ []) faults all (all_found_in found) more) o n)
 given_told (Ok x) w room matches faults all found more e left f g = left_as left (λ ts h. looked_one w (Ok matches) faults all (all_found_in found) more ts tt (subst (λ k. Comes w.text k (Ok matches) ts) (room_of room found e) h) f g)
 given_told (Err x) w room matches faults all found more e left f g = tt
 
-pub given_some : {T E : Type 0} (r : Result T E) (w : Word) (room : ℕ) (matches : List Match) (found : List Found) {o n : Option Journal} → room ≡ 16_384 - length found → Left (Comes w.text room (Ok matches)) o n → OnErr r (Left (LookedAtSome (length (all_found_in found)) (w ∷ [])) o n)
+pub given_some : {T E : Type 0} (r : Result T E) (w : Word) (room : ℕ) (matches : List Match) (found : List Found) {o n : Option Journal} → room ≡ 16_384 - length found → Left (Comes w.text room (Ok matches)) o n → OnErr r (Left (LookedAtSomeWords (length (all_found_in found)) (w ∷ [])) o n)
 given_some r w room matches found e left = on_err r (left_as left (λ ts h. some_one w (Ok matches) (length (all_found_in found)) ts (subst (λ k. Comes w.text k (Ok matches) ts) (room_of room found e) h)))
 
 pub stopped_told : {T E : Type 0} (r : Result T E) (w : Word) (room : ℕ) (why : GlobStop) (faults all : List Fault) (found : List Found) {o n : Option Journal} → room ≡ 16_384 - length found → Left (Stopped w.text room why) o n
-    → OnOk r (why ≢ stop.Memory) → OnOk r (all ≡ faults ++ glob_fault w why) → OnOk r (Left (LookedAt (w ∷ []) faults all (all_found_in found) (all_found_in found)) o n)
+    → OnOk r (why ≢ stop.Memory) → OnOk r (all ≡ faults ++ glob_fault w why) → OnOk r (Left (LookedAtWords (w ∷ []) faults all (all_found_in found) (all_found_in found)) o n)
 stopped_told (Ok x) w room why faults all found e left ne f =
     left_as left (λ ts h. looked_one w (Err why) faults all (all_found_in found) (all_found_in found) ts (had_memory why ne) (subst (λ k. Stopped w.text k why ts) (room_of room found e) h) f (sym (append-nil (all_found_in found))))
 stopped_told (Err x) w room why faults all found e left ne f = tt
 
-pub stopped_some : {T E : Type 0} (r : Result T E) (w : Word) (room : ℕ) (why : GlobStop) (found : List Found) {o n : Option Journal} → room ≡ 16_384 - length found → Left (Stopped w.text room why) o n → OnErr r (Left (LookedAtSome (length (all_found_in found)) (w ∷ [])) o n)
+pub stopped_some : {T E : Type 0} (r : Result T E) (w : Word) (room : ℕ) (why : GlobStop) (found : List Found) {o n : Option Journal} → room ≡ 16_384 - length found → Left (Stopped w.text room why) o n → OnErr r (Left (LookedAtSomeWords (length (all_found_in found)) (w ∷ [])) o n)
 stopped_some r w room why found e left = on_err r (left_as left (λ ts h. some_one w (Err why) (length (all_found_in found)) ts (subst (λ k. Stopped w.text k why ts) (room_of room found e) h)))
 
 pub given_found : {T E : Type 0} (r : Result T E) (w : Word) (s : WordSight) (p q : List FoundLog) → OnOk r (q ≡ p ++ found_by w s) → OnOk r (AddsFound (w ∷ []) p q)
@@ -85,11 +85,11 @@ stopped_found (Err x) w why p = tt
 
 -- ---- one behind another
 
-faults_on : (xs ys : List Word) (ss ts : List WordSight) → length ss ≡ length xs → faults_of (xs ++ ys) (ss ++ ts) ≡ faults_of xs ss ++ faults_of ys ts
+faults_on : (xs ys : List Word) (ss ts : List WordSight) → length ss ≡ length xs → all_sight_faults (xs ++ ys) (ss ++ ts) ≡ all_sight_faults xs ss ++ all_sight_faults ys ts
 faults_on [] ys [] ts e = refl
 faults_on [] ys (s ∷ ss) ts e = absurd (omega (arith, e))
 faults_on (x ∷ xs) ys [] ts e = absurd (omega (arith, e))
-faults_on (x ∷ xs) ys (s ∷ ss) ts e = ap (λ es. fault_of x s ++ es) (faults_on xs ys ss ts (omega (arith, e))) ∙ sym (append_assoc (fault_of x s) (faults_of xs ss) (faults_of ys ts))
+faults_on (x ∷ xs) ys (s ∷ ss) ts e = ap (λ es. sight_faults x s ++ es) (faults_on xs ys ss ts (omega (arith, e))) ∙ sym (append_assoc (sight_faults x s) (all_sight_faults xs ss) (all_sight_faults ys ts))
 
 found_on : (xs ys : List Word) (ss ts : List WordSight) → length ss ≡ length xs → found_of (xs ++ ys) (ss ++ ts) ≡ found_of xs ss ++ found_of ys ts
 found_on [] ys [] ts e = refl
@@ -132,7 +132,7 @@ memory_on (s ∷ ss) rs h g = (h.0, memory_on ss rs h.1 g)
 behind : (p q : List FoundLog) (xs : List Word) (ss : List WordSight) → q ≡ p ++ found_of xs ss → length q ≡ length p + length (found_of xs ss)
 behind p q xs ss e = ap (λ (fs : List FoundLog). length fs) e ∙ length-append p (found_of xs ss)
 
-pub looked_on : (xs ys : List Word) (a b c : List Fault) (p q r : List FoundLog) (ts us : List Entry) → LookedAt xs a b p q ts → LookedAt ys b c q r us → LookedAt (xs ++ ys) a c p r (ts ++ us)
+pub looked_on : (xs ys : List Word) (a b c : List Fault) (p q r : List FoundLog) (ts us : List Entry) → LookedAtWords xs a b p q ts → LookedAtWords ys b c q r us → LookedAtWords (xs ++ ys) a c p r (ts ++ us)
 looked_on xs ys a b c p q r ts us l k =
     let many = shown_many (length p) xs l.sights ts l.shown in
     record {
@@ -143,7 +143,7 @@ looked_on xs ys a b c p q r ts us l k =
       found_are = grown p q r _ _ _ l.found_are k.found_are (found_on xs ys l.sights k.sights many);
     }
 
-looked_none : (a : List Fault) (p : List FoundLog) → LookedAt [] a a p p []
+looked_none : (a : List Fault) (p : List FoundLog) → LookedAtWords [] a a p p []
 looked_none a p = record { sights = []; had_memory = tt; shown = refl; faults_are = sym (append-nil a); found_are = sym (append-nil p) }
 
 take_past : (xs ys : List Word) (n : ℕ) → take (length xs + n) (xs ++ ys) ≡ xs ++ take n ys
@@ -156,7 +156,7 @@ take_past (x ∷ xs) ys n = subst (λ k. take k (x ∷ (xs ++ ys)) ≡ x ∷ (xs
     suc_plus : (a b : ℕ) → suc (a + b) ≡ suc a + b
     suc_plus a b = omega arith
 
-some_on : (xs ys zs : List Word) (a b : List Fault) (p q : List FoundLog) (ts us : List Entry) → LookedAt xs a b p q ts → LookedAtSome (length q) ys us → LookedAtSome (length p) (xs ++ (ys ++ zs)) (ts ++ us)
+some_on : (xs ys zs : List Word) (a b : List Fault) (p q : List FoundLog) (ts us : List Entry) → LookedAtWords xs a b p q ts → LookedAtSomeWords (length q) ys us → LookedAtSomeWords (length p) (xs ++ (ys ++ zs)) (ts ++ us)
 some_on xs ys zs a b p q ts us l k =
     let m = shown_many (length p) xs l.sights ts l.shown in
     let f : length k.sights ≤ length ys = k.few in
@@ -189,21 +189,21 @@ texts_on (x ∷ xs) ys h g = (h.0, texts_on xs ys h.1 g)
 
 -- ---- over lists of words that grow
 
-pub words_none : (faults : List Fault) (found : List FoundLog) {o : Option Journal} → Left (LookedAt [] faults faults found found) o o
-words_none faults found = left_first (LookedAt [] faults faults found found) _ (looked_none faults found)
+pub words_none : (faults : List Fault) (found : List FoundLog) {o : Option Journal} → Left (LookedAtWords [] faults faults found found) o o
+words_none faults found = left_first (LookedAtWords [] faults faults found found) _ (looked_none faults found)
 
-pub words_on : (all xs ys : List Word) (a b c : List Fault) (p q r : List FoundLog) {o m n : Option Journal} → all ≡ xs ++ ys → Left (LookedAt xs a b p q) o m → Left (LookedAt ys b c q r) m n → Left (LookedAt all a c p r) o n
-words_on all xs ys a b c p q r e l k = left_then l k (λ ts us h g. subst (λ (ws : List Word). LookedAt ws a c p r (ts ++ us)) (sym e) (looked_on xs ys a b c p q r ts us h g))
+pub words_on : (all xs ys : List Word) (a b c : List Fault) (p q r : List FoundLog) {o m n : Option Journal} → all ≡ xs ++ ys → Left (LookedAtWords xs a b p q) o m → Left (LookedAtWords ys b c q r) m n → Left (LookedAtWords all a c p r) o n
+words_on all xs ys a b c p q r e l k = left_then l k (λ ts us h g. subst (λ (ws : List Word). LookedAtWords ws a c p r (ts ++ us)) (sym e) (looked_on xs ys a b c p q r ts us h g))
 
-pub words_some : {T E : Type 0} (result : Result T E) (all xs ys : List Word) (a b : List Fault) (p q : List FoundLog) {o m n : Option Journal} → IsPart all xs ys → Left (LookedAt xs a b p q) o m → Left (LookedAtSome (length q) ys) m n → OnErr result (Left (LookedAtSome (length p) all) o n)
-words_some result all xs ys a b p q e l k = on_err result (left_then l k (λ ts us h g. subst (λ (ws : List Word). LookedAtSome (length p) ws (ts ++ us)) (sym e.joined) (some_on xs ys e.behind a b p q ts us h g)))
+pub words_some : {T E : Type 0} (result : Result T E) (all xs ys : List Word) (a b : List Fault) (p q : List FoundLog) {o m n : Option Journal} → IsPart all xs ys → Left (LookedAtWords xs a b p q) o m → Left (LookedAtSomeWords (length q) ys) m n → OnErr result (Left (LookedAtSomeWords (length p) all) o n)
+words_some result all xs ys a b p q e l k = on_err result (left_then l k (λ ts us h g. subst (λ (ws : List Word). LookedAtSomeWords (length p) ws (ts ++ us)) (sym e.joined) (some_on xs ys e.behind a b p q ts us h g)))
 
 -- the words and the logs, by equal ones
-pub looked_words : (xs ys : List Word) (a b : List Fault) (p q : List FoundLog) {o n : Option Journal} → xs ≡ ys → Left (LookedAt xs a b p q) o n → Left (LookedAt ys a b p q) o n
-looked_words xs ys a b p q e l = left_as l (λ ts h. subst (λ (ws : List Word). LookedAt ws a b p q ts) e h)
+pub looked_words : (xs ys : List Word) (a b : List Fault) (p q : List FoundLog) {o n : Option Journal} → xs ≡ ys → Left (LookedAtWords xs a b p q) o n → Left (LookedAtWords ys a b p q) o n
+looked_words xs ys a b p q e l = left_as l (λ ts h. subst (λ (ws : List Word). LookedAtWords ws a b p q ts) e h)
 
-pub looked_until : (words : List Word) (a b : List Fault) (p q r : List FoundLog) {o n : Option Journal} → q ≡ r → Left (LookedAt words a b p q) o n → Left (LookedAt words a b p r) o n
-looked_until words a b p q r e l = left_as l (λ ts h. subst (λ (fs : List FoundLog). LookedAt words a b p fs ts) e h)
+pub looked_until : (words : List Word) (a b : List Fault) (p q r : List FoundLog) {o n : Option Journal} → q ≡ r → Left (LookedAtWords words a b p q) o n → Left (LookedAtWords words a b p r) o n
+looked_until words a b p q r e l = left_as l (λ ts h. subst (λ (fs : List FoundLog). LookedAtWords words a b p fs ts) e h)
 
 pub found_none : (found : List FoundLog) → AddsFound [] found found
 found_none = adds_none
@@ -223,17 +223,17 @@ missing_free : (b : Bool) (word : List ℕ) → AreFree (cond b [] (fault.Missin
 missing_free true word = free_none
 missing_free false word = record { calls = refl; scripts = refl; none_around = ((λ h. h), tt) }
 
-given_free : (w : Word) (matches : List Match) → AreFree (fault_of w (Ok matches))
+given_free : (w : Word) (matches : List Match) → AreFree (sight_faults w (Ok matches))
 given_free w [] = missing_free w.rule.missingok w.text
 given_free w (m ∷ ms) = free_none
 
 pub given_went : {T E : Type 0} (r : Result T E) (w : Word) (matches : List Match) (faults all : List Fault) (a b : Counts)
-    → Onward a b → OnOk r (all ≡ faults ++ fault_of w (Ok matches)) → WentBy r faults all a b
+    → Onward a b → OnOk r (all ≡ faults ++ sight_faults w (Ok matches)) → WentBy r faults all a b
 given_went r w matches faults all a b on h =
-    went_where r faults all a b (λ e. went_free faults all (fault_of w (Ok matches)) a b e (given_free w matches) on) h on
+    went_where r faults all a b (λ e. went_free faults all (sight_faults w (Ok matches)) a b e (given_free w matches) on) h on
 
 one_went : (w : Word) (why : GlobStop) (faults all : List Fault) (a b : Counts)
-    → (IsFailedCall why → Rose a.faults b.faults) → Onward a b → all ≡ faults ++ glob_fault w why → Went faults all a b
+    → (IsFailedGlob why → Rose a.faults b.faults) → Onward a b → all ≡ faults ++ glob_fault w why → Went faults all a b
 one_went w (stop.Call kind path) faults all a b rose on e = went_call faults all kind path a b e (rose tt) on
 one_went w stop.LongName faults all a b rose on e = went_free faults all (fault.LongName w.text ∷ []) a b e
     (record { calls = refl; scripts = refl; none_around = ((λ h. h), tt) }) on
@@ -242,7 +242,7 @@ one_went w stop.TooMany faults all a b rose on e = went_free faults all (fault.T
 one_went w stop.Memory faults all a b rose on e = went_free faults all [] a b e free_none on
 
 pub stopped_went : {T E : Type 0} (r : Result T E) (w : Word) (why : GlobStop) (faults all : List Fault) (a b : Counts)
-    → (IsFailedCall why → Rose a.faults b.faults) → Onward a b → OnOk r (all ≡ faults ++ glob_fault w why) → WentBy r faults all a b
+    → (IsFailedGlob why → Rose a.faults b.faults) → Onward a b → OnOk r (all ≡ faults ++ glob_fault w why) → WentBy r faults all a b
 stopped_went r w why faults all a b rose on h = went_where r faults all a b (λ e. one_went w why faults all a b rose on e) h on
 
 -- ---- the matches of a word, one behind another

@@ -17,24 +17,24 @@ use Rattle.lr_host.proofs.Counts.{AreFree, free_none, free_on, onward_same, went
 use Rattle.lr_kept.specs.declared.choice.Choice.{Choice}
 use Rattle.lr_kept.specs.declared.choice.Choice.TheVariants.{Kept, Again, MemberOf, Reserved, Meets}
 use Rattle.lr_looks.specs.Asked.{Word, asked_by, AreTexts}
-use Rattle.lr_looks.specs.Choices.{duplicate, overlap, barred, choice_fault, choice_faults, kept_of, kind_fault, Keeps}
+use Rattle.lr_looks.specs.Choices.{duplicate, overlap, barred, choice_fault, choice_faults, kept_of, kind_fault, KeepsLogs}
 use Rattle.lr_looks.specs.Families.{LookedLog, family_faults, LooksAtFamilies, LookedAtSomeFamilies}
 use Rattle.lr_looks.specs.Found.{FoundLog, paths_of, HaveLogPaths}
 use Rattle.lr_looks.specs.Internal.{LooksBySets}
 use Rattle.lr_looks.specs.Reserved.{reserved_by}
 use Rattle.lr_looks.specs.Shown.{LooksAtAll, ShowsSomeLooks, at_words, at_families}
-use Rattle.lr_looks.specs.Sights.{faults_of, ShowWords, LookedAt, LookedAtSome}
+use Rattle.lr_looks.specs.Sights.{all_sight_faults, ShowWords, LookedAtWords, LookedAtSomeWords}
 use Rattle.lr_looks.proofs.Looking.{shown_many}
 
 -- ---- the faults of the looks alone, whatever came before
 
-own_words : (words : List Word) (a b : List Fault) (found : List FoundLog) (ts : List Entry) → (l : LookedAt words a b [] found ts) → LookedAt words [] (faults_of words l.sights) [] found ts
+own_words : (words : List Word) (a b : List Fault) (found : List FoundLog) (ts : List Entry) → (l : LookedAtWords words a b [] found ts) → LookedAtWords words [] (all_sight_faults words l.sights) [] found ts
 own_words words a b found ts l = record { sights = l.sights; had_memory = l.had_memory; shown = l.shown; faults_are = refl; found_are = l.found_are }
 
-abbrev kept_faults : (reserved : List Path) (found : List FoundLog) (b c : List Fault) (kept : List FoundLog) → Keeps reserved found b c kept → List Fault
+abbrev kept_faults : (reserved : List Path) (found : List FoundLog) (b c : List Fault) (kept : List FoundLog) → KeepsLogs reserved found b c kept → List Fault
 kept_faults reserved found b c kept k = choice_faults reserved found found k.choices ++ flat_map kind_fault (kept_of found k.choices)
 
-own_kept : (reserved : List Path) (found : List FoundLog) (b c b' : List Fault) (kept : List FoundLog) → (k : Keeps reserved found b c kept) → Keeps reserved found b' (b' ++ kept_faults reserved found b c kept k) kept
+own_kept : (reserved : List Path) (found : List FoundLog) (b c b' : List Fault) (kept : List FoundLog) → (k : KeepsLogs reserved found b c kept) → KeepsLogs reserved found b' (b' ++ kept_faults reserved found b c kept k) kept
 own_kept reserved found b c b' kept k = record { choices = k.choices; chosen = k.chosen; faults_are = refl; left_are = k.left_are }
 
 own_families : (kept : List FoundLog) (c d c' : List Fault) (looked : List LookedLog) (ts : List Entry) → (l : LooksAtFamilies kept c d looked ts) → LooksAtFamilies kept c' (c' ++ family_faults l.families.sights) looked ts
@@ -45,28 +45,28 @@ three a b c d x y z e f g = g ∙ (ap (λ l. l ++ z) (f ∙ (ap (λ l. l ++ y) e
 
 -- ---- whole
 
-pub all_told : (reserved : List Path) (rules : List Rule) (found kept : List FoundLog) (a b c d : List Fault) (looks : Looks) {o m n : Option Journal} → AreTexts (asked_by rules) → HaveLogPaths found → Left (LookedAt (asked_by rules) a b [] found) o m → Keeps reserved found b c kept
+pub all_told : (reserved : List Path) (rules : List Rule) (found kept : List FoundLog) (a b c d : List Fault) (looks : Looks) {o m n : Option Journal} → AreTexts (asked_by rules) → HaveLogPaths found → Left (LookedAtWords (asked_by rules) a b [] found) o m → KeepsLogs reserved found b c kept
     → LooksBySets kept c d looks.sets m n → looks.kept ≡ paths_of kept → length looks.sets ≡ length rules → Left (LooksAtAll reserved rules looks a d) o n
 all_told reserved rules found kept a b c d looks texts fit l k s paths many = left_then l s.entries (λ ts us h g. record {
-  own = (faults_of (asked_by rules) h.sights ++ kept_faults reserved found b c kept k) ++ family_faults g.families.sights;
+  own = (all_sight_faults (asked_by rules) h.sights ++ kept_faults reserved found b c kept k) ++ family_faults g.families.sights;
   faults_are = three a b c d _ _ _ h.faults_are k.faults_are g.families.faults_are;
   shown = record {
     found = found;
-    of_words = faults_of (asked_by rules) h.sights;
+    of_words = all_sight_faults (asked_by rules) h.sights;
     kept = kept;
-    of_kept = faults_of (asked_by rules) h.sights ++ kept_faults reserved found b c kept k;
+    of_kept = all_sight_faults (asked_by rules) h.sights ++ kept_faults reserved found b c kept k;
     looked = s.looked;
     texts = texts;
     paths = fit;
-    keeps = own_kept reserved found b c (faults_of (asked_by rules) h.sights) kept k;
-    entries = record { front = ts; back = us; joined = refl; first = own_words (asked_by rules) a b found ts h; second = own_families kept c d (faults_of (asked_by rules) h.sights ++ kept_faults reserved found b c kept k) s.looked us g };
+    keeps = own_kept reserved found b c (all_sight_faults (asked_by rules) h.sights) kept k;
+    entries = record { front = ts; back = us; joined = refl; first = own_words (asked_by rules) a b found ts h; second = own_families kept c d (all_sight_faults (asked_by rules) h.sights ++ kept_faults reserved found b c kept k) s.looked us g };
     many = many;
     by_sets = s.by_sets;
   };
   kept_are = paths;
 })
 
-pub all_ok : {E : Type 0} (r : Result Looks E) (reserved : List Path) (rules : List Rule) (found kept : List FoundLog) (a b c d : List Fault) (count : ℕ) {o m : Option Journal} (n : Option Journal) → AreTexts (asked_by rules) → HaveLogPaths found → Left (LookedAt (asked_by rules) a b [] found) o m → Keeps reserved found b c kept
+pub all_ok : {E : Type 0} (r : Result Looks E) (reserved : List Path) (rules : List Rule) (found kept : List FoundLog) (a b c d : List Fault) (count : ℕ) {o m : Option Journal} (n : Option Journal) → AreTexts (asked_by rules) → HaveLogPaths found → Left (LookedAtWords (asked_by rules) a b [] found) o m → KeepsLogs reserved found b c kept
     → IfOk r (λ looks. LooksBySets kept c d looks.sets m n) → IfOk r (λ looks. looks.kept ≡ paths_of kept) → IfOk r (λ looks. length looks.sets ≡ count) → count ≡ length rules → IfOk r (λ looks. Left (LooksAtAll reserved rules looks a d) o n)
 all_ok (Ok looks) reserved rules found kept a b c d count n texts fit l k s paths many is = all_told reserved rules found kept a b c d looks texts fit l k s paths (many ∙ is)
 all_ok (Err x) reserved rules found kept a b c d count n texts fit l k s paths many is = tt
@@ -118,24 +118,24 @@ kinds_free [] = free_none
 kinds_free (f ∷ fs) = free_on (kind_fault f) (flat_map kind_fault fs) (kind_free f) (kinds_free fs)
 
 kept_went : (reserved : List Path) (found kept : List FoundLog) (b c : List Fault) (k : Counts)
-    → Keeps reserved found b c kept → Went b c k k
+    → KeepsLogs reserved found b c kept → Went b c k k
 kept_went reserved found kept b c k h =
     went_free b c (kept_faults reserved found b c kept h) k k h.faults_are
     (free_on (choice_faults reserved found found h.choices) (flat_map kind_fault (kept_of found h.choices))
     (choices_free reserved found found h.choices) (kinds_free (kept_of found h.choices))) (onward_same k)
 
 pub all_went : {E : Type 0} (r : Result Looks E) (reserved : List Path) (found kept : List FoundLog) (a b c d : List Fault)
-    (k l m : Counts) → Went a b k l → Keeps reserved found b c kept → WentBy r c d l m → WentBy r a d k m
+    (k l m : Counts) → Went a b k l → KeepsLogs reserved found b c kept → WentBy r c d l m → WentBy r a d k m
 all_went r reserved found kept a b c d k l m x h y =
     went_then r a c d k l m (went_on a b c k l l x (kept_went reserved found kept b c l h)) y
 
 -- ---- in part
 
-pub all_at_words : {T E : Type 0} (r : Result T E) (reserved : List Path) (rules : List Rule) {o n : Option Journal} → Left (LookedAtSome 0 (asked_by rules)) o n → OnErr r (Left (ShowsSomeLooks reserved rules) o n)
+pub all_at_words : {T E : Type 0} (r : Result T E) (reserved : List Path) (rules : List Rule) {o n : Option Journal} → Left (LookedAtSomeWords 0 (asked_by rules)) o n → OnErr r (Left (ShowsSomeLooks reserved rules) o n)
 all_at_words (Ok x) reserved rules l = tt
 all_at_words (Err x) reserved rules l = left_as l (λ ts h. at_words h)
 
-some_whole : (words : List Word) (a b : List Fault) (found : List FoundLog) (ts : List Entry) → LookedAt words a b [] found ts → LookedAtSome 0 words ts
+some_whole : (words : List Word) (a b : List Fault) (found : List FoundLog) (ts : List Entry) → LookedAtWords words a b [] found ts → LookedAtSomeWords 0 words ts
 some_whole words a b found ts l =
     let m : length l.sights ≡ length words = shown_many 0 words l.sights ts l.shown in
     record {
@@ -144,14 +144,14 @@ some_whole words a b found ts l =
       shown = subst (λ ws. ShowWords 0 ws l.sights ts) (sym (ap (λ n. take n words) m ∙ take-length words)) l.shown;
     }
 
-pub all_at_kept : {T E : Type 0} (r : Result T E) (reserved : List Path) (rules : List Rule) (a b : List Fault) (found : List FoundLog) {o n : Option Journal} → Left (LookedAt (asked_by rules) a b [] found) o n → OnErr r (Left (ShowsSomeLooks reserved rules) o n)
+pub all_at_kept : {T E : Type 0} (r : Result T E) (reserved : List Path) (rules : List Rule) (a b : List Fault) (found : List FoundLog) {o n : Option Journal} → Left (LookedAtWords (asked_by rules) a b [] found) o n → OnErr r (Left (ShowsSomeLooks reserved rules) o n)
 all_at_kept (Ok x) reserved rules a b found l = tt
 all_at_kept (Err x) reserved rules a b found l = left_as l (λ ts h. at_words (some_whole (asked_by rules) a b found ts h))
 
-pub all_at_families : {T E : Type 0} (r : Result T E) (reserved : List Path) (rules : List Rule) (found kept : List FoundLog) (a b c : List Fault) {o m : Option Journal} (n : Option Journal) → Left (LookedAt (asked_by rules) a b [] found) o m → Keeps reserved found b c kept
+pub all_at_families : {T E : Type 0} (r : Result T E) (reserved : List Path) (rules : List Rule) (found kept : List FoundLog) (a b c : List Fault) {o m : Option Journal} (n : Option Journal) → Left (LookedAtWords (asked_by rules) a b [] found) o m → KeepsLogs reserved found b c kept
     → OnErr r (Left (LookedAtSomeFamilies [] kept) m n) → OnErr r (Left (ShowsSomeLooks reserved rules) o n)
 all_at_families (Ok x) reserved rules found kept a b c n l k s = tt
-all_at_families (Err x) reserved rules found kept a b c n l k s = left_then l s (λ ts us h g. at_families found (faults_of (asked_by rules) h.sights) kept (faults_of (asked_by rules) h.sights ++ kept_faults reserved found b c kept k) (own_kept reserved found b c (faults_of (asked_by rules) h.sights) kept k)
+all_at_families (Err x) reserved rules found kept a b c n l k s = left_then l s (λ ts us h g. at_families found (all_sight_faults (asked_by rules) h.sights) kept (all_sight_faults (asked_by rules) h.sights ++ kept_faults reserved found b c kept k) (own_kept reserved found b c (all_sight_faults (asked_by rules) h.sights) kept k)
     (record { front = ts; back = us; joined = refl; first = own_words (asked_by rules) a b found ts h; second = g }))
 
 -- ---- behind the paths that are reserved

@@ -17,13 +17,13 @@ abbrev pub word_of : ℕ → Rule → List ℕ → Word
 word_of set rule text = record { set = set; rule = rule; text = text }
 
 -- those of one rule, in order
-abbrev pub words_of : ℕ → Rule → List Word
-words_of set rule = map (word_of set rule) rule.words
+abbrev pub rule_words : ℕ → Rule → List Word
+rule_words set rule = map (word_of set rule) rule.words
 
 -- those of all, in order of the rules, of which the first has this place
 abbrev pub words_from : ℕ → List Rule → List Word
 words_from set [] = []
-words_from set (rule ∷ rules) = words_of set rule ++ words_from (set + 1) rules
+words_from set (rule ∷ rules) = rule_words set rule ++ words_from (set + 1) rules
 
 abbrev pub asked_by : List Rule → List Word
 asked_by rules = words_from 0 rules

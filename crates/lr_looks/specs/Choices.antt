@@ -14,8 +14,8 @@ use Rattle.lr_plan.specs.Planned.{is_file_kind}
 use Rattle.lr_looks.specs.Found.{FoundLog}
 
 -- the path and the names of a log, by which it is chosen
-abbrev pub names_of : Bor Family → Path × Naming
-names_of b = (b.now.log, b.now.naming)
+abbrev pub chosen_names : Bor Family → Path × Naming
+chosen_names b = (b.now.log, b.now.naming)
 
 abbrev pub found_names : FoundLog → Path × Naming
 found_names f = (f.log.path, f.log.naming)
@@ -27,7 +27,7 @@ is_wild f = f.log.wild
 -- The choices are those among these logs, where these paths are reserved.
 pub record IsChoiceAmong (reserved : List Path) (found : List FoundLog) (choices : List Choice) : Type 0 where
   pub logs : List (Bor Family)
-  pub same : map names_of logs ≡ map found_names found
+  pub same : map chosen_names logs ≡ map found_names found
   pub chosen : AreChosen logs (map is_wild found) reserved choices
 
 -- a path that was found before is told, unless the definition that found it first lets it go silently
@@ -76,7 +76,7 @@ where_file f = if is_file_kind f.seen.kind then f ∷ [] else []
 
 -- The logs that are left are those that are kept and are regular files; the faults of the others are added, those of the choice
 -- first.
-pub record Keeps (reserved : List Path) (found : List FoundLog) (faults all_faults : List Fault)
+pub record KeepsLogs (reserved : List Path) (found : List FoundLog) (faults all_faults : List Fault)
     (left : List FoundLog) : Type 0 where
   pub choices : List Choice
   pub chosen : IsChoiceAmong reserved found choices

@@ -29,15 +29,15 @@ pub record AddsFound (words : List Word) (found all_found : List FoundLog) : Typ
   pub found_are : all_found ≡ found ++ found_of words sights
 
 -- the reserved path, or the log, that the choice names is one of so many
-abbrev pub IsWithin : ℕ → ℕ → Choice → Type 0
-IsWithin paths count Kept = Unit {0}
-IsWithin paths count (Again i) = i < count
-IsWithin paths count (MemberOf i) = i < count
-IsWithin paths count (Reserved i) = i < paths
-IsWithin paths count (Meets i) = i < count
+abbrev pub IsWithinCounts : ℕ → ℕ → Choice → Type 0
+IsWithinCounts paths count Kept = Unit {0}
+IsWithinCounts paths count (Again i) = i < count
+IsWithinCounts paths count (MemberOf i) = i < count
+IsWithinCounts paths count (Reserved i) = i < paths
+IsWithinCounts paths count (Meets i) = i < count
 
-abbrev pub AreWithin : ℕ → ℕ → List Choice → Type 0
-AreWithin paths count choices = All (IsWithin paths count) choices
+abbrev pub AreWithinCounts : ℕ → ℕ → List Choice → Type 0
+AreWithinCounts paths count choices = All (IsWithinCounts paths count) choices
 
 -- ---- the map of the listings that were taken
 
@@ -73,8 +73,8 @@ pub data NoListing (known : List Listing) (dir : Path) (why : StandStop) (ts : L
       → NoListing known dir why ts
 
 -- the listing of the directory stands at this place
-abbrev pub IsAt : List Listing → ℕ → Path → Type 0
-IsAt known place dir = (l : Listing) × (slice_get known place ≡ Some l) × (l.dir ≡ dir)
+abbrev pub IsListedAt : List Listing → ℕ → Path → Type 0
+IsListedAt known place dir = (l : Listing) × (slice_get known place ≡ Some l) × (l.dir ≡ dir)
 
 -- ---- logs by definitions
 

@@ -5,10 +5,10 @@ use Rattle.lr_plan.specs.declared.looks.SetLooks.{SetLooks}
 use Rattle.lr_plan.specs.Planned.{CanPlan}
 
 -- P holds of each of these logs
-abbrev pub Each : (LogLook → Type 0) → List SetLooks → Type 0
-Each P [] = Unit {0}
-Each P (set ∷ sets) = All P set.logs × Each P sets
+abbrev pub EachLook : (LogLook → Type 0) → List SetLooks → Type 0
+EachLook P [] = Unit {0}
+EachLook P (set ∷ sets) = All P set.logs × EachLook P sets
 
 -- each can be planned for
 abbrev pub AreReady : List SetLooks → Type 0
-AreReady sets = Each CanPlan sets
+AreReady sets = EachLook CanPlan sets

@@ -8,11 +8,11 @@ use Rattle.lr_host.specs.Told.{Then}
 use Rattle.lr_plan.specs.declared.looks.Looks.{Looks}
 use Rattle.lr_plan.specs.declared.looks.SetLooks.{SetLooks}
 use Rattle.lr_looks.specs.Asked.{asked_by, AreTexts}
-use Rattle.lr_looks.specs.Choices.{Keeps}
+use Rattle.lr_looks.specs.Choices.{KeepsLogs}
 use Rattle.lr_looks.specs.Families.{LookedLog, LooksAtFamilies, LookedAtSomeFamilies}
 use Rattle.lr_looks.specs.Found.{FoundLog, paths_of, HaveLogPaths}
 use Rattle.lr_looks.specs.Sets.{HaveLooks}
-use Rattle.lr_looks.specs.Sights.{LookedAt, LookedAtSome}
+use Rattle.lr_looks.specs.Sights.{LookedAtWords, LookedAtSomeWords}
 
 -- What the words give was looked at, and then the families of the logs that are kept. The words are texts, and what was found has
 -- paths that a log can have. The logs that were looked at whole stand by definitions; the faults are those of the words, of the
@@ -26,8 +26,8 @@ pub record ShowsLooks (reserved : List Path) (rules : List Rule) (sets : List Se
   pub looked : List LookedLog
   pub texts : AreTexts (asked_by rules)
   pub paths : HaveLogPaths found
-  pub keeps : Keeps reserved found of_words of_kept kept
-  pub entries : Then (LookedAt (asked_by rules) [] of_words [] found) (LooksAtFamilies kept of_kept faults looked) ts
+  pub keeps : KeepsLogs reserved found of_words of_kept kept
+  pub entries : Then (LookedAtWords (asked_by rules) [] of_words [] found) (LooksAtFamilies kept of_kept faults looked) ts
   pub many : length sets ≡ length rules
   pub by_sets : HaveLooks looked sets
 
@@ -41,7 +41,8 @@ pub record LooksAtAll (reserved : List Path) (rules : List Rule) (looks : Looks)
 
 -- Where there was no memory, a first part of these looks was made.
 pub data ShowsSomeLooks (reserved : List Path) (rules : List Rule) (ts : List Entry) : Type 0 where
-  at_words : LookedAtSome 0 (asked_by rules) ts → ShowsSomeLooks reserved rules ts
+  at_words : LookedAtSomeWords 0 (asked_by rules) ts → ShowsSomeLooks reserved rules ts
   at_families : (found : List FoundLog) (of_words : List Fault) (kept : List FoundLog) (of_kept : List Fault)
-      → Keeps reserved found of_words of_kept kept
-      → Then (LookedAt (asked_by rules) [] of_words [] found) (LookedAtSomeFamilies [] kept) ts → ShowsSomeLooks reserved rules ts
+      → KeepsLogs reserved found of_words of_kept kept
+      → Then (LookedAtWords (asked_by rules) [] of_words [] found) (LookedAtSomeFamilies [] kept) ts
+      → ShowsSomeLooks reserved rules ts

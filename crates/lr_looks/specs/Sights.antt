@@ -34,10 +34,10 @@ glob_fault w stop.LongName = fault.LongName w.text ∷ []
 glob_fault w stop.TooMany = fault.TooMany w.text ∷ []
 glob_fault w stop.Memory = []
 
-abbrev pub fault_of : Word → WordSight → List Fault
-fault_of w (Ok []) = missing w
-fault_of w (Ok (m ∷ ms)) = []
-fault_of w (Err why) = glob_fault w why
+abbrev pub sight_faults : Word → WordSight → List Fault
+sight_faults w (Ok []) = missing w
+sight_faults w (Ok (m ∷ ms)) = []
+sight_faults w (Err why) = glob_fault w why
 
 -- ---- all words
 
@@ -45,9 +45,9 @@ abbrev pub found_of : List Word → List WordSight → List FoundLog
 found_of (w ∷ ws) (s ∷ ss) = found_by w s ++ found_of ws ss
 found_of _ _ = []
 
-abbrev pub faults_of : List Word → List WordSight → List Fault
-faults_of (w ∷ ws) (s ∷ ss) = fault_of w s ++ faults_of ws ss
-faults_of _ _ = []
+abbrev pub all_sight_faults : List Word → List WordSight → List Fault
+all_sight_faults (w ∷ ws) (s ∷ ss) = sight_faults w s ++ all_sight_faults ws ss
+all_sight_faults _ _ = []
 
 -- ---- looks and listings
 
@@ -78,16 +78,16 @@ pub record AreFoundOf (words : List Word) (found : List FoundLog) : Type 0 where
   pub found_are : found ≡ found_of words sights
 
 -- These words came to some sights, one for each: the faults and the logs that were added are theirs.
-pub record LookedAt (words : List Word) (faults all_faults : List Fault) (found all_found : List FoundLog)
+pub record LookedAtWords (words : List Word) (faults all_faults : List Fault) (found all_found : List FoundLog)
     (ts : List Entry) : Type 0 where
   pub sights : List WordSight
   pub had_memory : WordsHadMemory sights
   pub shown : ShowWords (length found) words sights ts
-  pub faults_are : all_faults ≡ faults ++ faults_of words sights
+  pub faults_are : all_faults ≡ faults ++ all_sight_faults words sights
   pub found_are : all_found ≡ found ++ found_of words sights
 
 -- Where there was no memory, the first of them were looked at, the last maybe in part; so many logs were found before.
-pub record LookedAtSome (before : ℕ) (words : List Word) (ts : List Entry) : Type 0 where
+pub record LookedAtSomeWords (before : ℕ) (words : List Word) (ts : List Entry) : Type 0 where
   pub sights : List WordSight
   pub few : length sights ≤ length words
   pub shown : ShowWords before (take (length sights) words) sights ts

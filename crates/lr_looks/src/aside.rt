@@ -3,7 +3,7 @@ ghost use Rattle.std.specs.Prelude.{◌≡◌, ◌≤◌, [], ◌∷◌, IfOk, I
 ghost use Rattle.lr_rules.specs.declared.fault.CallKind.TheVariants as call;
 ghost use Rattle.lr_host.specs.declared.entry.Entry.TheVariants as entry;
 ghost use Rattle.lr_host.specs.Told.{Left, Are, Onward, Rose};
-ghost use Rattle.lr_family.specs.Stands.{IsFailedCall};
+ghost use Rattle.lr_family.specs.Stands.{IsFailedStand};
 ghost use Rattle.lr_family.specs.declared.stand.StandStop.TheVariants as stop;
 ghost use Rattle.lr_looks.specs.Families.{ShowsAside, ShowsNoAside};
 
@@ -18,7 +18,7 @@ fn look_at<H: Host>(host: &mut H, path: Path) -> Result<Option<Seen>, StandStop>
     ensures told { IfOk result (λ seen. Left (Are (entry.Look path seen ∷ [])) (H.told host.old) (H.told host.new)) }
     ensures stopped { OnErr result (Left (Are []) (H.told host.old) (H.told host.new)) }
     ensures why { IfErr result (λ why. why ≡ stop.Call call.Look path) }
-    ensures cause { IfErr result (λ why. IsFailedCall why → Rose (H.counts host.old).faults (H.counts host.new).faults) }
+    ensures cause { IfErr result (λ why. IsFailedStand why → Rose (H.counts host.old).faults (H.counts host.new).faults) }
     ensures counts { Onward (H.counts host.old) (H.counts host.new) }
 {
     match host.look(&path, false) {
@@ -38,7 +38,7 @@ pub fn look_aside<H: Host>(
         (H.told host.new)) }
     ensures stopped { IfErr result (λ why. Left (ShowsNoAside family.now.naming.aside family.now.log why) (H.told host.old)
         (H.told host.new)) }
-    ensures cause { IfErr result (λ why. IsFailedCall why → Rose (H.counts host.old).faults (H.counts host.new).faults) }
+    ensures cause { IfErr result (λ why. IsFailedStand why → Rose (H.counts host.old).faults (H.counts host.new).faults) }
     ensures counts { Onward (H.counts host.old) (H.counts host.new) }
 {
     let aside = family.naming().aside;

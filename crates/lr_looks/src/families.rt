@@ -2,7 +2,7 @@
 ghost use Rattle.std.specs.Prelude.{◌≡◌, ◌≢◌, ◌≤◌, ◌<◌, ◌++◌, ◌∷◌, [], true, OnOk, OnErr, IfOk, IfErr, Err, length};
 ghost use Rattle.lr_rules.specs.Limits.{is_format, or_none};
 ghost use Rattle.lr_host.specs.Told.{Left, Onward, Rose};
-ghost use Rattle.lr_family.specs.Stands.{IsFailedCall};
+ghost use Rattle.lr_family.specs.Stands.{IsFailedStand};
 ghost use Rattle.lr_family.specs.declared.stand.StandStop.TheVariants as stop;
 ghost use Rattle.lr_host.specs.Counted.{WentBy};
 ghost use Rattle.lr_looks.specs.Families.{ShowsAside, ShowsNoAside, ShowsMembersIn, ShowsFamily, sight_of};
@@ -38,7 +38,7 @@ fn with_aside<H: Host>(
     ensures stand { IfOk result (λ standing. standing.stand ≡ stand) }
     ensures stopped { IfErr result (λ why. Left (ShowsNoAside family.now.naming.aside family.now.log why) (H.told host.old)
         (H.told host.new)) }
-    ensures cause { IfErr result (λ why. IsFailedCall why → Rose (H.counts host.old).faults (H.counts host.new).faults) }
+    ensures cause { IfErr result (λ why. IsFailedStand why → Rose (H.counts host.old).faults (H.counts host.new).faults) }
     ensures counts { Onward (H.counts host.old) (H.counts host.new) }
 {
     match look_aside(alloc, host, family) {
@@ -60,7 +60,7 @@ fn standing_in<H: Host>(
     ensures told { Left (ShowsMembersIn family.now.log family.now.naming listing.now (sight_of result)) (H.told host.old)
         (H.told host.new) }
     ensures named { IfOk result (λ standing. AreMembersOf family.now.naming standing.stand.members) }
-    ensures cause { IfErr result (λ why. IsFailedCall why → Rose (H.counts host.old).faults (H.counts host.new).faults) }
+    ensures cause { IfErr result (λ why. IsFailedStand why → Rose (H.counts host.old).faults (H.counts host.new).faults) }
     ensures counts { Onward (H.counts host.old) (H.counts host.new) }
 {
     match family.stand_in(alloc, host, listing) {
@@ -85,7 +85,7 @@ fn stand_at<H: Host>(
         (H.told host.old) (H.told host.new) }
     ensures known { result ≢ Err stop.Memory → AreListings listings.new }
     ensures named { IfOk result (λ standing. AreMembersOf family.now.naming standing.stand.members) }
-    ensures cause { IfErr result (λ why. IsFailedCall why → Rose (H.counts host.old).faults (H.counts host.new).faults) }
+    ensures cause { IfErr result (λ why. IsFailedStand why → Rose (H.counts host.old).faults (H.counts host.new).faults) }
     ensures counts { Onward (H.counts host.old) (H.counts host.new) }
 {
     match listing_at(alloc, host, listings, &family.naming().dir) {

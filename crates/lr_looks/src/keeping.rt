@@ -3,9 +3,10 @@ ghost use Rattle.std.specs.Prelude.{◌≡◌, ◌++◌, OnOk, IfOk, length, map
 ghost use Rattle.lr_rules.specs.declared.fault.Fault.TheVariants as fault;
 ghost use Rattle.std.specs.List.{flat_map};
 ghost use Rattle.lr_looks.specs.Found.{found_in, all_found_in, HaveLogPaths};
-ghost use Rattle.lr_looks.specs.Choices.{names_of, found_names, is_wild, duplicate, overlap, barred, choice_fault, choice_faults};
-ghost use Rattle.lr_looks.specs.Choices.{where_kept, kept_of, kind_fault, where_file, IsChoiceAmong, Keeps};
-ghost use Rattle.lr_looks.specs.Internal.{IsWithin, AreWithin};
+ghost use Rattle.lr_looks.specs.Choices.{chosen_names, found_names, is_wild, duplicate, overlap, barred};
+ghost use Rattle.lr_looks.specs.Choices.{choice_fault, choice_faults};
+ghost use Rattle.lr_looks.specs.Choices.{where_kept, kept_of, kind_fault, where_file, IsChoiceAmong, KeepsLogs};
+ghost use Rattle.lr_looks.specs.Internal.{IsWithinCounts, AreWithinCounts};
 
 use crate::found::Found;
 use lr_family::Family;
@@ -16,7 +17,7 @@ use std::alloc::Global;
 
 // The families of logs.
 fn families_of<'a>(alloc: Global, found: &'a [Found]) -> Result<Vec<&'a Family>, Memory>
-    ensures { IfOk result (λ families. map names_of families.items ≡ map found_names (all_found_in found.now)) }
+    ensures { IfOk result (λ families. map chosen_names families.items ≡ map found_names (all_found_in found.now)) }
 {
     let mut families = Vec::new(alloc);
     for item in found {
@@ -101,7 +102,7 @@ fn add_choice(
     item: &Found,
     choice: Choice,
 ) -> Result<(), Memory>
-    requires { IsWithin (length reserved.now) (length found.now) choice }
+    requires { IsWithinCounts (length reserved.now) (length found.now) choice }
     ensures { OnOk result (faults.new.items ≡ faults.old.items
         ++ choice_fault reserved.now (all_found_in found.now) (found_in item.now) choice) }
 {
@@ -123,7 +124,7 @@ fn add_choices(
     choices: &[Choice],
 ) -> Result<(), Memory>
     requires many { length choices.now ≡ length found.now }
-    requires within { AreWithin (length reserved.now) (length found.now) choices.now }
+    requires within { AreWithinCounts (length reserved.now) (length found.now) choices.now }
     ensures { OnOk result (faults.new.items ≡ faults.old.items
         ++ choice_faults reserved.now (all_found_in found.now) (all_found_in found.now) choices.now) }
 {
@@ -218,7 +219,7 @@ pub fn keep(
     faults: &mut Vec<Fault>,
 ) -> Result<Vec<Found>, Memory>
     requires { HaveLogPaths (all_found_in found.items) }
-    ensures { IfOk result (λ left. Keeps reserved.now (all_found_in found.items) faults.old.items faults.new.items
+    ensures { IfOk result (λ left. KeepsLogs reserved.now (all_found_in found.items) faults.old.items faults.new.items
         (all_found_in left.items)) }
 {
     let choices = choices_among(alloc, &found, reserved)?;

@@ -1,9 +1,9 @@
 // Each directory is listed once.
 ghost use Rattle.std.specs.Prelude.{◌≡◌, ◌≢◌, ◌++◌, ◌∷◌, [], IfOk, IfErr, OnOk, Err, length};
 ghost use Rattle.lr_host.specs.Told.{Left, Onward, Rose};
-ghost use Rattle.lr_family.specs.Stands.{IsFailedCall};
+ghost use Rattle.lr_family.specs.Stands.{IsFailedStand};
 ghost use Rattle.lr_family.specs.declared.stand.StandStop.TheVariants as stop;
-ghost use Rattle.lr_looks.specs.Internal.{AreListings, TakesListing, LacksListing, NoListing, IsAt, places_in};
+ghost use Rattle.lr_looks.specs.Internal.{AreListings, TakesListing, LacksListing, NoListing, IsListedAt, places_in};
 ghost use Rattle.lr_looks.specs.Families.{WasNotListed};
 
 use crate::listings::Listings;
@@ -45,13 +45,13 @@ fn take_listing<H: Host>(
     requires new { WasNotListed listings.old.taken.items dir.now }
     ensures told { IfOk result (λ place. Left (TakesListing listings.old.taken.items dir.now listings.new.taken.items place)
         (H.told host.old) (H.told host.new)) }
-    ensures there { IfOk result (λ place. IsAt listings.new.taken.items place dir.now) }
+    ensures there { IfOk result (λ place. IsListedAt listings.new.taken.items place dir.now) }
     ensures stopped { IfErr result (λ why. why ≢ stop.Memory
         → Left (LacksListing listings.old.taken.items dir.now why listings.new.taken.items) (H.told host.old) (H.told host.new)) }
     ensures part { IfErr result (λ why. Left (NoListing listings.old.taken.items dir.now why) (H.told host.old) (H.told host.new)) }
     ensures known { OnOk result (AreListings listings.new) }
     ensures same { IfErr result (λ why. why ≢ stop.Memory → AreListings listings.new) }
-    ensures cause { IfErr result (λ why. IsFailedCall why → Rose (H.counts host.old).faults (H.counts host.new).faults) }
+    ensures cause { IfErr result (λ why. IsFailedStand why → Rose (H.counts host.old).faults (H.counts host.new).faults) }
     ensures counts { Onward (H.counts host.old) (H.counts host.new) }
 {
     match Listing::take(alloc, host, dir) {
@@ -73,13 +73,13 @@ pub fn listing_at<H: Host>(
     requires { AreListings listings.old }
     ensures told { IfOk result (λ place. Left (TakesListing listings.old.taken.items dir.now listings.new.taken.items place)
         (H.told host.old) (H.told host.new)) }
-    ensures there { IfOk result (λ place. IsAt listings.new.taken.items place dir.now) }
+    ensures there { IfOk result (λ place. IsListedAt listings.new.taken.items place dir.now) }
     ensures stopped { IfErr result (λ why. why ≢ stop.Memory
         → Left (LacksListing listings.old.taken.items dir.now why listings.new.taken.items) (H.told host.old) (H.told host.new)) }
     ensures part { IfErr result (λ why. Left (NoListing listings.old.taken.items dir.now why) (H.told host.old) (H.told host.new)) }
     ensures known { OnOk result (AreListings listings.new) }
     ensures same { IfErr result (λ why. why ≢ stop.Memory → AreListings listings.new) }
-    ensures cause { IfErr result (λ why. IsFailedCall why → Rose (H.counts host.old).faults (H.counts host.new).faults) }
+    ensures cause { IfErr result (λ why. IsFailedStand why → Rose (H.counts host.old).faults (H.counts host.new).faults) }
     ensures counts { Onward (H.counts host.old) (H.counts host.new) }
 {
     match place_of(listings, dir) {

@@ -3,13 +3,14 @@ ghost use Rattle.std.specs.Prelude.{◌≡◌, ◌≢◌, ◌-◌, ◌++◌, ◌
 ghost use Rattle.std.specs.List.{list_any};
 ghost use Rattle.lr_host.specs.Told.{Left, Onward, Rose};
 ghost use Rattle.lr_glob.specs.Sights.{is_long};
-ghost use Rattle.lr_glob.specs.Stops.{IsFailedCall};
+ghost use Rattle.lr_glob.specs.Stops.{IsFailedGlob};
 ghost use Rattle.lr_glob.specs.Words.{Comes, Stopped};
 ghost use Rattle.lr_glob.specs.declared.found.GlobStop.TheVariants as stop;
-ghost use Rattle.lr_looks.specs.Asked.{CanAsk, CanAskAll, AreTexts, word_of, words_of, asked_by};
+ghost use Rattle.lr_looks.specs.Asked.{CanAsk, CanAskAll, AreTexts, word_of, rule_words, asked_by};
 ghost use Rattle.lr_host.specs.Counted.{WentBy};
 ghost use Rattle.lr_looks.specs.Found.{all_found_in, HasLogPath, HaveLogPaths};
-ghost use Rattle.lr_looks.specs.Sights.{found_at, found_by, missing, glob_fault, fault_of, AreFoundOf, LookedAt, LookedAtSome};
+ghost use Rattle.lr_looks.specs.Sights.{found_at, found_by, missing, glob_fault, sight_faults, AreFoundOf};
+ghost use Rattle.lr_looks.specs.Sights.{LookedAtWords, LookedAtSomeWords};
 ghost use Rattle.lr_looks.specs.Internal.{AddsFound};
 
 use crate::found::Found;
@@ -47,7 +48,7 @@ fn matches_of<H: Host>(
     ensures told { IfOk result (λ matches. Left (Comes word.now room (Ok matches.items)) (H.told host.old) (H.told host.new)) }
     ensures stopped { IfErr result (λ why. Left (Stopped word.now room why) (H.told host.old) (H.told host.new)) }
     ensures short { IfOk result (λ matches. list_any is_long matches.items ≡ false) }
-    ensures cause { IfErr result (λ why. IsFailedCall why → Rose (H.counts host.old).faults (H.counts host.new).faults) }
+    ensures cause { IfErr result (λ why. IsFailedGlob why → Rose (H.counts host.old).faults (H.counts host.new).faults) }
     ensures counts { Onward (H.counts host.old) (H.counts host.new) }
 {
     match expand(alloc, host, word, room) {
@@ -171,7 +172,7 @@ fn add_matches(
     requires rule { CanAsk rule.now }
     requires short { list_any is_long matches.items ≡ false }
     ensures faults { OnOk result (faults.new.items ≡ faults.old.items
-        ++ fault_of (word_of set rule.now word.now) (Ok matches.items)) }
+        ++ sight_faults (word_of set rule.now word.now) (Ok matches.items)) }
     ensures found { OnOk result (all_found_in found.new.items ≡ all_found_in found.old.items
         ++ found_by (word_of set rule.now word.now) (Ok matches.items)) }
     ensures paths { OnOk result (HaveLogPaths (all_found_in found.old.items) → HaveLogPaths (all_found_in found.new.items)) }
@@ -202,10 +203,10 @@ fn look_at_word<H: Host>(
     faults: &mut Vec<Fault>,
 ) -> Result<(), Memory>
     requires { CanAsk rule.now }
-    ensures told { OnOk result (Left (LookedAt (word_of set rule.now word.now ∷ []) faults.old.items faults.new.items
+    ensures told { OnOk result (Left (LookedAtWords (word_of set rule.now word.now ∷ []) faults.old.items faults.new.items
         (all_found_in found.old.items) (all_found_in found.new.items)) (H.told host.old) (H.told host.new)) }
-    ensures some { OnErr result (Left (LookedAtSome (length (all_found_in found.old.items)) (word_of set rule.now word.now ∷ []))
-        (H.told host.old) (H.told host.new)) }
+    ensures some { OnErr result (Left (LookedAtSomeWords (length (all_found_in found.old.items)) (word_of set rule.now word.now ∷
+        [])) (H.told host.old) (H.told host.new)) }
     ensures found { OnOk result (AddsFound (word_of set rule.now word.now ∷ []) (all_found_in found.old.items)
         (all_found_in found.new.items)) }
     ensures paths { OnOk result (HaveLogPaths (all_found_in found.old.items) → HaveLogPaths (all_found_in found.new.items)) }
@@ -230,13 +231,14 @@ fn look_at_rule<H: Host>(
     faults: &mut Vec<Fault>,
 ) -> Result<(), Memory>
     requires { CanAsk rule.now }
-    ensures told { OnOk result (Left (LookedAt (words_of set rule.now) faults.old.items faults.new.items
+    ensures told { OnOk result (Left (LookedAtWords (rule_words set rule.now) faults.old.items faults.new.items
         (all_found_in found.old.items) (all_found_in found.new.items)) (H.told host.old) (H.told host.new)) }
-    ensures some { OnErr result (Left (LookedAtSome (length (all_found_in found.old.items)) (words_of set rule.now))
+    ensures some { OnErr result (Left (LookedAtSomeWords (length (all_found_in found.old.items)) (rule_words set rule.now))
         (H.told host.old) (H.told host.new)) }
-    ensures found { OnOk result (AddsFound (words_of set rule.now) (all_found_in found.old.items) (all_found_in found.new.items)) }
+    ensures found { OnOk result (AddsFound (rule_words set rule.now) (all_found_in found.old.items)
+        (all_found_in found.new.items)) }
     ensures paths { OnOk result (HaveLogPaths (all_found_in found.old.items) → HaveLogPaths (all_found_in found.new.items)) }
-    ensures texts { OnOk result (AreTexts (words_of set rule.now)) }
+    ensures texts { OnOk result (AreTexts (rule_words set rule.now)) }
     ensures went { WentBy result faults.old.items faults.new.items (H.counts host.old) (H.counts host.new) }
 {
     for word in rule.words.as_slice() {
@@ -256,9 +258,9 @@ pub fn look_at_words<H: Host>(
     faults: &mut Vec<Fault>,
 ) -> Result<Vec<Found>, Memory>
     requires { CanAskAll rules.now.sets }
-    ensures told { IfOk result (λ found. Left (LookedAt (asked_by rules.now.sets) faults.old.items faults.new.items []
+    ensures told { IfOk result (λ found. Left (LookedAtWords (asked_by rules.now.sets) faults.old.items faults.new.items []
         (all_found_in found.items)) (H.told host.old) (H.told host.new)) }
-    ensures some { OnErr result (Left (LookedAtSome 0 (asked_by rules.now.sets)) (H.told host.old) (H.told host.new)) }
+    ensures some { OnErr result (Left (LookedAtSomeWords 0 (asked_by rules.now.sets)) (H.told host.old) (H.told host.new)) }
     ensures found { IfOk result (λ found. AreFoundOf (asked_by rules.now.sets) (all_found_in found.items)) }
     ensures paths { IfOk result (λ found. HaveLogPaths (all_found_in found.items)) }
     ensures texts { OnOk result (AreTexts (asked_by rules.now.sets)) }

@@ -6,7 +6,7 @@ use Rattle.std.proofs.lemmas.Bool.Decides.{nat_tests}
 use Rattle.std.proofs.lemmas.List.Folds.{list_any-append}
 use Rattle.lr_rules.specs.Match.{ranges_have, is_close, IsClass}
 use Rattle.lr_rules.proofs.Heads.{heads, tails}
-use Rattle.lr_match.specs.Classes.{before_close, signs_of, Turned, HasNoClass}
+use Rattle.lr_match.specs.Classes.{before_close, signs_of, TurnedClass, HasNoClass}
 
 -- ---- ranges
 
@@ -86,11 +86,11 @@ class_turned cs (b ∷ bs) rest true is turn e = IsClass.turned b (before_close 
 
 -- ---- what a `!` leaves
 
-pub class_by : (cs bs rest : List ℕ) (t : Bool) → Turned cs t bs → Ends bs rest → IsClass cs t (signs_of bs) rest
+pub class_by : (cs bs rest : List ℕ) (t : Bool) → TurnedClass cs t bs → Ends bs rest → IsClass cs t (signs_of bs) rest
 class_by cs bs rest true h e = class_turned cs bs rest true refl h e
 class_by cs bs rest false h e = class_straight cs bs rest false refl (sym h.0) h.1 e
 
-pub turned_shorter : (cs bs : List ℕ) (t : Bool) → Turned cs t bs → length bs ≤ length cs
+pub turned_shorter : (cs bs : List ℕ) (t : Bool) → TurnedClass cs t bs → length bs ≤ length cs
 turned_shorter cs bs true h = let l = ap length h in omega (arith, l)
 turned_shorter cs bs false h = let l = ap length h.0 in omega (arith, l)
 
@@ -100,14 +100,14 @@ tail_free [] h = refl
 tail_free (x ∷ []) h = refl
 tail_free (x ∷ y ∷ ys) h = (or_parts (is_close y) (list_any is_close ys) h).1
 
-pub none_by : (cs bs : List ℕ) (t : Bool) → Turned cs t bs → list_any is_close (drop 1 bs) ≡ false → list_any is_close (drop 2 cs) ≡ false
+pub none_by : (cs bs : List ℕ) (t : Bool) → TurnedClass cs t bs → list_any is_close (drop 1 bs) ≡ false → list_any is_close (drop 2 cs) ≡ false
 none_by cs bs true h n = ap (λ xs. list_any is_close (drop 2 xs)) h ∙ n
 none_by cs bs false h n = tail_free cs (ap (λ xs. list_any is_close (drop 1 xs)) (sym h.0) ∙ n)
 
 closed_behind : (sign : ℕ) (bs more rest : List ℕ) → bs ≡ sign ∷ more ++ 93 ∷ rest → list_any is_close (drop 1 bs) ≡ false → ⊥
 closed_behind sign bs more rest e n = let t = sym (some_closes more rest) ∙ (ap (λ xs. list_any is_close (drop 1 xs)) (sym e) ∙ n) in absurd (cc)
 
-pub no_class_by : (cs bs : List ℕ) (t : Bool) → Turned cs t bs → list_any is_close (drop 1 bs) ≡ false → (u : Bool) (signs rest : List ℕ) → IsClass cs u signs rest → ⊥
+pub no_class_by : (cs bs : List ℕ) (t : Bool) → TurnedClass cs t bs → list_any is_close (drop 1 bs) ≡ false → (u : Bool) (signs rest : List ℕ) → IsClass cs u signs rest → ⊥
 no_class_by cs bs true h n _ _ _ (IsClass.straight sign more rest other none e) = other (heads sign 33 (more ++ 93 ∷ rest) bs (sym e ∙ h))
 no_class_by cs bs true h n _ _ _ (IsClass.turned sign more rest none e) = closed_behind sign bs more rest (tails 33 33 bs (sign ∷ more ++ 93 ∷ rest) (sym h ∙ e)) n
 no_class_by cs bs false h n _ _ _ (IsClass.straight sign more rest other none e) = closed_behind sign bs more rest (h.0 ∙ e) n

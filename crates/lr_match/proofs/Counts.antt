@@ -6,7 +6,7 @@ use Rattle.lr_rules.specs.Match.{IsClass}
 use Rattle.lr_match.specs.declared.sign.Sign.{Sign}
 use Rattle.lr_match.specs.Classes.{spare, signs_of}
 use Rattle.lr_match.specs.Reached.{reach_steps}
-use Rattle.lr_match.specs.Signs.{Begins, length_of_sign}
+use Rattle.lr_match.specs.Signs.{BeginsWithSign, length_of_sign}
 
 pub spare_most : (t : Bool) (m : ℕ) → spare t m ≤ m
 spare_most true m = omega arith
@@ -17,12 +17,12 @@ class_length part _ _ _ (IsClass.straight a more rest n o e) = let l = ap length
 class_length part _ _ _ (IsClass.turned a more rest o e) = let l = ap length e in let m = length-append more (93 ∷ rest) in omega (arith, l, m)
 
 -- what a sign is asked for is paid for by its own length
-pub sign_length : (text : List ℕ) (s : Sign) (rest : List ℕ) → Begins text s rest → length_of_sign s + 3 * length rest ≤ 3 * length text
-sign_length text _ _ (Begins.run rest e) = let l = ap length e in omega (arith, l)
-sign_length text _ _ (Begins.one rest e) = let l = ap length e in omega (arith, l)
-sign_length text _ _ (Begins.itself c rest e plain) = let l = ap length e in omega (arith, l)
-sign_length text _ _ (Begins.escaped c rest e) = let l = ap length e in omega (arith, l)
-sign_length text _ _ (Begins.of_class k part rest e is) = let l = ap length e in let m = class_length part k.turned (signs_of (chars k.signs.now)) rest is in omega (arith, l, m)
+pub sign_length : (text : List ℕ) (s : Sign) (rest : List ℕ) → BeginsWithSign text s rest → length_of_sign s + 3 * length rest ≤ 3 * length text
+sign_length text _ _ (BeginsWithSign.run rest e) = let l = ap length e in omega (arith, l)
+sign_length text _ _ (BeginsWithSign.one rest e) = let l = ap length e in omega (arith, l)
+sign_length text _ _ (BeginsWithSign.itself c rest e plain) = let l = ap length e in omega (arith, l)
+sign_length text _ _ (BeginsWithSign.escaped c rest e) = let l = ap length e in omega (arith, l)
+sign_length text _ _ (BeginsWithSign.of_class k part rest e is) = let l = ap length e in let m = class_length part k.turned (signs_of (chars k.signs.now)) rest is in omega (arith, l, m)
 
 -- ---- tries
 

@@ -8,7 +8,7 @@ use Rattle.lr_match.specs.declared.sign.Sign.{Sign}
 use Rattle.lr_match.specs.declared.sign.Sign.TheVariants as sign
 use Rattle.lr_match.specs.declared.class.Class.{Class}
 use Rattle.lr_match.specs.Classes.{before_close, signs_of}
-use Rattle.lr_match.specs.Signs.{Begins, sign_has, IsSingle}
+use Rattle.lr_match.specs.Signs.{BeginsWithSign, sign_has, IsSingle}
 use Rattle.lr_match.proofs.Classes.{before_first_close}
 
 -- ---- lists that are one
@@ -170,12 +170,12 @@ by_class f text part rest name c k e is (Went.of_class x p r signs behind t te n
     }
 
 -- what a match with a first character says of a first sign
-pub single_from : (f : Bool) (text : List ℕ) (s : Sign) (rest : List ℕ) (c : ℕ) (name : List ℕ) → Begins text s rest → IsSingle s → Matches f text (c ∷ name) → OneStep s f c rest name
-single_from f text _ _ c name (Begins.run rest e) single m = absurd single
-single_from f text _ _ c name (Begins.one rest e) single m = by_one f text rest name c e (went f text (c ∷ name) m)
-single_from f text _ _ c name (Begins.itself d rest e plain) single m = by_itself f text rest name c d e plain (went f text (c ∷ name) m)
-single_from f text _ _ c name (Begins.escaped d rest e) single m = by_escaped f text rest name c d e (went f text (c ∷ name) m)
-single_from f text _ _ c name (Begins.of_class k part rest e is) single m = by_class f text part rest name c k e is (went f text (c ∷ name) m)
+pub single_from : (f : Bool) (text : List ℕ) (s : Sign) (rest : List ℕ) (c : ℕ) (name : List ℕ) → BeginsWithSign text s rest → IsSingle s → Matches f text (c ∷ name) → OneStep s f c rest name
+single_from f text _ _ c name (BeginsWithSign.run rest e) single m = absurd single
+single_from f text _ _ c name (BeginsWithSign.one rest e) single m = by_one f text rest name c e (went f text (c ∷ name) m)
+single_from f text _ _ c name (BeginsWithSign.itself d rest e plain) single m = by_itself f text rest name c d e plain (went f text (c ∷ name) m)
+single_from f text _ _ c name (BeginsWithSign.escaped d rest e) single m = by_escaped f text rest name c d e (went f text (c ∷ name) m)
+single_from f text _ _ c name (BeginsWithSign.of_class k part rest e is) single m = by_class f text part rest name c k e is (went f text (c ∷ name) m)
 
 pub same_of : (d c : ℕ) → (d == c) ≡ true → d ≡ c
 same_of d c test = grind (arith, nat_tests)
@@ -183,30 +183,30 @@ same_of d c test = grind (arith, nat_tests)
 to_text : (f : Bool) (a b name : List ℕ) → b ≡ a → Matches f a name → Matches f b name
 to_text f a b name e m = subst (λ x. Matches f x name) (sym e) m
 
-pub single_to : (f : Bool) (text : List ℕ) (s : Sign) (rest : List ℕ) (c : ℕ) (name : List ℕ) → Begins text s rest → IsSingle s → OneStep s f c rest name → Matches f text (c ∷ name)
-single_to f text _ _ c name (Begins.run rest e) single o = absurd single
-single_to f text _ _ c name (Begins.one rest e) single o = to_text f (63 ∷ rest) text (c ∷ name) e (Matches.any_one refl o.may o.goes)
-single_to f text _ _ c name (Begins.itself d rest e plain) single o = to_text f (c ∷ rest) text (c ∷ name) (e ∙ ap (λ x. x ∷ rest) (same_of d c o.has)) (Matches.itself (subst (λ x. IsPlain x rest) (same_of d c o.has) plain) o.goes)
-single_to f text _ _ c name (Begins.escaped d rest e) single o = to_text f (92 ∷ c ∷ rest) text (c ∷ name) (e ∙ ap (λ x. 92 ∷ x ∷ rest) (same_of d c o.has)) (Matches.escaped refl o.goes)
-single_to f text _ _ c name (Begins.of_class k part rest e is) single o =
+pub single_to : (f : Bool) (text : List ℕ) (s : Sign) (rest : List ℕ) (c : ℕ) (name : List ℕ) → BeginsWithSign text s rest → IsSingle s → OneStep s f c rest name → Matches f text (c ∷ name)
+single_to f text _ _ c name (BeginsWithSign.run rest e) single o = absurd single
+single_to f text _ _ c name (BeginsWithSign.one rest e) single o = to_text f (63 ∷ rest) text (c ∷ name) e (Matches.any_one refl o.may o.goes)
+single_to f text _ _ c name (BeginsWithSign.itself d rest e plain) single o = to_text f (c ∷ rest) text (c ∷ name) (e ∙ ap (λ x. x ∷ rest) (same_of d c o.has)) (Matches.itself (subst (λ x. IsPlain x rest) (same_of d c o.has) plain) o.goes)
+single_to f text _ _ c name (BeginsWithSign.escaped d rest e) single o = to_text f (92 ∷ c ∷ rest) text (c ∷ name) (e ∙ ap (λ x. 92 ∷ x ∷ rest) (same_of d c o.has)) (Matches.escaped refl o.goes)
+single_to f text _ _ c name (BeginsWithSign.of_class k part rest e is) single o =
     to_text f (91 ∷ part) text (c ∷ name) e (Matches.of_class refl is o.may (sign_class k.turned (class_has (signs_of (chars k.signs.now)) c) o.has) o.goes)
 
 -- a first sign that goes with one character matches no empty name
-begins_some : (text : List ℕ) (s : Sign) (rest : List ℕ) → Begins text s rest → text ≡ [] → ⊥
-begins_some text _ _ (Begins.run rest e) none = not_empty none e
-begins_some text _ _ (Begins.one rest e) none = not_empty none e
-begins_some text _ _ (Begins.itself d rest e plain) none = not_empty none e
-begins_some text _ _ (Begins.escaped d rest e) none = not_empty none e
-begins_some text _ _ (Begins.of_class k part rest e is) none = not_empty none e
+begins_some : (text : List ℕ) (s : Sign) (rest : List ℕ) → BeginsWithSign text s rest → text ≡ [] → ⊥
+begins_some text _ _ (BeginsWithSign.run rest e) none = not_empty none e
+begins_some text _ _ (BeginsWithSign.one rest e) none = not_empty none e
+begins_some text _ _ (BeginsWithSign.itself d rest e plain) none = not_empty none e
+begins_some text _ _ (BeginsWithSign.escaped d rest e) none = not_empty none e
+begins_some text _ _ (BeginsWithSign.of_class k part rest e is) none = not_empty none e
 
-single_no_run : (text part : List ℕ) (s : Sign) (rest : List ℕ) → Begins text s rest → IsSingle s → text ≡ 42 ∷ part → ⊥
-single_no_run text part _ _ (Begins.run rest e) single te = single
-single_no_run text part _ _ (Begins.one rest e) single te = differ 42 63 refl (head_is te e)
-single_no_run text part _ _ (Begins.itself d rest e plain) single te = plain.no_run (head_is e te)
-single_no_run text part _ _ (Begins.escaped d rest e) single te = differ 42 92 refl (head_is te e)
-single_no_run text part _ _ (Begins.of_class k part' rest e is) single te = differ 42 91 refl (head_is te e)
+single_no_run : (text part : List ℕ) (s : Sign) (rest : List ℕ) → BeginsWithSign text s rest → IsSingle s → text ≡ 42 ∷ part → ⊥
+single_no_run text part _ _ (BeginsWithSign.run rest e) single te = single
+single_no_run text part _ _ (BeginsWithSign.one rest e) single te = differ 42 63 refl (head_is te e)
+single_no_run text part _ _ (BeginsWithSign.itself d rest e plain) single te = plain.no_run (head_is e te)
+single_no_run text part _ _ (BeginsWithSign.escaped d rest e) single te = differ 42 92 refl (head_is te e)
+single_no_run text part _ _ (BeginsWithSign.of_class k part' rest e is) single te = differ 42 91 refl (head_is te e)
 
-pub single_some : (f : Bool) (text : List ℕ) (s : Sign) (rest : List ℕ) → Begins text s rest → IsSingle s → Matches f text [] → ⊥
+pub single_some : (f : Bool) (text : List ℕ) (s : Sign) (rest : List ℕ) → BeginsWithSign text s rest → IsSingle s → Matches f text [] → ⊥
 single_some f text s rest b single m = by (went f text [] m)
   where
     by : Went f text [] → ⊥

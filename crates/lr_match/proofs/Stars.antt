@@ -4,14 +4,14 @@ use Rattle.lr_rules.specs.Match.{IsClass, Matches, EndsWith}
 use Rattle.lr_match.specs.declared.sign.Sign.{Sign}
 use Rattle.lr_match.specs.declared.sign.Sign.TheVariants as sign
 use Rattle.lr_match.specs.declared.class.Class.{Class}
-use Rattle.lr_match.specs.Signs.{Begins, sign_has, IsSingle}
-use Rattle.lr_match.specs.Reached.{MatchesEnd, LeadsTo}
+use Rattle.lr_match.specs.Signs.{BeginsWithSign, sign_has, IsSingle}
+use Rattle.lr_match.specs.Reached.{MatchesEnd, MatchLeadsTo}
 use Rattle.lr_match.proofs.Matching.{head_is, tail_is, not_empty, differ, RunWent, run_went, MayGo, single_from, single_to, single_some, same_of, empty_from, empty_to, loosened}
 
-pub leads_over : (pattern name text left rest : List ℕ) → LeadsTo pattern name text left → text ≡ 42 ∷ rest → LeadsTo pattern name (42 ∷ rest) left
-leads_over pattern name text left rest l e = subst (λ t. LeadsTo pattern name t left) e l
+pub leads_over : (pattern name text left rest : List ℕ) → MatchLeadsTo pattern name text left → text ≡ 42 ∷ rest → MatchLeadsTo pattern name (42 ∷ rest) left
+leads_over pattern name text left rest l e = subst (λ t. MatchLeadsTo pattern name t left) e l
 
-pub leads_nowhere : (pattern name : List ℕ) → LeadsTo pattern name pattern name
+pub leads_nowhere : (pattern name : List ℕ) → MatchLeadsTo pattern name pattern name
 leads_nowhere pattern name = record { on = λ m. m; back = λ m. m; ends = λ m. m }
 
 free : (s : Sign) (c : ℕ) → MayGo s false c
@@ -27,7 +27,7 @@ shorter_end rest c d name end (x ∷ front) e m =
     let behind : name ≡ front ++ d ∷ end = tail_is refl e in
     record { end = end; ends = (front ++ d ∷ [], behind ∙ sym (append_assoc front (d ∷ []) end)); matched = m }
 
-one_end : (text : List ℕ) (s : Sign) (rest : List ℕ) (c : ℕ) (name : List ℕ) → Begins text s rest → IsSingle s → MatchesEnd text (c ∷ name) → MatchesEnd rest name
+one_end : (text : List ℕ) (s : Sign) (rest : List ℕ) (c : ℕ) (name : List ℕ) → BeginsWithSign text s rest → IsSingle s → MatchesEnd text (c ∷ name) → MatchesEnd rest name
 one_end text s rest c name b single m = by m.end m.ends m.matched
   where
     by : (end : List ℕ) → EndsWith (c ∷ name) end → Matches false text end → MatchesEnd rest name
@@ -35,9 +35,9 @@ one_end text s rest c name b single m = by m.end m.ends m.matched
     by (d ∷ end) ends matched = shorter_end rest c d name end ends.0 ends.1 (single_from false text s rest d end b single matched).goes
 
 -- one sign further
-pub leads_on : (pattern name text : List ℕ) (s : Sign) (rest : List ℕ) (c : ℕ) (left left' : List ℕ) → LeadsTo pattern name text left → left ≡ c ∷ left' → Begins text s rest → IsSingle s → sign_has s c ≡ true → LeadsTo pattern name rest left'
+pub leads_on : (pattern name text : List ℕ) (s : Sign) (rest : List ℕ) (c : ℕ) (left left' : List ℕ) → MatchLeadsTo pattern name text left → left ≡ c ∷ left' → BeginsWithSign text s rest → IsSingle s → sign_has s c ≡ true → MatchLeadsTo pattern name rest left'
 leads_on pattern name text s rest c left left' l e b single has =
-    let here : LeadsTo pattern name text (c ∷ left') = subst (LeadsTo pattern name text) e l in
+    let here : MatchLeadsTo pattern name text (c ∷ left') = subst (MatchLeadsTo pattern name text) e l in
     record {
       on = λ m. (single_from false text s rest c left' b single (here.on m)).goes;
       back = λ m. here.back (single_to false text s rest c left' b single (record { has = has; may = free s c; goes = m }));
@@ -71,10 +71,10 @@ pub end_of_run : (pattern name : List ℕ) → Matches false (42 ∷ pattern) na
 end_of_run pattern name m = end_of false (42 ∷ pattern) pattern name refl m
 
 -- from one `*` to the next
-pub run_to_run : (asked left behind rest : List ℕ) → LeadsTo asked left (42 ∷ behind) rest → Matches false (42 ∷ asked) left → Matches false (42 ∷ behind) rest
+pub run_to_run : (asked left behind rest : List ℕ) → MatchLeadsTo asked left (42 ∷ behind) rest → Matches false (42 ∷ asked) left → Matches false (42 ∷ behind) rest
 run_to_run asked left behind rest l m = run_of_end behind rest (l.ends (end_of_run asked left m))
 
-pub run_from_run : (asked left behind rest : List ℕ) → LeadsTo asked left (42 ∷ behind) rest → Matches false (42 ∷ behind) rest → Matches false (42 ∷ asked) left
+pub run_from_run : (asked left behind rest : List ℕ) → MatchLeadsTo asked left (42 ∷ behind) rest → Matches false (42 ∷ behind) rest → Matches false (42 ∷ asked) left
 run_from_run asked left behind rest l m = Matches.run_ends refl (l.back m)
 
 -- where the pattern behind it doesn't match, a `*` takes in a character
@@ -110,21 +110,21 @@ pub run_put : (text pattern name : List ℕ) → text ≡ 42 ∷ pattern → Mat
 run_put text pattern name e m = subst (λ t. Matches true t (46 ∷ name)) (sym e) (Matches.run_ends refl m)
 
 -- a single sign that isn't the dot itself
-pub dot_other : (text : List ℕ) (s : Sign) (rest name : List ℕ) → Begins text s rest → IsSingle s → (MayGo s true 46 → ⊥) → Matches true text (46 ∷ name) → ⊥
+pub dot_other : (text : List ℕ) (s : Sign) (rest name : List ℕ) → BeginsWithSign text s rest → IsSingle s → (MayGo s true 46 → ⊥) → Matches true text (46 ∷ name) → ⊥
 dot_other text s rest name b single closed m = closed (single_from true text s rest 46 name b single m).may
 
-pub dot_itself : (text : List ℕ) (s : Sign) (d : ℕ) (rest name : List ℕ) → Begins text s rest → s ≡ sign.Itself d → (Matches true text (46 ∷ name) → (d ≡ 46) × Matches false rest name) × (d ≡ 46 → Matches false rest name → Matches true text (46 ∷ name))
+pub dot_itself : (text : List ℕ) (s : Sign) (d : ℕ) (rest name : List ℕ) → BeginsWithSign text s rest → s ≡ sign.Itself d → (Matches true text (46 ∷ name) → (d ≡ 46) × Matches false rest name) × (d ≡ 46 → Matches false rest name → Matches true text (46 ∷ name))
 dot_itself text s d rest name b is =
-    let here : Begins text (sign.Itself d) rest = subst (λ x. Begins text x rest) is b in (
+    let here : BeginsWithSign text (sign.Itself d) rest = subst (λ x. BeginsWithSign text x rest) is b in (
       λ m. let o = single_from true text (sign.Itself d) rest 46 name here tt m in (same_of d 46 o.has, o.goes),
       λ dot m. single_to true text (sign.Itself d) rest 46 name here tt (record { has = eq-eqb d 46 dot; may = tt; goes = m }),
     )
 
-pub not_closed : (text : List ℕ) (s : Sign) (rest name : List ℕ) → Begins text s rest → s ≡ sign.One → Matches true text (46 ∷ name) → ⊥
-not_closed text s rest name b is m = dot_other text sign.One rest name (subst (λ x. Begins text x rest) is b) tt (λ o. o refl refl) m
+pub not_closed : (text : List ℕ) (s : Sign) (rest name : List ℕ) → BeginsWithSign text s rest → s ≡ sign.One → Matches true text (46 ∷ name) → ⊥
+not_closed text s rest name b is m = dot_other text sign.One rest name (subst (λ x. BeginsWithSign text x rest) is b) tt (λ o. o refl refl) m
 
-pub not_classed : (text : List ℕ) (s : Sign) (k : Class) (rest name : List ℕ) → Begins text s rest → s ≡ sign.Class k → Matches true text (46 ∷ name) → ⊥
-not_classed text s k rest name b is m = dot_other text (sign.Class k) rest name (subst (λ x. Begins text x rest) is b) tt (λ o. o refl refl) m
+pub not_classed : (text : List ℕ) (s : Sign) (k : Class) (rest name : List ℕ) → BeginsWithSign text s rest → s ≡ sign.Class k → Matches true text (46 ∷ name) → ⊥
+not_classed text s k rest name b is m = dot_other text (sign.Class k) rest name (subst (λ x. BeginsWithSign text x rest) is b) tt (λ o. o refl refl) m
 
 -- ---- lengths
 
@@ -132,25 +132,25 @@ class_shorter : (part : List ℕ) (t : Bool) (signs rest : List ℕ) → IsClass
 class_shorter part _ _ _ (IsClass.straight a more rest n o e) = let l = ap length e in let m = length-append more (93 ∷ rest) in omega arith
 class_shorter part _ _ _ (IsClass.turned a more rest o e) = let l = ap length e in let m = length-append more (93 ∷ rest) in omega arith
 
-pub begins_shorter : (text : List ℕ) (s : Sign) (rest : List ℕ) → Begins text s rest → length rest < length text
-begins_shorter text _ _ (Begins.run rest e) = let l = ap length e in omega arith
-begins_shorter text _ _ (Begins.one rest e) = let l = ap length e in omega arith
-begins_shorter text _ _ (Begins.itself c rest e plain) = let l = ap length e in omega arith
-begins_shorter text _ _ (Begins.escaped c rest e) = let l = ap length e in omega arith
-begins_shorter text _ _ (Begins.of_class k part rest e is) = let l = ap length e in let m = class_shorter part k.turned _ rest is in omega arith
+pub begins_shorter : (text : List ℕ) (s : Sign) (rest : List ℕ) → BeginsWithSign text s rest → length rest < length text
+begins_shorter text _ _ (BeginsWithSign.run rest e) = let l = ap length e in omega arith
+begins_shorter text _ _ (BeginsWithSign.one rest e) = let l = ap length e in omega arith
+begins_shorter text _ _ (BeginsWithSign.itself c rest e plain) = let l = ap length e in omega arith
+begins_shorter text _ _ (BeginsWithSign.escaped c rest e) = let l = ap length e in omega arith
+begins_shorter text _ _ (BeginsWithSign.of_class k part rest e is) = let l = ap length e in let m = class_shorter part k.turned _ rest is in omega arith
 
 -- ---- where it is stuck, and where it ends
 
-pub stuck_short : (pattern name text left : List ℕ) (s : Sign) (rest : List ℕ) → LeadsTo pattern name text left → Begins text s rest → IsSingle s → left ≡ [] → Matches false pattern name → ⊥
+pub stuck_short : (pattern name text left : List ℕ) (s : Sign) (rest : List ℕ) → MatchLeadsTo pattern name text left → BeginsWithSign text s rest → IsSingle s → left ≡ [] → Matches false pattern name → ⊥
 stuck_short pattern name text left s rest l b single none m = single_some false text s rest b single (subst (Matches false text) none (l.on m))
 
-pub stuck_other : (pattern name text left : List ℕ) (s : Sign) (rest : List ℕ) (c : ℕ) (left' : List ℕ) → LeadsTo pattern name text left → Begins text s rest → IsSingle s → left ≡ c ∷ left' → sign_has s c ≡ false → Matches false pattern name → ⊥
+pub stuck_other : (pattern name text left : List ℕ) (s : Sign) (rest : List ℕ) (c : ℕ) (left' : List ℕ) → MatchLeadsTo pattern name text left → BeginsWithSign text s rest → IsSingle s → left ≡ c ∷ left' → sign_has s c ≡ false → Matches false pattern name → ⊥
 stuck_other pattern name text left s rest c left' l b single e other m =
     let has = (single_from false text s rest c left' b single (subst (Matches false text) e (l.on m))).has in
     absurd (cc)
 
-pub stuck_long : (pattern name text left : List ℕ) (c : ℕ) (left' : List ℕ) → LeadsTo pattern name text left → text ≡ [] → left ≡ c ∷ left' → Matches false pattern name → ⊥
+pub stuck_long : (pattern name text left : List ℕ) (c : ℕ) (left' : List ℕ) → MatchLeadsTo pattern name text left → text ≡ [] → left ≡ c ∷ left' → Matches false pattern name → ⊥
 stuck_long pattern name text left c left' l none e m = not_empty (empty_from false text left none (l.on m)) e
 
-pub both_end : (pattern name text left : List ℕ) → LeadsTo pattern name text left → text ≡ [] → left ≡ [] → Matches false pattern name
+pub both_end : (pattern name text left : List ℕ) → MatchLeadsTo pattern name text left → text ≡ [] → left ≡ [] → Matches false pattern name
 both_end pattern name text left l e e' = l.back (empty_to text left e e')

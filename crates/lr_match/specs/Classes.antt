@@ -14,9 +14,9 @@ signs_of [] = []
 signs_of (c ∷ cs) = c ∷ before_close cs
 
 -- whether a `!` stands first, and what stands behind it; all where none does
-abbrev pub Turned : List ℕ → Bool → List ℕ → Type 0
-Turned text true rest = text ≡ 33 ∷ rest
-Turned text false rest = (rest ≡ text) × ((signs : List ℕ) → text ≡ 33 ∷ signs → ⊥)
+abbrev pub TurnedClass : List ℕ → Bool → List ℕ → Type 0
+TurnedClass text true rest = text ≡ 33 ∷ rest
+TurnedClass text false rest = (rest ≡ text) × ((signs : List ℕ) → text ≡ 33 ∷ signs → ⊥)
 
 -- no class begins in the text: no `]` stands behind its first two characters
 abbrev pub HasNoClass : List ℕ → Type 0

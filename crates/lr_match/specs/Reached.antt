@@ -14,7 +14,7 @@ pub record MatchesEnd (pattern name : List ℕ) : Type 0 where
 
 -- The first pattern matches the first name exactly where the second does the second; and where it matches a last part of the one,
 -- so does the second of the other.
-pub record LeadsTo (pattern name behind left : List ℕ) : Type 0 where
+pub record MatchLeadsTo (pattern name behind left : List ℕ) : Type 0 where
   pub on : Matches false pattern name → Matches false behind left
   pub back : Matches false behind left → Matches false pattern name
   pub ends : MatchesEnd pattern name → MatchesEnd behind left
@@ -22,7 +22,7 @@ pub record LeadsTo (pattern name behind left : List ℕ) : Type 0 where
 -- It was matched to its end; to a `*`; or not at all.
 abbrev pub Reaches : List ℕ → List ℕ → Reached → Type 0
 Reaches pattern name reached.End = Matches false pattern name
-Reaches pattern name (reached.Run behind left) = LeadsTo pattern name (42 ∷ chars behind.now) (chars left.now)
+Reaches pattern name (reached.Run behind left) = MatchLeadsTo pattern name (42 ∷ chars behind.now) (chars left.now)
     × (length (chars behind.now) < length pattern) × (length (chars left.now) ≤ length name)
 Reaches pattern name reached.Stuck = Matches false pattern name → ⊥
 

@@ -8,13 +8,13 @@ use Rattle.lr_match.specs.declared.class.Class.{Class}
 use Rattle.lr_match.specs.Classes.{signs_of}
 
 -- The pattern begins with this sign, and these characters stand behind it.
-pub data Begins (pattern : List ℕ) : Sign → List ℕ → Type 0 where
-  run : (rest : List ℕ) → pattern ≡ 42 ∷ rest → Begins pattern sign.Run rest
-  one : (rest : List ℕ) → pattern ≡ 63 ∷ rest → Begins pattern sign.One rest
-  itself : (c : ℕ) (rest : List ℕ) → pattern ≡ c ∷ rest → IsPlain c rest → Begins pattern (sign.Itself c) rest
-  escaped : (c : ℕ) (rest : List ℕ) → pattern ≡ 92 ∷ c ∷ rest → Begins pattern (sign.Itself c) rest
+pub data BeginsWithSign (pattern : List ℕ) : Sign → List ℕ → Type 0 where
+  run : (rest : List ℕ) → pattern ≡ 42 ∷ rest → BeginsWithSign pattern sign.Run rest
+  one : (rest : List ℕ) → pattern ≡ 63 ∷ rest → BeginsWithSign pattern sign.One rest
+  itself : (c : ℕ) (rest : List ℕ) → pattern ≡ c ∷ rest → IsPlain c rest → BeginsWithSign pattern (sign.Itself c) rest
+  escaped : (c : ℕ) (rest : List ℕ) → pattern ≡ 92 ∷ c ∷ rest → BeginsWithSign pattern (sign.Itself c) rest
   of_class : (k : Class) (part rest : List ℕ) → pattern ≡ 91 ∷ part → IsClass part k.turned (signs_of (chars k.signs.now)) rest
-      → Begins pattern (sign.Class k) rest
+      → BeginsWithSign pattern (sign.Class k) rest
 
 -- a sign that goes with one character goes with this one
 abbrev pub sign_has : Sign → ℕ → Bool

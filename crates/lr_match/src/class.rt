@@ -4,7 +4,7 @@ ghost use Rattle.std.specs.Prelude.{IfNone, MatchOption};
 ghost use Rattle.std.specs.List.{list_any};
 ghost use Rattle.std.specs.Str.{chars};
 ghost use Rattle.lr_rules.specs.Match.{ranges_have, class_has, is_close, IsClass};
-ghost use Rattle.lr_match.specs.Classes.{before_close, signs_of, Turned};
+ghost use Rattle.lr_match.specs.Classes.{before_close, signs_of, TurnedClass};
 
 use crate::first::first;
 use lr_rules::Steps;
@@ -57,7 +57,7 @@ fn behind_turn<'a, L: Ledger>(text: &'a str, steps: &mut Steps<L>) -> Option<&'a
 
 // Whether the class is turned round, and the text from its first sign on.
 fn turned<'a, L: Ledger>(behind: &'a str, steps: &mut Steps<L>) -> (bool, &'a str)
-    ensures turn { Turned (chars behind.now) result.0 (chars result.1.now) }
+    ensures turn { TurnedClass (chars behind.now) result.0 (chars result.1.now) }
     ensures counted { steps.new ≡ steps.old + 1 }
 {
     match behind_turn(behind, steps) {

@@ -1,7 +1,7 @@
 // The signs of a pattern.
 ghost use Rattle.std.specs.Prelude.{◌≡◌, ◌≤◌, ◌+◌, ℕ, false, [], ◌∷◌, length, IfSome, MatchOption};
 ghost use Rattle.std.specs.Str.{chars};
-ghost use Rattle.lr_match.specs.Signs.{Begins, sign_has, length_of_sign};
+ghost use Rattle.lr_match.specs.Signs.{BeginsWithSign, sign_has, length_of_sign};
 ghost use Rattle.lr_match.specs.Classes.{HasNoClass, spare};
 
 use crate::class::{Class, class_has, class_of};
@@ -29,7 +29,7 @@ fn opened<'a, L: Ledger>(
     steps: &mut Steps<L>,
 ) -> (Sign<'a>, &'a str)
     requires closes { closes.old ≡ false → HasNoClass (91 ∷ chars behind.now) }
-    ensures begins { Begins (91 ∷ chars behind.now) result.0 (chars result.1.now) }
+    ensures begins { BeginsWithSign (91 ∷ chars behind.now) result.0 (chars result.1.now) }
     ensures closes { closes.new ≡ false → HasNoClass (chars result.1.now) }
     ensures few { (m : ℕ) → length (chars behind.now) ≤ m → steps.new + length (chars result.1.now) + spare closes.new (m + 2) ≤
         steps.old + length (chars behind.now) + 1 + spare closes.old (m + 2) }
@@ -48,7 +48,7 @@ fn opened<'a, L: Ledger>(
 
 // The sign that a backslash begins.
 fn escaped<'a, L: Ledger>(behind: &'a str, steps: &mut Steps<L>) -> (Sign<'a>, &'a str)
-    ensures begins { Begins (92 ∷ chars behind.now) result.0 (chars result.1.now) }
+    ensures begins { BeginsWithSign (92 ∷ chars behind.now) result.0 (chars result.1.now) }
     ensures closes { HasNoClass (92 ∷ chars behind.now) → HasNoClass (chars result.1.now) }
     ensures few { steps.new + length (chars result.1.now) ≤ steps.old + length (chars behind.now) + 1 }
 {
@@ -65,7 +65,7 @@ fn sign_of<'a, L: Ledger>(
     steps: &mut Steps<L>,
 ) -> (Sign<'a>, &'a str)
     requires closes { closes.old ≡ false → HasNoClass (c ∷ chars behind.now) }
-    ensures begins { Begins (c ∷ chars behind.now) result.0 (chars result.1.now) }
+    ensures begins { BeginsWithSign (c ∷ chars behind.now) result.0 (chars result.1.now) }
     ensures closes { closes.new ≡ false → HasNoClass (chars result.1.now) }
     ensures few { (m : ℕ) → length (chars behind.now) ≤ m → steps.new + length (chars result.1.now) + spare closes.new (m + 2) ≤
         steps.old + length (chars behind.now) + 1 + spare closes.old (m + 2) }
@@ -93,7 +93,7 @@ pub fn first_sign<'a, L: Ledger>(
     steps: &mut Steps<L>,
 ) -> Option<(Sign<'a>, &'a str)>
     requires closes { closes.old ≡ false → HasNoClass (chars pattern.now) }
-    ensures begins { MatchOption result (chars pattern.now ≡ []) (λ r. Begins (chars pattern.now) r.0 (chars r.1.now)) }
+    ensures begins { MatchOption result (chars pattern.now ≡ []) (λ r. BeginsWithSign (chars pattern.now) r.0 (chars r.1.now)) }
     ensures closes { IfSome result (λ r. closes.new ≡ false → HasNoClass (chars r.1.now)) }
     ensures few { MatchOption result ((steps.new ≡ steps.old + 1) × (closes.new ≡ closes.old))
         (λ r. (m : ℕ) → length (chars pattern.now) ≤ m → steps.new + length (chars r.1.now) + spare closes.new (m + 2) ≤ steps.old +

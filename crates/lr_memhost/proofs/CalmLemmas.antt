@@ -6,7 +6,7 @@ use Rattle.lr_host.specs.declared.entry.Entry.{Entry}
 use Rattle.lr_memhost.specs.declared.act.How.TheVariants as way
 use Rattle.lr_memhost.specs.declared.act.How.{How}
 use Rattle.lr_memhost.specs.How.{downs, idles}
-use Rattle.lr_memhost.specs.Acts.{View, Rest, how_of, how_at, is_bad, first_end, after_end, one_more, IsListed, Starved, Unraised, Turned}
+use Rattle.lr_memhost.specs.Acts.{View, Rest, how_of, how_at, is_bad_ending, first_end, after_end, one_more, IsNextListed, Starved, Unraised, CallTurned}
 use Rattle.lr_memhost.specs.Calm.{IsCalm, StaysCalm}
 use Rattle.lr_memhost.proofs.TurnLemmas.{Alike}
 
@@ -26,7 +26,7 @@ no_more : (c n : ℕ) → min (one_more c) (2 ^ 64 - 1) ≤ n → min c (2 ^ 64 
 no_more c n le = omega arith
 
 -- it is calm behind a call, where the rest stays so
-calm_on : (v w : View) → w.failing ≡ v.failing → w.calls ≡ one_more v.calls → w.down ≡ downs (how_at v) → w.rest.another ≡ v.rest.another → All (λ e. is_bad e ≡ false) w.rest.ends → IsCalm v → IsCalm w
+calm_on : (v w : View) → w.failing ≡ v.failing → w.calls ≡ one_more v.calls → w.down ≡ downs (how_at v) → w.rest.another ≡ v.rest.another → All (λ e. is_bad_ending e ≡ false) w.rest.ends → IsCalm v → IsCalm w
 calm_on v w failing calls down another ends calm = record {
   unlisted = λ n le. ap (λ fs. how_of fs n) failing ∙ calm.unlisted n (no_more v.calls n (subst (λ c. min c (2 ^ 64 - 1) ≤ n) calls le));
   up = down ∙ ap downs (calm_how v calm);
@@ -37,18 +37,18 @@ calm_on v w failing calls down another ends calm = record {
 -- a call that leaves the rest as it was
 calm_same : (v w : View) → w.failing ≡ v.failing → w.calls ≡ one_more v.calls → w.down ≡ downs (how_at v) → w.rest ≡ v.rest → (w.faults ≡ v.faults) ⊎ Starved v w → StaysCalm v w
 calm_same v w failing calls down rest faults calm = (
-  calm_on v w failing calls down (ap (λ r. r.another) rest) (subst (λ r. All (λ e. is_bad e ≡ false) r.ends) (sym rest) calm.ends) calm,
+  calm_on v w failing calls down (ap (λ r. r.another) rest) (subst (λ r. All (λ e. is_bad_ending e ≡ false) r.ends) (sym rest) calm.ends) calm,
   ⊎_elim (λ same. inl (same, ap (λ r. r.bad_ends) rest, ap (λ r. r.held) rest)) (λ s. inr s) faults,
 )
 
-pub calm_kept : {P : List Entry → Type 0} {v w : View} → Turned P v w → w.rest ≡ v.rest → (w.faults ≡ v.faults) ⊎ Starved v w → StaysCalm v w
+pub calm_kept : {P : List Entry → Type 0} {v w : View} → CallTurned P v w → w.rest ≡ v.rest → (w.faults ≡ v.faults) ⊎ Starved v w → StaysCalm v w
 calm_kept {P} {v} {w} t rest faults = calm_same v w t.failing t.calls t.down rest faults
 
-pub calm_alike : {P : List Entry → Type 0} {v m w : View} → Turned P v m → Alike m w → w.rest ≡ v.rest → (w.faults ≡ v.faults) ⊎ Starved v w → StaysCalm v w
+pub calm_alike : {P : List Entry → Type 0} {v m w : View} → CallTurned P v m → Alike m w → w.rest ≡ v.rest → (w.faults ≡ v.faults) ⊎ Starved v w → StaysCalm v w
 calm_alike {P} {v} {m} {w} t alike rest faults = calm_same v w (alike.failing ∙ t.failing) (alike.calls ∙ t.calls) (alike.down ∙ t.down) rest faults
 
 -- a call that fails where it is listed, or where memory was wanting
-pub calm_called : {P : List Entry → Type 0} {T E : Type 0} (r : Result T E) {v w : View} → Turned P v w → w.rest ≡ v.rest → OnOk r (Unraised v w) → OnErr r (IsListed v ⊎ Starved v w) → StaysCalm v w
+pub calm_called : {P : List Entry → Type 0} {T E : Type 0} (r : Result T E) {v w : View} → CallTurned P v w → w.rest ≡ v.rest → OnOk r (Unraised v w) → OnErr r (IsNextListed v ⊎ Starved v w) → StaysCalm v w
 calm_called (Ok x) t rest ok err calm = calm_kept t rest (inl ok.0) calm
 calm_called (Err f) {v} {w} t rest ok err calm = ⊎_elim (λ listed. absurd (listed (calm_how v calm))) (λ s. calm_kept t rest (inr s) calm) err
 
@@ -56,23 +56,23 @@ abbrev pub with_mine : Bool → Rest → Rest
 with_mine b r = record { ends = r.ends; piece = r.piece; mine = b; another = r.another; bad_ends = r.bad_ends; held = r.held }
 
 -- the lock was taken, or given back
-pub calm_lock : {P : List Entry → Type 0} {v w : View} (b : Bool) → Turned P v w → w.rest ≡ with_mine b v.rest → w.faults ≡ v.faults → StaysCalm v w
+pub calm_lock : {P : List Entry → Type 0} {v w : View} (b : Bool) → CallTurned P v w → w.rest ≡ with_mine b v.rest → w.faults ≡ v.faults → StaysCalm v w
 calm_lock {P} {v} {w} b t rest faults calm = (
-  calm_on v w t.failing t.calls t.down (ap (λ r. r.another) rest) (subst (λ es. All (λ e. is_bad e ≡ false) es) (sym (ap (λ r. r.ends) rest)) calm.ends) calm,
+  calm_on v w t.failing t.calls t.down (ap (λ r. r.another) rest) (subst (λ es. All (λ e. is_bad_ending e ≡ false) es) (sym (ap (λ r. r.ends) rest)) calm.ends) calm,
   inl (faults, ap (λ r. r.bad_ends) rest, ap (λ r. r.held) rest),
 )
 
 -- a program ran
-first_good : (es : List Ended) → All (λ e. is_bad e ≡ false) es → is_bad (first_end es) ≡ false
+first_good : (es : List Ended) → All (λ e. is_bad_ending e ≡ false) es → is_bad_ending (first_end es) ≡ false
 first_good [] all = refl
 first_good (e ∷ es) all = all 0 e (omega arith)
 
-rest_good : (es : List Ended) → All (λ e. is_bad e ≡ false) es → All (λ e. is_bad e ≡ false) (drop 1 es)
+rest_good : (es : List Ended) → All (λ e. is_bad_ending e ≡ false) es → All (λ e. is_bad_ending e ≡ false) (drop 1 es)
 rest_good [] all = all
 rest_good (e ∷ es) all = λ k d lt. all (suc k) d (omega arith)
 
-pub calm_ran : {P : List Entry → Type 0} {v w : View} → Turned P v w → w.rest ≡ after_end v.rest → w.faults ≡ v.faults → StaysCalm v w
+pub calm_ran : {P : List Entry → Type 0} {v w : View} → CallTurned P v w → w.rest ≡ after_end v.rest → w.faults ≡ v.faults → StaysCalm v w
 calm_ran {P} {v} {w} t rest faults calm = (
-  calm_on v w t.failing t.calls t.down (ap (λ r. r.another) rest) (subst (λ es. All (λ e. is_bad e ≡ false) es) (sym (ap (λ r. r.ends) rest)) (rest_good v.rest.ends calm.ends)) calm,
+  calm_on v w t.failing t.calls t.down (ap (λ r. r.another) rest) (subst (λ es. All (λ e. is_bad_ending e ≡ false) es) (sym (ap (λ r. r.ends) rest)) (rest_good v.rest.ends calm.ends)) calm,
   inl (faults, ap (λ r. r.bad_ends) rest ∙ ap (λ b. cond b (one_more v.rest.bad_ends) v.rest.bad_ends) (first_good v.rest.ends calm.ends), ap (λ r. r.held) rest),
 )

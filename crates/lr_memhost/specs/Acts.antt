@@ -54,17 +54,17 @@ abbrev pub counts_of : View → Counts
 counts_of v = record { faults = v.faults; bad_ends = v.rest.bad_ends; held = v.rest.held; locked = v.rest.mine }
 
 -- nobody has the lock
-abbrev pub IsFree : Rest → Type 0
-IsFree r = (r.mine ≡ false) × (r.another ≡ false)
+abbrev pub LockIsFree : Rest → Type 0
+LockIsFree r = (r.mine ≡ false) × (r.another ≡ false)
 
 -- how the next program ends
 abbrev pub first_end : List Ended → Ended
 first_end [] = ended.Exit (pos 0)
 first_end (e ∷ es) = e
 
-abbrev pub is_bad : Ended → Bool
-is_bad (ended.Exit code) = not (int_eq code (pos 0))
-is_bad ended.Killed = true
+abbrev pub is_bad_ending : Ended → Bool
+is_bad_ending (ended.Exit code) = not (int_eq code (pos 0))
+is_bad_ending ended.Killed = true
 
 -- one more; a count at its type's end stands still
 abbrev pub one_more : ℕ → ℕ
@@ -77,7 +77,7 @@ after_end r = record {
   piece = r.piece;
   mine = r.mine;
   another = r.another;
-  bad_ends = cond (is_bad (first_end r.ends)) (one_more r.bad_ends) r.bad_ends;
+  bad_ends = cond (is_bad_ending (first_end r.ends)) (one_more r.bad_ends) r.bad_ends;
   held = r.held;
 }
 
@@ -91,8 +91,8 @@ abbrev pub how_at : View → Option How
 how_at v = cond v.down (Some how.Stop) (how_of v.failing v.calls)
 
 -- the next call is listed, or comes after a Stop
-abbrev pub IsListed : View → Type 0
-IsListed v = how_at v ≢ None
+abbrev pub IsNextListed : View → Type 0
+IsNextListed v = how_at v ≢ None
 
 -- there was no memory
 abbrev pub Starved : View → View → Type 0
@@ -104,19 +104,19 @@ Unraised before after = (after.faults ≡ before.faults) × (after.acts ≡ [] �
 
 -- Before the call with this number came, in order, the acts that were due: each that is a writer's and fits stands in the journal,
 -- the others are passed over, and those that aren't due stay. Where it was stopped, the rest stays.
-pub data Came (number : ℕ) (stopped : Bool) : Past → List Act → Past → List Act → Type 0 where
-  all : {p : Past} → Came number stopped p [] p []
-  stays : {p q : Past} {a : Act} {acts left : List Act} → number < a.before → Came number stopped p acts q left
-      → Came number stopped p (a ∷ acts) q (a ∷ left)
+pub data ActsCame (number : ℕ) (stopped : Bool) : Past → List Act → Past → List Act → Type 0 where
+  all : {p : Past} → ActsCame number stopped p [] p []
+  stays : {p q : Past} {a : Act} {acts left : List Act} → number < a.before → ActsCame number stopped p acts q left
+      → ActsCame number stopped p (a ∷ acts) q (a ∷ left)
   enters : {p q : Past} {a : Act} {acts left : List Act} → a.before ≤ number → IsWriters a.what → Fits (world p) a.what
-      → Came number stopped (p ▸ a.what) acts q left → Came number stopped p (a ∷ acts) q left
+      → ActsCame number stopped (p ▸ a.what) acts q left → ActsCame number stopped p (a ∷ acts) q left
   passes : {p q : Past} {a : Act} {acts left : List Act} → a.before ≤ number → ¬ (IsWriters a.what × Fits (world p) a.what)
-      → Came number stopped p acts q left → Came number stopped p (a ∷ acts) q left
-  stops : {p : Past} {acts : List Act} → stopped ≡ true → Came number stopped p acts p acts
+      → ActsCame number stopped p acts q left → ActsCame number stopped p (a ∷ acts) q left
+  stops : {p : Past} {acts : List Act} → stopped ≡ true → ActsCame number stopped p acts p acts
 
 -- an act that is due came: it stands in the journal where it is a writer's and fits, and is passed over elsewhere
-abbrev pub Comes : Act → Past → Past → Type 0
-Comes a p q = (IsWriters a.what × Fits (world p) a.what × (q ≡ p ▸ a.what))
+abbrev pub ActComes : Act → Past → Past → Type 0
+ActComes a p q = (IsWriters a.what × Fits (world p) a.what × (q ≡ p ▸ a.what))
     ⊎ ((IsWriters a.what × Fits (world p) a.what → ⊥) × (q ≡ p))
 
 -- the call left this entry, or none
@@ -125,10 +125,10 @@ Entered p None q = q ≡ p
 Entered p (Some e) q = IsTools e × Fits (world p) e × (q ≡ p ▸ e)
 
 -- One call: the acts that were due came, and then the call's entries, which have P.
-pub record Turned (P : List Entry → Type 0) (before after : View) : Type 0 where
+pub record CallTurned (P : List Entry → Type 0) (before after : View) : Type 0 where
   pub between : Past
   pub stopped : Bool
-  pub came : Came before.calls stopped (past before.journal) before.acts between after.acts
+  pub came : ActsCame before.calls stopped (past before.journal) before.acts between after.acts
   pub starved : stopped ≡ true → Starved before after
   pub left : Option Entry
   pub entered : Entered between left (past after.journal)

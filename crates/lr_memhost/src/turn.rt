@@ -6,7 +6,7 @@ ghost use Rattle.lr_host.specs.World.{world, past, names};
 ghost use Rattle.lr_host.specs.Fits.{Fits};
 ghost use Rattle.lr_disk.specs.State.{with_entry};
 ghost use Rattle.lr_host.specs.Told.{CanCall};
-ghost use Rattle.lr_memhost.specs.Acts.{how_of, Came, Comes, IsMaking, LeftNew};
+ghost use Rattle.lr_memhost.specs.Acts.{how_of, ActsCame, ActComes, IsMaking, LeftNew};
 ghost use Rattle.lr_memhost.specs.declared.act.Act.{Act};
 
 use crate::act::{Act, Failing, How};
@@ -28,8 +28,8 @@ pub fn listed(failing: &[Failing], number: u64) -> Option<How>
 
 // Lets the acts come that are due before this call. Where one finds no memory, it and those behind it stay.
 pub fn take_acts(disk: &mut Disk, acts: &mut Vec<Act>, number: u64) -> Result<(), Memory>
-    ensures ok { OnOk result (Came number false (past disk.old) acts.old.items (past disk.new) acts.new.items) }
-    ensures err { OnErr result (Came number true (past disk.old) acts.old.items (past disk.new) acts.new.items) }
+    ensures ok { OnOk result (ActsCame number false (past disk.old) acts.old.items (past disk.new) acts.new.items) }
+    ensures err { OnErr result (ActsCame number true (past disk.old) acts.old.items (past disk.new) acts.new.items) }
     ensures waits { OnErr result (acts.new.items ≢ []) }
 {
     let mut at = 0;
@@ -47,7 +47,7 @@ pub fn take_acts(disk: &mut Disk, acts: &mut Vec<Act>, number: u64) -> Result<()
 fn take_act(disk: &mut Disk, acts: &mut Vec<Act>, at: usize) -> Result<(), Memory>
     requires { at < length acts.old.items }
     ensures ok { OnOk result (acts.new.items ≡ take at acts.old.items ++ drop (at + 1) acts.old.items) }
-    ensures came { OnOk result ((a : Act) → a ≡ slice_index_or acts.old.items at a → Comes a (past disk.old) (past disk.new)) }
+    ensures came { OnOk result ((a : Act) → a ≡ slice_index_or acts.old.items at a → ActComes a (past disk.old) (past disk.new)) }
     ensures err { OnErr result ((acts.new.items ≡ acts.old.items) × (disk.new ≡ disk.old)) }
 {
     let Act { before, what } = acts.remove(at);

@@ -14,7 +14,7 @@ use Rattle.lr_host.specs.Opening.{IsValid, IsJournal}
 use Rattle.lr_host.specs.Safe.{IsPrefix, whole as all_of, shorter}
 use Rattle.lr_host.specs.Sets.{LogSet}
 use Rattle.lr_host.specs.World.{Past, ◌▸◌, world, names}
-use Rattle.lr_laws.specs.Chain.{log, first, file_of}
+use Rattle.lr_laws.specs.Chain.{log, first, worked_file}
 use Rattle.lr_copied.specs.Whole.{Has}
 use Rattle.lr_durable.proofs.Parts.{named_drawn}
 use Rattle.lr_move.specs.Moved.{IsLetGo, LetsGoWhole}
@@ -40,7 +40,7 @@ waiting_valid = record {
   known = All-cons (λ (n : Path × ℕ). n.1 < length waiting.files) (tmp, 0) [] (omega arith) (none_of (λ (n : Path × ℕ). n.1 < length waiting.files));
   held = none_of (λ h. h.1 < length waiting.files);
   hold_once = tt;
-  synced = All-cons Synced (file_of (codes "C")) [] (omega arith) (none_of Synced);
+  synced = All-cons Synced (worked_file (codes "C")) [] (omega arith) (none_of Synced);
 }
   where
     In : Path → Type 0

@@ -19,22 +19,22 @@ use Rattle.lr_copy.specs.declared.job.Job.{Job}
 use Rattle.lr_copy.specs.Fits.{ArePaths}
 use Rattle.lr_durable.proofs.Lists.{IsOnWay, on_way, each_last}
 use Rattle.lr_durable.proofs.Parts.{named_once}
-use Rattle.lr_copied.specs.Whole.{Named, WritersSpare, IsWhole}
+use Rattle.lr_copied.specs.Whole.{Named, WritersSpareCopy, IsCopyWhole}
 use Rattle.lr_copied.proofs.Moments.{IsLast, is_last}
 use Rattle.lr_copied.proofs.Named.{whole}
 use Rattle.lr_move.specs.Moved.{IsLetGo, LetsGoWhole, CopiesAside, LetsGo}
 use Rattle.lr_move.proofs.Sparing.{Spares, spared_named}
 
 -- the file of a whole copy is another
-other_file : (x to : Path) (p q : Past) → IsJournal q → to ≢ x → (w : IsWhole x to p q) → w.copy ≢ w.log
+other_file : (x to : Path) (p q : Past) → IsJournal q → to ≢ x → (w : IsCopyWhole x to p q) → w.copy ≢ w.log
 other_file x to p q j apart w same = apart (named_once q to x w.copy j w.copied.named (w.log_now.named ∙ ap thing.File (sym same)))
 
 -- behind the sync of the directory
-pub may_go : (s : LogSet) (job : Job) (count : ℕ) (p q : Past) (es : List Entry) → Made p es q → IsJournal p → ArePaths job → WritersSpare job p q → CopiesAside s job → Named job count (reverse es) → IsLetGo s p q
+pub may_go : (s : LogSet) (job : Job) (count : ℕ) (p q : Past) (es : List Entry) → Made p es q → IsJournal p → ArePaths job → WritersSpareCopy job p q → CopiesAside s job → Named job count (reverse es) → IsLetGo s p q
 may_go s job count p q es m j paths only of_set n = record { to = job.to; member = of_set.member; whole = here; other = other_file (aside_path s.log) job.to p q (made_journal p q es m j) apart here }
   where
-    here : IsWhole (aside_path s.log) job.to p q
-    here = subst (λ (x : Path). IsWhole x job.to p q) of_set.from_is (whole job count p q es m j paths only n)
+    here : IsCopyWhole (aside_path s.log) job.to p q
+    here = subst (λ (x : Path). IsCopyWhole x job.to p q) of_set.from_is (whole job count p q es m j paths only n)
 
     apart : job.to ≢ aside_path s.log
     apart e = paths.to_apart (e ∙ sym of_set.from_is)
@@ -60,7 +60,7 @@ found_last P e (n ∷ ns) ms [] ys none a last is = absurd (none (subst P (heads
 found_last P e (n ∷ ns) ms (x ∷ xs) ys none a last is =
     ap (λ z. z ∷ xs) (sym (heads n x (ns ++ ms) (xs ++ (e ∷ ys)) is)) ∙ ap (λ zs. n ∷ zs) (found_last P e ns ms xs ys none a.1 last (tails n x (ns ++ ms) (xs ++ (e ∷ ys)) is))
 
-module _ (s : LogSet) (job : Job) (p q : Past) (es : List Entry) (m : Made p es q) (j : IsJournal p) (paths : ArePaths job) (only : WritersSpare job p q) (of_set : CopiesAside s job) where
+module _ (s : LogSet) (job : Job) (p q : Past) (es : List Entry) (m : Made p es q) (j : IsJournal p) (paths : ArePaths job) (only : WritersSpareCopy job p q) (of_set : CopiesAside s job) where
   abbrev last : Entry
   last = Unlinks job.from
 

@@ -21,7 +21,7 @@ use Rattle.lr_chain.specs.Ready.{shift_of, dir_calls, BehindDir}
 use Rattle.lr_chain.specs.Stops.{StopsFrom, ChainStopped, ChainCause, IsFrom}
 use Rattle.lr_chain.proofs.Chaining.{last_can, last_left}
 use Rattle.lr_chain.proofs.Dirs.{behind_then}
-use Rattle.lr_move.specs.Aside.{synced_shift, aside_of, FailedAt, AsideStopped, at_members, at_sync, at_log, IsCallOf, AsideCause, SawNoDir, IsNotFile, IsExactly}
+use Rattle.lr_move.specs.Aside.{synced_shift, aside_of, FailedCallAt, AsideStopped, at_members, at_sync, at_log, IsCallOf, AsideCause, SawNoDir, TellsNotFile, IsNotFileExactly}
 
 -- ---- what fits
 
@@ -61,10 +61,10 @@ module _ (ready : Ready) (dir tmp : Path) where
   pub stops_members : (why : ChainStop) {o n : Option Journal} → Left (ChainStopped ready.dir (shift_of ready) why) o n → Left (AsideStopped ready dir tmp why) o n
   stops_members why l = left_as l (λ ts h. at_members h)
 
-  pub stops_sync : (why : ChainStop) {o m n : Option Journal} → FailedAt call.Sync dir why → Left (BehindDir ready.dir (Are (shift_of ready))) o m → Left (Maybe sync) m n → Left (AsideStopped ready dir tmp why) o n
+  pub stops_sync : (why : ChainStop) {o m n : Option Journal} → FailedCallAt call.Sync dir why → Left (BehindDir ready.dir (Are (shift_of ready))) o m → Left (Maybe sync) m n → Left (AsideStopped ready dir tmp why) o n
   stops_sync why failed shifted now = left_as (behind_these (shift_of ready) sync shifted now) (λ ts h. at_sync failed h)
 
-  pub stops_log : (r : Result (Unit {0}) ChainStop) {o m n : Option Journal} → IfErr r (λ why. FailedAt call.Rename ready.log why) → Left (BehindDir ready.dir (Are (synced_shift ready dir))) o m → Left (Did r move) m n → IfErr r (λ why. Left (AsideStopped ready dir tmp why) o n)
+  pub stops_log : (r : Result (Unit {0}) ChainStop) {o m n : Option Journal} → IfErr r (λ why. FailedCallAt call.Rename ready.log why) → Left (BehindDir ready.dir (Are (synced_shift ready dir))) o m → Left (Did r move) m n → IfErr r (λ why. Left (AsideStopped ready dir tmp why) o n)
   stops_log (Ok done) failed synced now = tt
   stops_log (Err why) failed synced now = left_as (behind_these (synced_shift ready dir) move synced now) (λ ts h. at_log failed h)
 
@@ -77,19 +77,19 @@ module _ (ready : Ready) (dir tmp : Path) where
   cause_members (stop.Call _ path) before now c = absurd (⊎_elim (λ e. cc) (λ e. cc) c.0)
   cause_members (stop.NotFile path) before now c = c
 
-  pub cause_sync : (why : ChainStop) (before now : Counts) → FailedAt call.Sync dir why → Rose before.faults now.faults → AsideCause ready dir tmp why before now
+  pub cause_sync : (why : ChainStop) (before now : Counts) → FailedCallAt call.Sync dir why → Rose before.faults now.faults → AsideCause ready dir tmp why before now
   cause_sync (stop.Call kind path) before now failed rose = (subst (λ (k : CallKind). IsCallOf ready dir tmp k path.now) (sym failed.0) failed.1, rose)
   cause_sync (stop.NotFile path) before now failed rose = absurd failed
 
   from_log : IsFrom (aside_of ready dir tmp) ready.log
   from_log = (tmp, in_back move (synced_shift ready dir) (move ∷ []) (inl refl))
 
-  cause_log : (why : ChainStop) (before now : Counts) → FailedAt call.Rename ready.log why → Rose before.faults now.faults → AsideCause ready dir tmp why before now
+  cause_log : (why : ChainStop) (before now : Counts) → FailedCallAt call.Rename ready.log why → Rose before.faults now.faults → AsideCause ready dir tmp why before now
   cause_log (stop.Call kind path) before now failed rose =
       (subst (λ (k : CallKind). IsCallOf ready dir tmp k path.now) (sym failed.0) (subst (λ (x : Path). IsFrom (aside_of ready dir tmp) x) (sym failed.1) from_log), rose)
   cause_log (stop.NotFile path) before now failed rose = absurd failed
 
-  pub cause_moved : (r : Result (Unit {0}) ChainStop) (before mid now : Counts) → Onward before mid → IfErr r (λ why. FailedAt call.Rename ready.log why) → OnErr r (Rose mid.faults now.faults) → IfErr r (λ why. AsideCause ready dir tmp why before now)
+  pub cause_moved : (r : Result (Unit {0}) ChainStop) (before mid now : Counts) → Onward before mid → IfErr r (λ why. FailedCallAt call.Rename ready.log why) → OnErr r (Rose mid.faults now.faults) → IfErr r (λ why. AsideCause ready dir tmp why before now)
   cause_moved (Ok done) before mid now on failed rose = tt
   cause_moved (Err why) before mid now on failed rose = cause_log why before now failed (omega (arith, on, rose))
 
@@ -120,7 +120,7 @@ no_making dir mode ts (inl none) s = no_look dir ts none s
 no_making dir mode ts (inr made) s = let other : MakesDir dir mode ≡ Look dir s.seen = heads (MakesDir dir mode) (Look dir s.seen) [] [] (sym made ∙ s.look) in cc
 
 -- of the directory and the moves
-exactly_members : (d : Option (Path × Option ℕ)) (steps : List Entry) (why : ChainStop) (ts : List Entry) → ChainStopped d steps why ts → IsExactly d (Err why) ts
+exactly_members : (d : Option (Path × Option ℕ)) (steps : List Entry) (why : ChainStop) (ts : List Entry) → ChainStopped d steps why ts → IsNotFileExactly d (Err why) ts
 exactly_members d steps (stop.Call call.Rename path) ts h = (λ n. absurd n, λ s. absurd (never_seen d (StopsFrom steps path.now) ts h s))
 exactly_members (Some (dir, mode)) steps (stop.Call call.MakeDir path) ts h = (λ n. absurd n, λ s. absurd (no_making dir mode ts h.1 s))
 exactly_members (Some (dir, mode)) steps (stop.Call call.Look path) ts h = (λ n. absurd n, λ s. absurd (no_look dir ts h.1 s))
@@ -130,21 +130,21 @@ exactly_members None steps (stop.Call _ path) ts h = absurd h
 exactly_members None steps (stop.NotFile path) ts h = absurd h
 
 -- a failed call
-called : (kind : CallKind) (path : Path) (why : ChainStop) → FailedAt kind path why → IsNotFile (Err why) → ⊥
+called : (kind : CallKind) (path : Path) (why : ChainStop) → FailedCallAt kind path why → TellsNotFile (Err why) → ⊥
 called kind path (stop.Call k p) failed n = n
 called kind path (stop.NotFile p) failed n = failed
 
-exactly_called : (kind : CallKind) (path : Path) (d : Option (Path × Option ℕ)) (P : List Entry → Type 0) (why : ChainStop) (ts : List Entry) → FailedAt kind path why → BehindDir d P ts → IsExactly d (Err why) ts
+exactly_called : (kind : CallKind) (path : Path) (d : Option (Path × Option ℕ)) (P : List Entry → Type 0) (why : ChainStop) (ts : List Entry) → FailedCallAt kind path why → BehindDir d P ts → IsNotFileExactly d (Err why) ts
 exactly_called kind path d P why ts failed h = (λ n. absurd (called kind path why failed n), λ s. absurd (never_seen d P ts h s))
 
-exactly_stopped : (ready : Ready) (dir tmp : Path) (why : ChainStop) (ts : List Entry) → AsideStopped ready dir tmp why ts → IsExactly ready.dir (Err why) ts
+exactly_stopped : (ready : Ready) (dir tmp : Path) (why : ChainStop) (ts : List Entry) → AsideStopped ready dir tmp why ts → IsNotFileExactly ready.dir (Err why) ts
 exactly_stopped ready dir tmp why ts (at_members h) = exactly_members ready.dir (shift_of ready) why ts h
 exactly_stopped ready dir tmp why ts (at_sync failed h) = exactly_called call.Sync dir ready.dir (Then (Are (shift_of ready)) (Maybe (SyncsDir dir))) why ts failed h
 exactly_stopped ready dir tmp why ts (at_log failed h) = exactly_called call.Rename ready.log ready.dir (Then (Are (synced_shift ready dir)) (Maybe (Renames ready.log tmp))) why ts failed h
 
-pub exactly_refused : (ready : Ready) (dir tmp : Path) (why : ChainStop) {o n : Option Journal} → Left (AsideStopped ready dir tmp why) o n → Left (IsExactly ready.dir (Err why)) o n
+pub exactly_refused : (ready : Ready) (dir tmp : Path) (why : ChainStop) {o n : Option Journal} → Left (AsideStopped ready dir tmp why) o n → Left (IsNotFileExactly ready.dir (Err why)) o n
 exactly_refused ready dir tmp why l = left_as l (λ ts h. exactly_stopped ready dir tmp why ts h)
 
-pub exactly_by : (ready : Ready) (dir tmp : Path) (r : Result (Unit {0}) ChainStop) {o n : Option Journal} → OnOk r (Left (BehindDir ready.dir (Are (aside_of ready dir tmp))) o n) → IfErr r (λ why. Left (AsideStopped ready dir tmp why) o n) → Left (IsExactly ready.dir r) o n
+pub exactly_by : (ready : Ready) (dir tmp : Path) (r : Result (Unit {0}) ChainStop) {o n : Option Journal} → OnOk r (Left (BehindDir ready.dir (Are (aside_of ready dir tmp))) o n) → IfErr r (λ why. Left (AsideStopped ready dir tmp why) o n) → Left (IsNotFileExactly ready.dir r) o n
 exactly_by ready dir tmp (Ok done) a b = left_as a (λ ts h. (λ n. absurd n, λ s. absurd (never_seen ready.dir (Are (aside_of ready dir tmp)) ts h s)))
 exactly_by ready dir tmp (Err why) a b = exactly_refused ready dir tmp why b

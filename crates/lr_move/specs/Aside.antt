@@ -24,17 +24,17 @@ aside_of ready dir tmp = synced_shift ready dir ++ Renames ready.log tmp ∷ []
 -- ---- where it breaks off
 
 -- this call failed, at this path
-abbrev pub FailedAt : CallKind → Path → ChainStop → Type 0
-FailedAt kind path (stop.Call k p) = (k ≡ kind) × (p.now ≡ path)
-FailedAt kind path (stop.NotFile p) = ⊥
+abbrev pub FailedCallAt : CallKind → Path → ChainStop → Type 0
+FailedCallAt kind path (stop.Call k p) = (k ≡ kind) × (p.now ≡ path)
+FailedCallAt kind path (stop.NotFile p) = ⊥
 
 -- What is left then: of the directory and the moves, a part; or all of them, and the entry of the sync that failed, or none; or the
 -- sync too, and the entry of the log's rename that failed, or none.
 pub data AsideStopped (ready : Ready) (dir tmp : Path) (why : ChainStop) (ts : List Entry) : Type 0 where
   at_members : ChainStopped ready.dir (shift_of ready) why ts → AsideStopped ready dir tmp why ts
-  at_sync : FailedAt call.Sync dir why → BehindDir ready.dir (Then (Are (shift_of ready)) (Maybe (SyncsDir dir))) ts
+  at_sync : FailedCallAt call.Sync dir why → BehindDir ready.dir (Then (Are (shift_of ready)) (Maybe (SyncsDir dir))) ts
       → AsideStopped ready dir tmp why ts
-  at_log : FailedAt call.Rename ready.log why
+  at_log : FailedCallAt call.Rename ready.log why
       → BehindDir ready.dir (Then (Are (synced_shift ready dir)) (Maybe (Renames ready.log tmp))) ts
       → AsideStopped ready dir tmp why ts
 
@@ -59,10 +59,10 @@ SawNoDir None ts = ⊥
 SawNoDir (Some (dir, mode)) ts = Sees dir IsNoDir ts
 
 -- it is answered that something else has the path
-abbrev pub IsNotFile : Result (Unit {0}) ChainStop → Type 0
-IsNotFile (Err (stop.NotFile path)) = Unit {0}
-IsNotFile _ = ⊥
+abbrev pub TellsNotFile : Result (Unit {0}) ChainStop → Type 0
+TellsNotFile (Err (stop.NotFile path)) = Unit {0}
+TellsNotFile _ = ⊥
 
 -- exactly where that was seen
-abbrev pub IsExactly : Option (Path × Option ℕ) → Result (Unit {0}) ChainStop → List Entry → Type 0
-IsExactly dir result ts = IsNotFile result ↔ SawNoDir dir ts
+abbrev pub IsNotFileExactly : Option (Path × Option ℕ) → Result (Unit {0}) ChainStop → List Entry → Type 0
+IsNotFileExactly dir result ts = TellsNotFile result ↔ SawNoDir dir ts

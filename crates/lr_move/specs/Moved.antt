@@ -13,7 +13,7 @@ use Rattle.lr_host.specs.Steady.{IsSteadyBy}
 use Rattle.lr_host.specs.World.{Past, ◌▸◌, past}
 use Rattle.lr_family.specs.Parts.{IsMembersPart}
 use Rattle.lr_copy.specs.declared.job.Job.{Job}
-use Rattle.lr_copied.specs.Whole.{WritersSpare, IsWhole}
+use Rattle.lr_copied.specs.Whole.{WritersSpareCopy, IsCopyWhole}
 
 -- The log may be let go at this moment: a member names another file, which has, now and after each cut that is allowed now, just
 -- the bytes that the log's file had, where it waits, as it was last read there, by a read that gave nothing; what that has besides
@@ -21,7 +21,7 @@ use Rattle.lr_copied.specs.Whole.{WritersSpare, IsWhole}
 pub record IsLetGo (s : LogSet) (before now : Past) : Type 0 where
   pub to : Path
   pub member : s.key to ≡ None → ⊥
-  pub whole : IsWhole (aside_path s.log) to before now
+  pub whole : IsCopyWhole (aside_path s.log) to before now
   pub other : whole.copy ≢ whole.log
 
 -- so at each moment between the two pasts at which the path is unlinked where it waits
@@ -36,7 +36,7 @@ pub record CopiesAside (s : LogSet) (job : Job) : Type 0 where
 -- The promise over a call that finishes the job: where the journal is told, and was one of a disk, and no writer was attached to
 -- the part file's path or to the final one, each set whose log it copies lets that go whole, also where the call was refused.
 abbrev pub LetsGo : Job → Option Journal → Option Journal → Type 0
-LetsGo job (Some j) (Some k) = IsJournal (past j) → WritersSpare job (past j) (past k) → (s : LogSet) → CopiesAside s job
+LetsGo job (Some j) (Some k) = IsJournal (past j) → WritersSpareCopy job (past j) (past k) → (s : LogSet) → CopiesAside s job
     → LetsGoWhole s (past j) (past k)
 LetsGo job None None = Unit {0}
 LetsGo job _ _ = ⊥

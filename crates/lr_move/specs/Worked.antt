@@ -6,7 +6,7 @@ use Rattle.lr_rules.specs.Names.{aside_path}
 use Rattle.lr_host.specs.declared.entry.Entry.TheVariants.{Reads, Renames, Makes, Appends, Unlinks, SyncsFile, SyncsDir}
 use Rattle.lr_host.specs.declared.journal.Opening.{Opening}
 use Rattle.lr_host.specs.World.{Past, Opens, ◌▸◌}
-use Rattle.lr_laws.specs.Chain.{log, first, file_of}
+use Rattle.lr_laws.specs.Chain.{log, first, worked_file}
 
 abbrev pub tmp : Path
 tmp = aside_path log
@@ -17,7 +17,7 @@ part = first ++ part_end
 -- the log waits, and holds C; its identity is 0
 abbrev pub waiting : Opening
 waiting = record {
-  files = file_of (codes "C") ∷ [];
+  files = worked_file (codes "C") ∷ [];
   dirs = codes "/" ∷ codes "/v" ∷ [];
   others = [];
   names = (tmp, 0) ∷ [];

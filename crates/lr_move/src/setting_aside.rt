@@ -5,7 +5,7 @@ ghost use Rattle.lr_host.specs.declared.entry.Entry.TheVariants as entry;
 ghost use Rattle.lr_host.specs.Told.{Left, Are, Did, Can, Onward, Rose};
 ghost use Rattle.lr_host.specs.Steps.{CanAll};
 ghost use Rattle.lr_chain.specs.Ready.{dir_calls, BehindDir};
-ghost use Rattle.lr_move.specs.Aside.{aside_of, FailedAt, AsideStopped, AsideCause, IsExactly};
+ghost use Rattle.lr_move.specs.Aside.{aside_of, FailedCallAt, AsideStopped, AsideCause, IsNotFileExactly};
 
 use lr_chain::{ChainStop, Ready, shift};
 use lr_host::Host;
@@ -15,7 +15,7 @@ use lr_rules::{CallKind, Path};
 fn sync_members<'a, H: Host>(host: &mut H, dir: &'a Path) -> Result<(), ChainStop<'a>>
     requires { Can (H.told host.old) (entry.SyncsDir dir.now) }
     ensures told { Left (Did result (entry.SyncsDir dir.now)) (H.told host.old) (H.told host.new) }
-    ensures refused { IfErr result (λ why. FailedAt call.Sync dir.now why) }
+    ensures refused { IfErr result (λ why. FailedCallAt call.Sync dir.now why) }
     ensures cause { OnErr result (Rose (H.counts host.old).faults (H.counts host.new).faults) }
     ensures counts { Onward (H.counts host.old) (H.counts host.new) }
 {
@@ -29,7 +29,7 @@ fn sync_members<'a, H: Host>(host: &mut H, dir: &'a Path) -> Result<(), ChainSto
 fn move_log<'a, H: Host>(host: &mut H, log: &'a Path, tmp: &Path) -> Result<(), ChainStop<'a>>
     requires { Can (H.told host.old) (entry.Renames log.now tmp.now) }
     ensures told { Left (Did result (entry.Renames log.now tmp.now)) (H.told host.old) (H.told host.new) }
-    ensures refused { IfErr result (λ why. FailedAt call.Rename log.now why) }
+    ensures refused { IfErr result (λ why. FailedCallAt call.Rename log.now why) }
     ensures cause { OnErr result (Rose (H.counts host.old).faults (H.counts host.new).faults) }
     ensures counts { Onward (H.counts host.old) (H.counts host.new) }
 {
@@ -53,7 +53,7 @@ pub fn set_aside<'a, H: Host>(
     ensures told { OnOk result (Left (BehindDir ready.now.dir (Are (aside_of ready.now dir.now tmp.now))) (H.told host.old)
         (H.told host.new)) }
     ensures refused { IfErr result (λ why. Left (AsideStopped ready.now dir.now tmp.now why) (H.told host.old) (H.told host.new)) }
-    ensures not_file { Left (IsExactly ready.now.dir result) (H.told host.old) (H.told host.new) }
+    ensures not_file { Left (IsNotFileExactly ready.now.dir result) (H.told host.old) (H.told host.new) }
     ensures cause { IfErr result (λ why. AsideCause ready.now dir.now tmp.now why (H.counts host.old) (H.counts host.new)) }
     ensures counts { Onward (H.counts host.old) (H.counts host.new) }
 {

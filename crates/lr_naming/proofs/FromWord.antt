@@ -2,7 +2,7 @@
 use Rattle.std.proofs.Common.{◌≡◌, ℕ, ◌==◌, Bool, true, false, not, cond, ◌&&◌, List, [], ◌∷◌, ◌++◌, filter, flat_map, refl, sym, ap, ◌∙◌}
 use Rattle.std.proofs.lemmas.List.Concat.{flat_map-append}
 use Rattle.std.specs.List.{slice_split}
-use Rattle.lr_rules.specs.Names.{is_step, steps_of, path_by, path_from}
+use Rattle.lr_rules.specs.Names.{is_step, word_parts, path_by, path_from}
 use Rattle.lr_rules.specs.Path.{is_absolute, is_slash, is_kept, behind_slashes, kept_parts, or_root, cleaned}
 
 -- a part behind one slash
@@ -39,7 +39,7 @@ by_root (p ∷ ps) = refl
 pub from_is : (here word : List ℕ) → path_from here word ≡ cleaned here word
 from_is here word = go (is_absolute word)
   where
-    go : (b : Bool) → cond b (path_by (steps_of word)) (path_by (steps_of here ++ steps_of word)) ≡ or_root (cond b [] (kept_parts here) ++ kept_parts word)
-    go true = by_root (steps_of word) ∙ ap or_root (sym (steps_are (slice_split is_slash word)))
-    go false = by_root (steps_of here ++ steps_of word) ∙ ap or_root (flat_map-append (λ name. 47 ∷ name) (steps_of here) (steps_of word)
-        ∙ sym (ap (λ xs. xs ++ kept_parts word) (steps_are (slice_split is_slash here)) ∙ ap (λ xs. slashed (steps_of here) ++ xs) (steps_are (slice_split is_slash word))))
+    go : (b : Bool) → cond b (path_by (word_parts word)) (path_by (word_parts here ++ word_parts word)) ≡ or_root (cond b [] (kept_parts here) ++ kept_parts word)
+    go true = by_root (word_parts word) ∙ ap or_root (sym (steps_are (slice_split is_slash word)))
+    go false = by_root (word_parts here ++ word_parts word) ∙ ap or_root (flat_map-append (λ name. 47 ∷ name) (word_parts here) (word_parts word)
+        ∙ sym (ap (λ xs. xs ++ kept_parts word) (steps_are (slice_split is_slash here)) ∙ ap (λ xs. slashed (word_parts here) ++ xs) (steps_are (slice_split is_slash word))))

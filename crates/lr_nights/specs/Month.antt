@@ -21,8 +21,8 @@ feeds_from writer zero at x = []
 feeds_from writer (suc left) at x = fed_by writer at x ∷ feeds_from (writer + 1) left at (behind_two x)
 
 -- One draw says whether the machine stops in the night, and then another at which call of the run.
-abbrev pub stop_of : ℕ → Option ℕ
-stop_of x = cond (first_of x % 4 == 0) (Some (second_of x % 200)) None
+abbrev pub drawn_stop : ℕ → Option ℕ
+drawn_stop x = cond (first_of x % 4 == 0) (Some (second_of x % 200)) None
 
 abbrev pub behind_stop : ℕ → ℕ
 behind_stop x = cond (first_of x % 4 == 0) (behind_two x) (next x)
@@ -32,7 +32,7 @@ abbrev pub night_of : ℕ → ℕ → ℕ → Night
 night_of logs night x = record {
   seconds = pos (seconds_of night);
   feeds = feeds_from 0 logs (seconds_of night) x;
-  stop = stop_of (behind_logs logs x);
+  stop = drawn_stop (behind_logs logs x);
 }
 
 abbrev pub behind_night : ℕ → ℕ → ℕ

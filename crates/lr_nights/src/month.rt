@@ -1,7 +1,7 @@
 // The thirty nights that a trial draws.
 ghost use Rattle.std.specs.Prelude.{◌≡◌, ◌<◌, ◌≤◌, IfOk, OnOk};
 ghost use Rattle.lr_nights.specs.Draws.{behind_two, behind_logs};
-ghost use Rattle.lr_nights.specs.Month.{fed_by, feeds_from, stop_of, behind_stop, night_of, behind_night, nights_from};
+ghost use Rattle.lr_nights.specs.Month.{fed_by, feeds_from, drawn_stop, behind_stop, night_of, behind_night, nights_from};
 ghost use Rattle.lr_nights.specs.Month.{drawn_nights};
 
 use crate::draws::draw;
@@ -51,7 +51,7 @@ fn draw_feeds(alloc: Global, x: &mut u64, logs: u32, at: u32) -> Result<Listed<F
 }
 
 fn draw_stop(x: &mut u64) -> Option<u64>
-    ensures stop { result ≡ stop_of x.old }
+    ensures stop { result ≡ drawn_stop x.old }
     ensures next { x.new ≡ behind_stop x.old }
 {
     if draw(x) % 4 == 0 {

@@ -22,7 +22,7 @@ use Rattle.lr_plan.specs.Done.{SetsDone}
 use Rattle.lr_laws_targets.specs.AllTurns.{IsOfSome}
 use Rattle.lr_laws_targets.specs.Target.{Target}
 use Rattle.lr_laws_targets.proofs.Others.{IsFileChange, own_turns}
-use Rattle.lr_laws_targets.specs.Apart.{HaveNames}
+use Rattle.lr_laws_targets.specs.Apart.{TargetsHaveNames}
 use Rattle.lr_laws_targets.proofs.Own.{any_change}
 use Rattle.lr_weave.specs.Parts.{ArePlanned}
 use Rattle.lr_weave.proofs.Parting.{done_some}
@@ -33,7 +33,7 @@ use Rattle.lr_placed.proofs.Lasting.{Stays, IsKeptBy}
 abbrev pub Spares : List Path → Entry → Type 0
 Spares reserved e = IsFileChange e × ((x : Path) → IsIn x (changed_paths e) → IsIn x reserved → ⊥)
 
-some_spares : (reserved : List Path) (ts : List Target) (e : Entry) → HaveNames ts → AreFreeOf reserved ts → IsOfSome ts e → Spares reserved e
+some_spares : (reserved : List Path) (ts : List Target) (e : Entry) → TargetsHaveNames ts → AreFreeOf reserved ts → IsOfSome ts e → Spares reserved e
 some_spares reserved [] e h free i = absurd i
 some_spares reserved (t ∷ ts) e h free (inl i) = (
   own_turns t e i,
@@ -42,7 +42,7 @@ some_spares reserved (t ∷ ts) e h free (inl i) = (
 some_spares reserved (t ∷ ts) e h free (inr i) = some_spares reserved ts e h.1 free.1 i
 
 -- each change of the acts is one
-pub acts_spare : (reserved : List Path) (targets : List Target) (sets : List SetSteps) (marks : List Mark) (faults : List Fault) (ts : List Entry) → HaveNames targets → AreFreeOf reserved targets → ArePlanned targets sets
+pub acts_spare : (reserved : List Path) (targets : List Target) (sets : List SetSteps) (marks : List Mark) (faults : List Fault) (ts : List Entry) → TargetsHaveNames targets → AreFreeOf reserved targets → ArePlanned targets sets
     → SetsDone sets marks faults ts → Each (Spares reserved) (filter is_change ts)
 acts_spare reserved targets sets marks faults ts h free planned done =
     each_as (IsOfSome targets) (Spares reserved) (filter is_change ts) (λ e i. some_spares reserved targets e h free i)

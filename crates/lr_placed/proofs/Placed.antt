@@ -41,7 +41,7 @@ use Rattle.lr_seen.proofs.Apart.{targets_apart}
 use Rattle.lr_seen.proofs.Quiet.{whole_quiet}
 use Rattle.lr_seen.proofs.Ready.{plans_have_logs}
 use Rattle.lr_seen.proofs.Seen.{targets_seen, targets_have_names, targets_have_paths}
-use Rattle.lr_writing.specs.Fits.{AreDirectories, HasPlace, IsThere, CanBegin}
+use Rattle.lr_writing.specs.Fits.{AreDirectories, StateHasPlace, IsThere, CanBegin}
 use Rattle.lr_synced.specs.Synced.{AreSynced}
 use Rattle.lr_placed.specs.Looked.{LooksCameTo}
 use Rattle.lr_placed.proofs.Acts.{Spares, acts_spare, IsFree, free_stays, free_kept, dir_stays, dir_kept, file_stays, file_kept}
@@ -56,7 +56,7 @@ all_dirs : (n : Names) (dirs : List Path) → ((dir : Path) → IsIn dir dirs �
 all_dirs n [] each = tt
 all_dirs n (d ∷ dirs) each = (each d (inl refl), all_dirs n dirs (λ dir i. each dir (inr i)))
 
-has_place : (state : Path) (dirs : List Path) (told : Option Journal) → Holds (IsFree state) told → Holds (λ n. IsDirectoryAt n (parent_of state)) told → ((dir : Path) → IsIn dir dirs → Holds (λ n. IsDirectoryAt n dir) told) → Holds (HasPlace state dirs) told
+has_place : (state : Path) (dirs : List Path) (told : Option Journal) → Holds (IsFree state) told → Holds (λ n. IsDirectoryAt n (parent_of state)) told → ((dir : Path) → IsIn dir dirs → Holds (λ n. IsDirectoryAt n dir) told) → Holds (StateHasPlace state dirs) told
 has_place state dirs None free place each = tt
 has_place state dirs (Some j) free place each = record { no_directory = free.0; no_other = free.1; place = place; directories = all_dirs (names (world (past j))) dirs each }
 

@@ -16,8 +16,8 @@ use Rattle.lr_host.proofs.Looked.{seen_file, seen_none}
 use Rattle.lr_state.specs.Grammar.{Said}
 use Rattle.lr_reading.specs.declared.look.LookStop.{LookStop}
 use Rattle.lr_reading.specs.declared.remembered.Remembered.{Remembered}
-use Rattle.lr_reading.specs.Answers.{known_of, text_of, IsKnownBy, IsKnownOf, IsKnown, ReadsState}
-use Rattle.lr_reading.specs.Sights.{Sight, Failed, Nothing, Saw, StateSights, found, found_kind, look_of, behind_part, behind_state}
+use Rattle.lr_reading.specs.Answers.{known_of, text_read, IsKnownBy, IsKnownOf, IsKnown, ReadsState}
+use Rattle.lr_reading.specs.Sights.{StateSight, Failed, Nothing, Saw, StateSights, found, found_kind, state_look, behind_part, behind_state}
 use Rattle.lr_placed.proofs.Acts.{IsFree}
 use Rattle.lr_placed.proofs.Lasting.{Says}
 
@@ -43,7 +43,7 @@ are_found state s r k = go (found s.state) (found s.part) refl refl k
     go : (f g : Result Bool LookStop) → found s.state ≡ f → found s.part ≡ g → IsKnownOf state f g s.reading (Ok r) → AreFound s r
     go (Err why) g e d k = absurd (cc)
     go (Ok there) (Err why) e d k = absurd (cc)
-    go (Ok there) (Ok stale) e d k = record { there = there; state = e; part = d ∙ ap Ok (text_stale stale (text_of state there s.reading) r k) }
+    go (Ok there) (Ok stale) e d k = record { there = there; state = e; part = d ∙ ap Ok (text_stale stale (text_read state there s.reading) r k) }
 
 -- ---- one look
 
@@ -58,12 +58,12 @@ nothing_free x n e = (λ is. cc, λ is. cc)
 file_free : (x : Path) (n : Names) → IsFileAt n x → IsFree x n
 file_free x n f = let e = f.1 in (λ is. cc, λ is. cc)
 
-says_free : (x : Path) (s : Sight) (there : Bool) → found s ≡ Ok there → Says (IsFree x) (look_of x s)
+says_free : (x : Path) (s : StateSight) (there : Bool) → found s ≡ Ok there → Says (IsFree x) (state_look x s)
 says_free x Failed there e = absurd (cc)
 says_free x Nothing there e = record { entry = entry.Look x None; among = inl refl; so = λ w j f. nothing_free x (names (world w)) (seen_none (world w) (names (world w) x) f) }
 says_free x (Saw seen) there e = record { entry = entry.Look x (Some seen); among = inl refl; so = λ w j f. file_free x (names (world w)) (seen_file (world w) (names (world w) x) seen f (file_kind seen.kind there e)) }
 
-says_file : (x : Path) (s : Sight) → found s ≡ Ok true → Says (λ n. IsFileAt n x) (look_of x s)
+says_file : (x : Path) (s : StateSight) → found s ≡ Ok true → Says (λ n. IsFileAt n x) (state_look x s)
 says_file x Failed e = absurd (cc)
 says_file x Nothing e = absurd (cc)
 says_file x (Saw seen) e = record { entry = entry.Look x (Some seen); among = inl refl; so = λ w j f. seen_file (world w) (names (world w) x) seen f (file_kind seen.kind true e) }
@@ -75,8 +75,8 @@ says_more Q us ts more s = record { entry = s.entry; among = more s.entry s.amon
 
 -- the state's path names a file or nothing
 pub reading_says_free : (state : Path) (size : ℕ) (r : Remembered) (ts : List Entry) → ReadsState state size (Ok (Ok r)) ts → Says (IsFree state) ts
-reading_says_free state size r ts h = says_more (IsFree state) (look_of state s.state) ts
-    (λ e i. subst (IsIn e) (sym h.shown.entries) (in_front e (look_of state s.state) (behind_state state (found s.state) s.part s.reading) i)) (says_free state s.state f.there f.state)
+reading_says_free state size r ts h = says_more (IsFree state) (state_look state s.state) ts
+    (λ e i. subst (IsIn e) (sym h.shown.entries) (in_front e (state_look state s.state) (behind_state state (found s.state) s.part s.reading) i)) (says_free state s.state f.there f.state)
   where
     s : StateSights
     s = h.sights
@@ -86,9 +86,9 @@ reading_says_free state size r ts h = says_more (IsFree state) (look_of state s.
 
 -- an old part file that is remembered stands
 pub reading_says_part : (state : Path) (size : ℕ) (r : Remembered) → r.stale ≡ true → (ts : List Entry) → ReadsState state size (Ok (Ok r)) ts → Says (λ n. IsFileAt n (state_part state)) ts
-reading_says_part state size r stale ts h = says_more (λ n. IsFileAt n (state_part state)) (look_of (state_part state) s.part) ts
-    (λ e i. subst (IsIn e) (sym h.shown.entries) (in_back e (look_of state s.state) (behind_state state (found s.state) s.part s.reading)
-    (subst (λ (g : Result Bool LookStop). IsIn e (behind_state state g s.part s.reading)) (sym f.state) (in_front e (look_of (state_part state) s.part) (behind_part state f.there (found s.part) s.reading) i))))
+reading_says_part state size r stale ts h = says_more (λ n. IsFileAt n (state_part state)) (state_look (state_part state) s.part) ts
+    (λ e i. subst (IsIn e) (sym h.shown.entries) (in_back e (state_look state s.state) (behind_state state (found s.state) s.part s.reading)
+    (subst (λ (g : Result Bool LookStop). IsIn e (behind_state state g s.part s.reading)) (sym f.state) (in_front e (state_look (state_part state) s.part) (behind_part state f.there (found s.part) s.reading) i))))
     (says_file (state_part state) s.part (f.part ∙ ap Ok stale))
   where
     s : StateSights

@@ -271,11 +271,11 @@ abbrev pub unfinished : Way → Path → Option Seen → List Fault
 unfinished way log tmp = if takes_up way tmp then fault.Unfinished log ∷ [] else []
 
 -- of a log that is due: what hinders it, or that it is taken up
-abbrev pub faults_of : Clock → Rule → LogLook → List Fault
-faults_of clock rule look = or_else (hindrances clock rule look) (unfinished rule.way look.path look.tmp)
+abbrev pub due_faults : Clock → Rule → LogLook → List Fault
+due_faults clock rule look = or_else (hindrances clock rule look) (unfinished rule.way look.path look.tmp)
 
 abbrev pub log_faults : Clock → Rule → (LogLook → Due) → List LogLook → List Fault
-log_faults clock rule decide looks = flat_map (λ look. where_due (decide look) (faults_of clock rule look)) looks
+log_faults clock rule decide looks = flat_map (λ look. where_due (decide look) (due_faults clock rule look)) looks
 
 -- its scripts, of which those of the rotations are its own where they are shared, and its logs that are due
 abbrev pub set_plan : Rule → List LogPlan → SetPlan

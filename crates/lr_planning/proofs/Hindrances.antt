@@ -15,7 +15,7 @@ use Rattle.lr_chain.specs.Ready.{with_dir}
 use Rattle.lr_chain.specs.Hindrances.{IsHindered}
 use Rattle.lr_plan.specs.declared.looks.LogLook.{LogLook}
 use Rattle.lr_plan.specs.declared.looks.SetLooks.{SetLooks}
-use Rattle.lr_planning.specs.Hindered.{fault_of}
+use Rattle.lr_planning.specs.Hindered.{prepare_fault}
 use Rattle.lr_plan.specs.Planned.{hindrances, aside_hinders, first_path, with_log, dir_of, standing, ready_for, plan_with, log_plan, none_hinders, plans_of, decisions_of, log_plans, log_faults, set_plan, all_decisions, all_plans, all_faults, CanPlanSet, CanPlanAll}
 
 -- where a call went well, what follows from what it ensures
@@ -34,7 +34,7 @@ pub plans_none : (clock : Clock) (mailer : Path) (rule : Rule) (look : LogLook) 
 plans_none clock mailer rule look f h = ap (λ (fs : List Fault). none_hinders fs (log_plan clock mailer rule look ∷ [])) h
 
 -- the fault that is told is what hinders
-pub fault_hinders : (faults : List Fault) (stop : PrepareStop) (f : Fault) → IsHindered faults stop → Ok f ≡ fault_of stop → faults ≡ f ∷ []
+pub fault_hinders : (faults : List Fault) (stop : PrepareStop) (f : Fault) → IsHindered faults stop → Ok f ≡ prepare_fault stop → faults ≡ f ∷ []
 fault_hinders faults (prepare.Taken path) f h is = h ∙ (let same : f ≡ fault.Taken path = cc in ap (λ (x : Fault). x ∷ []) (sym same))
 fault_hinders faults (prepare.NoDir path) f h is = h ∙ (let same : f ≡ fault.NoDir path = cc in ap (λ (x : Fault). x ∷ []) (sym same))
 fault_hinders faults (prepare.TooHigh path) f h is = h ∙ (let same : f ≡ fault.TooHigh path = cc in ap (λ (x : Fault). x ∷ []) (sym same))

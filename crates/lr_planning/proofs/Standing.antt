@@ -19,7 +19,7 @@ use Rattle.lr_chain.specs.Ready.{with_dir}
 use Rattle.lr_chain.specs.Hindrances.{what_hinders, IsHindered}
 use Rattle.lr_chain.specs.Prepared.{ready_by, ready_of}
 use Rattle.lr_plan.specs.declared.looks.LogLook.{LogLook}
-use Rattle.lr_planning.specs.Hindered.{fault_of}
+use Rattle.lr_planning.specs.Hindered.{prepare_fault}
 use Rattle.lr_plan.specs.Planned.{makes_dir, dir_of, empty_stand, stand_for, with_stand, standing, hindrances, aside_hinders, or_else, first_path, with_log, make_for, ready_for, AreMembersOf, CanPlan}
 use Rattle.lr_planning.proofs.Hindrances.{fault_hinders}
 
@@ -62,5 +62,5 @@ module _ (rule : Rule) (look : LogLook) (stand : Stand) (is : stand ≡ stand_fo
   pub free_stands : (clock : Clock) → what_hinders look.family.naming rule.count clock stand ≡ [] → hindrances clock rule look ≡ aside_hinders rule.way look.path look.tmp
   free_stands clock h = ap (λ (fs : List Fault). or_else fs (aside_hinders rule.way look.path look.tmp)) (sym (hindrances_stand clock) ∙ h)
 
-  pub fault_stands : (clock : Clock) (stop : PrepareStop) (f : Fault) → IsHindered (what_hinders look.family.naming rule.count clock stand) stop → Ok f ≡ fault_of stop → hindrances clock rule look ≡ f ∷ []
+  pub fault_stands : (clock : Clock) (stop : PrepareStop) (f : Fault) → IsHindered (what_hinders look.family.naming rule.count clock stand) stop → Ok f ≡ prepare_fault stop → hindrances clock rule look ≡ f ∷ []
   fault_stands clock stop f h told = ap (λ (fs : List Fault). or_else fs (aside_hinders rule.way look.path look.tmp)) (sym (hindrances_stand clock) ∙ fault_hinders _ stop f h told)

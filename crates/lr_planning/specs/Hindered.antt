@@ -6,8 +6,8 @@ use Rattle.lr_rules.specs.declared.memory.Memory.{Memory}
 use Rattle.lr_chain.specs.declared.ready.PrepareStop.{PrepareStop}
 use Rattle.lr_chain.specs.declared.ready.PrepareStop.TheVariants as prepare
 
-abbrev pub fault_of : PrepareStop → Result Fault Memory
-fault_of (prepare.Taken path) = Ok (fault.Taken path)
-fault_of (prepare.TooHigh path) = Ok (fault.TooHigh path)
-fault_of (prepare.NoDir path) = Ok (fault.NoDir path)
-fault_of prepare.Memory = Err (record {})
+abbrev pub prepare_fault : PrepareStop → Result Fault Memory
+prepare_fault (prepare.Taken path) = Ok (fault.Taken path)
+prepare_fault (prepare.TooHigh path) = Ok (fault.TooHigh path)
+prepare_fault (prepare.NoDir path) = Ok (fault.NoDir path)
+prepare_fault prepare.Memory = Err (record {})

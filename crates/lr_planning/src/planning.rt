@@ -3,11 +3,11 @@ ghost use Rattle.std.specs.Prelude.{◌≡◌, ◌≤◌, ◌++◌, ◌∷◌, [
 ghost use Rattle.lr_rules.specs.declared.rule.Rule.{Rule};
 ghost use Rattle.lr_plan.specs.declared.looks.LogLook.{LogLook};
 ghost use Rattle.lr_plan.specs.Asked.{asking};
-ghost use Rattle.lr_planning.specs.Hindered.{fault_of};
+ghost use Rattle.lr_planning.specs.Hindered.{prepare_fault};
 ghost use Rattle.lr_plan.specs.Planned.{decision, decisions_of, plans_of, log_plans, log_faults, set_plan, where_due};
 ghost use Rattle.lr_plan.specs.Planned.{all_decisions, all_plans, all_faults, plan_of, make_of, make_for, dir_of, stand_for};
 ghost use Rattle.lr_plan.specs.Planned.{with_stand, with_log, first_path, aside_by, aside_hinders, unfinished, or_else};
-ghost use Rattle.lr_plan.specs.Planned.{none_hinders, faults_of};
+ghost use Rattle.lr_plan.specs.Planned.{none_hinders, due_faults};
 ghost use Rattle.lr_plan.specs.Planned.{standing, dressed, job_by, plan_with, CanPlan, CanPlanSet, CanPlanAll};
 ghost use Rattle.lr_chain.specs.Ready.{IsCount, with_dir};
 ghost use Rattle.lr_commands.specs.Commands.{spaced, script, where_so, mail};
@@ -41,7 +41,7 @@ fn decide(rule: &Rule, look: &LogLook, state: &State, now: &Moment, force: bool)
 
 // What hinders a rotation that can't be prepared.
 fn hindrance(stop: PrepareStop) -> Result<Fault, Memory>
-    ensures { result ≡ fault_of stop }
+    ensures { result ≡ prepare_fault stop }
 {
     match stop {
         PrepareStop::Taken(path) => Ok(Fault::Taken(path)),
@@ -297,7 +297,7 @@ fn add_standing(
     requires look { CanPlan look.now }
     requires stand { stand.now ≡ stand_for rule.now look.now }
     ensures plans { OnOk result (plans.new.items ≡ plans.old.items ++ plans_of clock.entry.now mailer.now rule.now look.now) }
-    ensures faults { OnOk result (faults.new.items ≡ faults.old.items ++ faults_of clock.entry.now rule.now look.now) }
+    ensures faults { OnOk result (faults.new.items ≡ faults.old.items ++ due_faults clock.entry.now rule.now look.now) }
 {
     match make_ready(alloc, rule, clock, look, stand) {
         Ok(ready) => add_ready(alloc, rule, mailer, look, stand, ready, plans, faults),
@@ -321,7 +321,7 @@ fn add_due(
     requires count { IsCount rule.now.count }
     requires look { CanPlan look.now }
     ensures plans { OnOk result (plans.new.items ≡ plans.old.items ++ plans_of clock.entry.now mailer.now rule.now look.now) }
-    ensures faults { OnOk result (faults.new.items ≡ faults.old.items ++ faults_of clock.entry.now rule.now look.now) }
+    ensures faults { OnOk result (faults.new.items ≡ faults.old.items ++ due_faults clock.entry.now rule.now look.now) }
 {
     if makes_dir(rule, look) {
         let stand = empty_stand(alloc);
@@ -347,7 +347,7 @@ fn add_look(
     ensures plans { OnOk result (plans.new.items ≡ plans.old.items
         ++ where_due decided (plans_of clock.entry.now mailer.now rule.now look.now)) }
     ensures faults { OnOk result (faults.new.items ≡ faults.old.items
-        ++ where_due decided (faults_of clock.entry.now rule.now look.now)) }
+        ++ where_due decided (due_faults clock.entry.now rule.now look.now)) }
 {
     match decided {
         Due::Yes(_) => add_due(alloc, rule, mailer, clock, look, plans, faults),

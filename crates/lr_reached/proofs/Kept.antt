@@ -11,7 +11,7 @@ use Rattle.lr_family.specs.declared.family.Family.{Family}
 use Rattle.lr_kept.specs.declared.choice.Choice.{Choice}
 use Rattle.lr_kept.specs.declared.choice.Choice.TheVariants.{Kept, Again, MemberOf, Reserved, Meets}
 use Rattle.lr_plan.specs.Planned.{is_file_kind}
-use Rattle.lr_looks.specs.Choices.{names_of, found_names, IsChoiceAmong, duplicate, overlap, barred, choice_fault, choice_faults, kept_of, kind_fault, where_file}
+use Rattle.lr_looks.specs.Choices.{chosen_names, found_names, IsChoiceAmong, duplicate, overlap, barred, choice_fault, choice_faults, kept_of, kind_fault, where_file}
 use Rattle.lr_looks.specs.Found.{FoundLog, Hold}
 use Rattle.lr_looks.specs.Reserved.{reserved_by}
 use Rattle.lr_seen.proofs.Apart.{kept_each}
@@ -31,7 +31,7 @@ HasPath path n = IsName n.0 n.1 path
 
 pub kept_free : (reserved : List Path) (found : List FoundLog) (choices : List Choice) → IsChoiceAmong reserved found choices → AllByRecursion (IsFreeLog reserved) (kept_of found choices)
 kept_free reserved found choices c = kept_each (IsFreeLog reserved) found choices (λ k f at kept path i named.
-    let b : (b : Bor Family) × (slice_get c.logs k ≡ Some b) × (names_of b ≡ found_names f) = unmap_at names_of c.logs k (found_names f) (ap (λ (xs : List (Path × Naming)). slice_get xs k) c.same ∙ map_at found_names found k f at) in
+    let b : (b : Bor Family) × (slice_get c.logs k ≡ Some b) × (chosen_names b ≡ found_names f) = unmap_at chosen_names c.logs k (found_names f) (ap (λ (xs : List (Path × Naming)). slice_get xs k) c.same ∙ map_at found_names found k f at) in
     let p = place_in reserved path i in
     (c.chosen.each k Kept kept).free p.0 (record { log = b.0; path = path; at_log = b.1; at_path = p.1; named = subst (HasPath path) (sym b.2) named }))
 

@@ -20,9 +20,9 @@ use Rattle.lr_state.specs.Grammar.{Said, TextSays, SizedTextSays}
 use Rattle.lr_reading.specs.declared.look.LookStop.{LookStop}
 use Rattle.lr_reading.specs.declared.look.LookStop.TheVariants as stop
 use Rattle.lr_reading.specs.declared.remembered.Remembered.{Remembered}
-use Rattle.lr_reading.specs.Answers.{Known, fault_of, known_of, text_of, IsKnownBy, IsKnownOf, IsKnown}
+use Rattle.lr_reading.specs.Answers.{Known, state_look_fault, known_of, text_read, IsKnownBy, IsKnownOf, IsKnown}
 use Rattle.lr_reading.specs.Pieces.{Reading, Whole, Broken, bytes_of, AreSome, IsLast, IsReading, reads_from}
-use Rattle.lr_reading.specs.Sights.{Sight, Failed, Nothing, Saw, StateSights, ShowsState, found, found_kind, look_of, text_entries, behind_part, part_entries, behind_state}
+use Rattle.lr_reading.specs.Sights.{StateSight, Failed, Nothing, Saw, StateSights, ShowsState, found, found_kind, state_look, text_entries, behind_part, part_entries, behind_state}
 use Rattle.lr_reached.specs.Ending.{EndsRun, MayEnd}
 use Rattle.lr_reached.specs.Looked.{WasLookedAt, WasReadToEnd, SawState}
 
@@ -51,13 +51,13 @@ other_look : (x y : Path) (o : Option Seen) → x ≢ y → WasLookedAt y (entry
 other_look x y o other (seen, inl e) = other (cc)
 other_look x y o other (seen, inr none) = none
 
-other_sight : (x y : Path) (s : Sight) → x ≢ y → WasLookedAt y (look_of x s) → ⊥
+other_sight : (x y : Path) (s : StateSight) → x ≢ y → WasLookedAt y (state_look x s) → ⊥
 other_sight x y Failed other w = w.1
 other_sight x y Nothing other w = other_look x y None other w
 other_sight x y (Saw seen) other w = other_look x y (Some seen) other w
 
 -- one that found something or nothing was made
-found_looked : (x : Path) (s : Sight) (b : Bool) → found s ≡ Ok b → WasLookedAt x (look_of x s)
+found_looked : (x : Path) (s : StateSight) (b : Bool) → found s ≡ Ok b → WasLookedAt x (state_look x s)
 found_looked x Failed b e = absurd (cc)
 found_looked x Nothing b e = (None, inl refl)
 found_looked x (Saw seen) b e = (Some seen, inl refl)
@@ -73,25 +73,25 @@ not_kind kind.Dir e = absurd (cc)
 not_kind kind.Other e = absurd (cc)
 
 -- one that found nothing saw nothing, and one that found a file saw something
-found_nothing : (x : Path) (s : Sight) → found s ≡ Ok false → IsIn (entry.Look x None) (look_of x s)
+found_nothing : (x : Path) (s : StateSight) → found s ≡ Ok false → IsIn (entry.Look x None) (state_look x s)
 found_nothing x Failed e = absurd (cc)
 found_nothing x Nothing e = inl refl
 found_nothing x (Saw seen) e = absurd (not_gone seen.kind e)
 
-found_there : (x : Path) (s : Sight) → found s ≡ Ok true → IsIn (entry.Look x None) (look_of x s) → ⊥
+found_there : (x : Path) (s : StateSight) → found s ≡ Ok true → IsIn (entry.Look x None) (state_look x s) → ⊥
 found_there x Failed e i = i
 found_there x Nothing e i = absurd (cc)
 found_there x (Saw seen) e (inl i) = absurd (cc)
 found_there x (Saw seen) e (inr none) = none
 
 -- one that failed left nothing
-none_failed : (x : Path) (s : Sight) (e : Entry) → found s ≡ Err stop.Call → IsIn e (look_of x s) → ⊥
+none_failed : (x : Path) (s : StateSight) (e : Entry) → found s ≡ Err stop.Call → IsIn e (state_look x s) → ⊥
 none_failed x Failed e is i = i
 none_failed x Nothing e is i = absurd (cc)
 none_failed x (Saw seen) e is i = not_kind seen.kind is
 
 -- it reads nothing
-no_read : (x y : Path) (s : Sight) (place : ℕ) (piece : List ℕ) → IsIn (entry.Reads y place piece) (look_of x s) → ⊥
+no_read : (x y : Path) (s : StateSight) (place : ℕ) (piece : List ℕ) → IsIn (entry.Reads y place piece) (state_look x s) → ⊥
 no_read x y Failed place piece i = i
 no_read x y Nothing place piece (inl e) = absurd (cc)
 no_read x y Nothing place piece (inr none) = none
@@ -137,35 +137,35 @@ said_last stale m pieces last said (inr long) says known =
 
 -- ---- where a table is known
 
-text_saw : (state : Path) (size : ℕ) (stale there : Bool) (a : Sight) (r : Reading) (m : Remembered) → found a ≡ Ok there → IsReading size r → IsKnownBy stale (text_of state there r) (Ok m) → IsIn (entry.Look state None) (look_of state a) ⊎ WasReadToEnd state (text_entries state there r)
+text_saw : (state : Path) (size : ℕ) (stale there : Bool) (a : StateSight) (r : Reading) (m : Remembered) → found a ≡ Ok there → IsReading size r → IsKnownBy stale (text_read state there r) (Ok m) → IsIn (entry.Look state None) (state_look state a) ⊎ WasReadToEnd state (text_entries state there r)
 text_saw state size stale false a r m e i k = inl (found_nothing state a e)
 text_saw state size stale true a (Whole pieces last) m e i k =
     let l = last_read state 0 pieces last in
     inr (l.0, subst (λ (piece : List ℕ). IsIn (entry.Reads state l.0 piece) (reads_from state 0 (pieces ++ last ∷ []))) (said_last stale m pieces last k.0 i.2 k.1.0 k.2) l.1)
 text_saw state size stale true a (Broken pieces) m e i k = absurd (cc)
 
-known_saw : (state : Path) (size : ℕ) (a b : Sight) (r : Reading) (m : Remembered) (f g : Result Bool LookStop) → found a ≡ f → found b ≡ g → IsReading size r → IsKnownOf state f g r (Ok m) → SawState state (look_of state a ++ behind_state state f b r)
+known_saw : (state : Path) (size : ℕ) (a b : StateSight) (r : Reading) (m : Remembered) (f g : Result Bool LookStop) → found a ≡ f → found b ≡ g → IsReading size r → IsKnownOf state f g r (Ok m) → SawState state (state_look state a ++ behind_state state f b r)
 known_saw state size a b r m (Err why) g e d i k = absurd (cc)
 known_saw state size a b r m (Ok there) (Err why) e d i k = absurd (cc)
 known_saw state size a b r m (Ok there) (Ok stale) e d i k = record {
-  part = looked_in (state_part state) (look_of (state_part state) b) whole
-      (λ x j. in_back x (look_of state a) (behind_state state (Ok there) b r) (in_front x (look_of (state_part state) b) (behind_part state there (found b) r) j))
+  part = looked_in (state_part state) (state_look (state_part state) b) whole
+      (λ x j. in_back x (state_look state a) (behind_state state (Ok there) b r) (in_front x (state_look (state_part state) b) (behind_part state there (found b) r) j))
       (found_looked (state_part state) b stale d);
   text = by (text_saw state size stale there a r m e i k);
 }
   where
     whole : List Entry
-    whole = look_of state a ++ behind_state state (Ok there) b r
+    whole = state_look state a ++ behind_state state (Ok there) b r
 
     read : (x : Entry) → IsIn x (text_entries state there r) → IsIn x (behind_part state there (found b) r)
     read x j = subst (λ (h : Result Bool LookStop). IsIn x (behind_part state there h r)) (sym d) j
 
-    by : IsIn (entry.Look state None) (look_of state a) ⊎ WasReadToEnd state (text_entries state there r) → IsIn (entry.Look state None) whole ⊎ WasReadToEnd state whole
-    by (inl j) = inl (in_front (entry.Look state None) (look_of state a) (behind_state state (Ok there) b r) j)
+    by : IsIn (entry.Look state None) (state_look state a) ⊎ WasReadToEnd state (text_entries state there r) → IsIn (entry.Look state None) whole ⊎ WasReadToEnd state whole
+    by (inl j) = inl (in_front (entry.Look state None) (state_look state a) (behind_state state (Ok there) b r) j)
     by (inr w) = inr (
       w.0,
-      in_back (entry.Reads state w.0 []) (look_of state a) (behind_state state (Ok there) b r)
-          (in_back (entry.Reads state w.0 []) (look_of (state_part state) b) (behind_part state there (found b) r) (read (entry.Reads state w.0 []) w.1)),
+      in_back (entry.Reads state w.0 []) (state_look state a) (behind_state state (Ok there) b r)
+          (in_back (entry.Reads state w.0 []) (state_look (state_part state) b) (behind_part state there (found b) r) (read (entry.Reads state w.0 []) w.1)),
     )
 
 pub state_saw : (state : Path) (size : ℕ) (s : StateSights) (m : Remembered) (ts : List Entry) → IsKnown state s (Ok m) → ShowsState state size s ts → SawState state ts
@@ -191,36 +191,36 @@ said_why state stale (Ok table) f k is e = absurd (known_or_not k f (record { ta
 said_why state stale (Err bad) f k is e = ends_as state f (fault.State bad.0 bad.1) (same_fault k f (fault.State bad.0 bad.1) is e) tt
 
 -- a read failed: none found the end, and a file stood there
-broken_saw : (state : Path) (size : ℕ) (a b : Sight) (pieces : List (List ℕ)) → found a ≡ Ok true → AreSome size pieces → SawState state (look_of state a ++ (look_of (state_part state) b ++ reads_from state 0 pieces)) → ⊥
+broken_saw : (state : Path) (size : ℕ) (a b : StateSight) (pieces : List (List ℕ)) → found a ≡ Ok true → AreSome size pieces → SawState state (state_look state a ++ (state_look (state_part state) b ++ reads_from state 0 pieces)) → ⊥
 broken_saw state size a b pieces e some s = ⊎_elim gone read s.text
   where
-    gone_part : IsIn (entry.Look state None) (look_of (state_part state) b) → ⊥
+    gone_part : IsIn (entry.Look state None) (state_look (state_part state) b) → ⊥
     gone_part i = other_sight (state_part state) state b (λ same. part_other state (sym same)) (None, i)
 
-    gone : IsIn (entry.Look state None) (look_of state a ++ (look_of (state_part state) b ++ reads_from state 0 pieces)) → ⊥
+    gone : IsIn (entry.Look state None) (state_look state a ++ (state_look (state_part state) b ++ reads_from state 0 pieces)) → ⊥
     gone i = ⊎_elim (λ j. found_there state a e j)
-        (λ j. ⊎_elim gone_part (λ k. no_look state state None 0 pieces k) (in_append (entry.Look state None) (look_of (state_part state) b) (reads_from state 0 pieces) j))
-        (in_append (entry.Look state None) (look_of state a) (look_of (state_part state) b ++ reads_from state 0 pieces) i)
+        (λ j. ⊎_elim gone_part (λ k. no_look state state None 0 pieces k) (in_append (entry.Look state None) (state_look (state_part state) b) (reads_from state 0 pieces) j))
+        (in_append (entry.Look state None) (state_look state a) (state_look (state_part state) b ++ reads_from state 0 pieces) i)
 
-    read : WasReadToEnd state (look_of state a ++ (look_of (state_part state) b ++ reads_from state 0 pieces)) → ⊥
+    read : WasReadToEnd state (state_look state a ++ (state_look (state_part state) b ++ reads_from state 0 pieces)) → ⊥
     read w = ⊎_elim (λ j. no_read state state a w.0 [] j)
-        (λ j. ⊎_elim (λ k. no_read (state_part state) state b w.0 [] k) (λ k. no_end state size w.0 0 pieces some k) (in_append (entry.Reads state w.0 []) (look_of (state_part state) b) (reads_from state 0 pieces) j))
-        (in_append (entry.Reads state w.0 []) (look_of state a) (look_of (state_part state) b ++ reads_from state 0 pieces) w.1)
+        (λ j. ⊎_elim (λ k. no_read (state_part state) state b w.0 [] k) (λ k. no_end state size w.0 0 pieces some k) (in_append (entry.Reads state w.0 []) (state_look (state_part state) b) (reads_from state 0 pieces) j))
+        (in_append (entry.Reads state w.0 []) (state_look state a) (state_look (state_part state) b ++ reads_from state 0 pieces) w.1)
 
-text_why : (state : Path) (size : ℕ) (stale there : Bool) (a b : Sight) (r : Reading) (f : Fault) (known : Known) → found a ≡ Ok there → IsReading size r → known ≡ Err f → IsKnownBy stale (text_of state there r) known → IsWhy state f (look_of state a ++ (look_of (state_part state) b ++ text_entries state there r))
+text_why : (state : Path) (size : ℕ) (stale there : Bool) (a b : StateSight) (r : Reading) (f : Fault) (known : Known) → found a ≡ Ok there → IsReading size r → known ≡ Err f → IsKnownBy stale (text_read state there r) known → IsWhy state f (state_look state a ++ (state_look (state_part state) b ++ text_entries state there r))
 text_why state size stale false a b r f known e i is k = inl (said_why state stale k.0 f known is k.2)
 text_why state size stale true a b (Whole pieces last) f known e i is k = inl (said_why state stale k.0 f known is k.2)
 text_why state size stale true a b (Broken pieces) f known e i is k = inr (inr (same_fault known f (fault.Call call.Read state) is k), λ s. broken_saw state size a b pieces e i.0 s)
 
 -- a look at the part file stopped: it failed, or saw no file
-stop_part : (state : Path) (a b : Sight) (r : Reading) (there : Bool) (why : LookStop) (f : Fault) → found b ≡ Err why → f ≡ fault_of why (state_part state) → IsWhy state f (look_of state a ++ part_entries state there b r)
+stop_part : (state : Path) (a b : StateSight) (r : Reading) (there : Bool) (why : LookStop) (f : Fault) → found b ≡ Err why → f ≡ state_look_fault why (state_part state) → IsWhy state f (state_look state a ++ part_entries state there b r)
 stop_part state a b r there stop.NotFile f e is = inl (ends_as state f (fault.NotFile (state_part state)) is (inr refl))
 stop_part state a b r there stop.Call f e is = inr (
   inl (state_part state, inr (inr (inl refl)), is),
   λ s. ⊎_elim
       (λ i. other_sight state (state_part state) a (part_other state) (s.part.0, i))
       (λ i. none s.part.0 i)
-      (in_append (entry.Look (state_part state) s.part.0) (look_of state a) (part_entries state there b r) s.part.1),
+      (in_append (entry.Look (state_part state) s.part.0) (state_look state a) (part_entries state there b r) s.part.1),
 )
   where
     -- nothing is read behind it
@@ -230,23 +230,23 @@ stop_part state a b r there stop.Call f e is = inr (
 
     none : (seen : Option Seen) → IsIn (entry.Look (state_part state) seen) (part_entries state there b r) → ⊥
     none seen i = ⊎_elim (λ j. none_failed (state_part state) b (entry.Look (state_part state) seen) e j) (λ j. nothing (entry.Look (state_part state) seen) (found b) e j)
-        (in_append (entry.Look (state_part state) seen) (look_of (state_part state) b) (behind_part state there (found b) r) i)
+        (in_append (entry.Look (state_part state) seen) (state_look (state_part state) b) (behind_part state there (found b) r) i)
 
 -- so did one at the state's path
-stop_state : (state : Path) (a b : Sight) (r : Reading) (why : LookStop) (f : Fault) → found a ≡ Err why → f ≡ fault_of why state → IsWhy state f (look_of state a ++ behind_state state (Err why) b r)
+stop_state : (state : Path) (a b : StateSight) (r : Reading) (why : LookStop) (f : Fault) → found a ≡ Err why → f ≡ state_look_fault why state → IsWhy state f (state_look state a ++ behind_state state (Err why) b r)
 stop_state state a b r stop.NotFile f e is = inl (ends_as state f (fault.NotFile state) is (inl refl))
 stop_state state a b r stop.Call f e is = inr (
   inl (state, inr (inl refl), is),
   λ s. ⊎_elim
       (λ i. other_sight state (state_part state) a (part_other state) (s.part.0, i))
       (λ i. i)
-      (in_append (entry.Look (state_part state) s.part.0) (look_of state a) [] s.part.1),
+      (in_append (entry.Look (state_part state) s.part.0) (state_look state a) [] s.part.1),
 )
 
-known_why : (state : Path) (size : ℕ) (a b : Sight) (r : Reading) (f : Fault) (g h : Result Bool LookStop) → found a ≡ g → found b ≡ h → IsReading size r → IsKnownOf state g h r (Err f) → IsWhy state f (look_of state a ++ behind_state state g b r)
-known_why state size a b r f (Err why) h e d i k = stop_state state a b r why f e (same_fault (Err f) f (fault_of why state) refl k)
-known_why state size a b r f (Ok there) (Err why) e d i k = stop_part state a b r there why f d (same_fault (Err f) f (fault_of why (state_part state)) refl k)
-known_why state size a b r f (Ok there) (Ok stale) e d i k = subst (λ (h : Result Bool LookStop). IsWhy state f (look_of state a ++ (look_of (state_part state) b ++ behind_part state there h r))) (sym d) (text_why state size stale there a b r f (Err f) e i refl k)
+known_why : (state : Path) (size : ℕ) (a b : StateSight) (r : Reading) (f : Fault) (g h : Result Bool LookStop) → found a ≡ g → found b ≡ h → IsReading size r → IsKnownOf state g h r (Err f) → IsWhy state f (state_look state a ++ behind_state state g b r)
+known_why state size a b r f (Err why) h e d i k = stop_state state a b r why f e (same_fault (Err f) f (state_look_fault why state) refl k)
+known_why state size a b r f (Ok there) (Err why) e d i k = stop_part state a b r there why f d (same_fault (Err f) f (state_look_fault why (state_part state)) refl k)
+known_why state size a b r f (Ok there) (Ok stale) e d i k = subst (λ (h : Result Bool LookStop). IsWhy state f (state_look state a ++ (state_look (state_part state) b ++ behind_part state there h r))) (sym d) (text_why state size stale there a b r f (Err f) e i refl k)
 
 pub state_why : (state : Path) (size : ℕ) (s : StateSights) (f : Fault) (ts : List Entry) → IsKnown state s (Err f) → ShowsState state size s ts → IsWhy state f ts
 state_why state size s f ts k h = subst (IsWhy state f) (sym h.entries) (known_why state size s.state s.part s.reading f (found s.state) (found s.part) refl refl h.reading k)

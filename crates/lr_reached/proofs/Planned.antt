@@ -14,7 +14,7 @@ use Rattle.lr_due.specs.declared.answer.Due.TheVariants as due
 use Rattle.lr_host.specs.Lists.{IsIn}
 use Rattle.lr_plan.specs.declared.looks.LogLook.{LogLook}
 use Rattle.lr_plan.specs.declared.looks.SetLooks.{SetLooks}
-use Rattle.lr_plan.specs.Planned.{makes_dir, empty_stand, stand_for, faults_of, where_due, log_faults, all_faults}
+use Rattle.lr_plan.specs.Planned.{makes_dir, empty_stand, stand_for, due_faults, where_due, log_faults, all_faults}
 use Rattle.lr_seen.proofs.Hindrances.{each_hindrance, faults_so}
 use Rattle.lr_reached.specs.Ending.{NoneEnds}
 use Rattle.lr_reached.proofs.Ends.{none_both}
@@ -27,7 +27,7 @@ was_missing look true is = absurd (cc)
 was_missing look false is = is
 
 -- It is nothing, a path that is too high or taken, or its family's directory, which a look missed; or another thing stands where it is set aside to; or it is taken up.
-pub hindered_by : (P : List Fault → Type 0) (clock : Clock) (rule : Rule) (look : LogLook) → P [] → ((path : Path) → P (fault.TooHigh path ∷ [])) → ((path : Path) → P (fault.Taken path ∷ [])) → (look.stand.there ≡ false → P (fault.NoDir look.family.naming.dir ∷ [])) → ((seen : Seen) → look.tmp ≡ Some seen → P (fault.NotFile (aside_path look.path) ∷ [])) → P (fault.Unfinished look.path ∷ []) → P (faults_of clock rule look)
+pub hindered_by : (P : List Fault → Type 0) (clock : Clock) (rule : Rule) (look : LogLook) → P [] → ((path : Path) → P (fault.TooHigh path ∷ [])) → ((path : Path) → P (fault.Taken path ∷ [])) → (look.stand.there ≡ false → P (fault.NoDir look.family.naming.dir ∷ [])) → ((seen : Seen) → look.tmp ≡ Some seen → P (fault.NotFile (aside_path look.path) ∷ [])) → P (fault.Unfinished look.path ∷ []) → P (due_faults clock rule look)
 hindered_by P clock rule look none high had gone other again = faults_so P clock rule look none other again (each_hindrance P none high had look.family.naming rule.count clock (stand_for rule look) (λ there. gone (was_missing look (makes_dir rule look) there)))
 
 -- ---- none of it ends a run
@@ -45,7 +45,7 @@ pub record IsNotMissed (state : Path) (look : LogLook) : Type 0 where
   pub dir : look.stand.there ≡ false → look.family.naming.dir ≡ parent_of state → ⊥
   pub beside : IsOffState state look
 
-hindered_none : (state : Path) (clock : Clock) (rule : Rule) (look : LogLook) → IsNotMissed state look → NoneEnds state (faults_of clock rule look)
+hindered_none : (state : Path) (clock : Clock) (rule : Rule) (look : LogLook) → IsNotMissed state look → NoneEnds state (due_faults clock rule look)
 hindered_none state clock rule look h = hindered_by (NoneEnds state) clock rule look tt (λ path. ((λ e. e), tt)) (λ path. ((λ e. e), tt)) (λ there. (h.dir there, tt))
     (λ seen is. (⊎_elim (h.beside seen is).0 (h.beside seen is).1, tt)) ((λ e. e), tt)
 
@@ -55,8 +55,8 @@ due_none state (due.No why) fs h = tt
 
 logs_none : (state : Path) (clock : Clock) (rule : Rule) (decide : LogLook → Due) (looks : List LogLook) → ((look : LogLook) → IsIn look looks → IsNotMissed state look) → NoneEnds state (log_faults clock rule decide looks)
 logs_none state clock rule decide [] h = tt
-logs_none state clock rule decide (l ∷ ls) h = none_both state (where_due (decide l) (faults_of clock rule l)) (log_faults clock rule decide ls)
-    (due_none state (decide l) (faults_of clock rule l) (hindered_none state clock rule l (h l (inl refl)))) (logs_none state clock rule decide ls (λ look i. h look (inr i)))
+logs_none state clock rule decide (l ∷ ls) h = none_both state (where_due (decide l) (due_faults clock rule l)) (log_faults clock rule decide ls)
+    (due_none state (decide l) (due_faults clock rule l) (hindered_none state clock rule l (h l (inl refl)))) (logs_none state clock rule decide ls (λ look i. h look (inr i)))
 
 -- so it is of all logs
 abbrev pub NoneMissed : Path → List SetLooks → Type 0

@@ -19,8 +19,8 @@ use Rattle.lr_plan.specs.Asked.{Asked}
 use Rattle.lr_plan.specs.declared.looks.LogLook.{LogLook}
 use Rattle.lr_plan.specs.declared.looks.SetLooks.{SetLooks}
 use Rattle.lr_plan.specs.declared.plan.Plan.{Plan}
-use Rattle.lr_plan.specs.Planned.{faults_of, where_due, log_faults, all_faults, decision}
-use Rattle.lr_run.specs.Dry.{Follows, Plans, PlansBy, unknown, known, Tries, unseen, not_directory, by_none, by_state}
+use Rattle.lr_plan.specs.Planned.{due_faults, where_due, log_faults, all_faults, decision}
+use Rattle.lr_run.specs.Dry.{PlanFollows, Plans, PlansBy, unknown, known, Tries, unseen, not_directory, by_none, by_state}
 use Rattle.lr_reached.specs.Ending.{EndsRun, NoneEnds}
 use Rattle.lr_reached.specs.Tried.{EndsTry, NoneEndsTry, MayEndTry, SaysWhyTry}
 use Rattle.lr_reached.proofs.Known.{state_why}
@@ -81,7 +81,7 @@ try_both state (x ∷ xs) ys a b = (a.0, try_both state xs ys a.1 b)
 
 -- ---- those of a plan
 
-hindered_try : (state : Path) (clock : Clock) (rule : Rule) (look : LogLook) → IsOffState state look → NoneEndsTry state (faults_of clock rule look)
+hindered_try : (state : Path) (clock : Clock) (rule : Rule) (look : LogLook) → IsOffState state look → NoneEndsTry state (due_faults clock rule look)
 hindered_try state clock rule look beside = hindered_by (NoneEndsTry state) clock rule look tt (λ path. ((λ e. e), tt)) (λ path. ((λ e. e), tt)) (λ there. ((λ e. e), tt))
     (λ seen is. (⊎_elim (beside seen is).0 (beside seen is).1, tt)) ((λ e. e), tt)
 
@@ -91,8 +91,8 @@ due_try state (due.No why) fs h = tt
 
 logs_try : (state : Path) (clock : Clock) (rule : Rule) (decide : LogLook → Due) (looks : List LogLook) → ((look : LogLook) → IsIn look looks → IsOffState state look) → NoneEndsTry state (log_faults clock rule decide looks)
 logs_try state clock rule decide [] off = tt
-logs_try state clock rule decide (l ∷ ls) off = try_both state (where_due (decide l) (faults_of clock rule l)) (log_faults clock rule decide ls)
-    (due_try state (decide l) (faults_of clock rule l) (hindered_try state clock rule l (off l (inl refl)))) (logs_try state clock rule decide ls (λ look i. off look (inr i)))
+logs_try state clock rule decide (l ∷ ls) off = try_both state (where_due (decide l) (due_faults clock rule l)) (log_faults clock rule decide ls)
+    (due_try state (decide l) (due_faults clock rule l) (hindered_try state clock rule l (off l (inl refl)))) (logs_try state clock rule decide ls (λ look i. off look (inr i)))
 
 plan_try : (state : Path) (clock : Clock) (decide : Rule → LogLook → Due) (rules : List Rule) (sets : List SetLooks) → AllOffState state sets → NoneEndsTry state (all_faults clock decide rules sets)
 plan_try state clock decide [] [] off = tt
@@ -107,7 +107,7 @@ plan_try state clock decide (r ∷ rs) (s ∷ ss) off = try_both state (log_faul
 abbrev IsNone : Option Plan → Type 0
 IsNone plan = plan ≡ None
 
-follows_try : (state : Path) (rules : List Rule) (sets : List SetLooks) (kept : List Path) (table : List Row) (clock : Clock) (asked : Asked) (plan : Option Plan) (own : List Fault) → AllOffState state sets → Follows rules sets kept table clock asked plan own → (IsNone plan → ⊥) → NoneEndsTry state own
+follows_try : (state : Path) (rules : List Rule) (sets : List SetLooks) (kept : List Path) (table : List Row) (clock : Clock) (asked : Asked) (plan : Option Plan) (own : List Fault) → AllOffState state sets → PlanFollows rules sets kept table clock asked plan own → (IsNone plan → ⊥) → NoneEndsTry state own
 follows_try state rules sets kept table clock asked (Some p) own off f some = subst (NoneEndsTry state) (sym (f.2 ∙ ap (λ (q : Plan). q.faults) f.1)) (plan_try state clock (decision table clock.now asked.force) rules sets off)
 follows_try state rules sets kept table clock asked None own off f some = absurd (some refl)
 
@@ -130,7 +130,7 @@ plans_why : (state : Path) (rules : List Rule) (table : List Row) (clock : Clock
 plans_why state rules table clock asked plan own ts p none = record {
   before = p.of_looks;
   last = fault.State 0 kind.TooBig;
-  own_are = p.faults_are ∙ ap (λ fs. p.of_looks ++ fs) (subst (λ (q : Option Plan). Follows rules p.sets (paths_of p.shown.kept) table clock asked q p.of_plan) none p.follows).1;
+  own_are = p.faults_are ∙ ap (λ fs. p.of_looks ++ fs) (subst (λ (q : Option Plan). PlanFollows rules p.sets (paths_of p.shown.kept) table clock asked q p.of_plan) none p.follows).1;
   ends = inl tt;
 }
 

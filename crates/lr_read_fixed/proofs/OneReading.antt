@@ -20,7 +20,7 @@ use Rattle.lr_include.specs.declared.task.Task.{Task}
 use Rattle.lr_include.specs.declared.task.Task.TheVariants as task
 use Rattle.lr_host.specs.Counted.{calls_in}
 use Rattle.lr_include.specs.Allowed.{failed_read, failed_visit, failed_in}
-use Rattle.lr_include.specs.Stages.{Stage, settled, visited, at_visits, is_shallow, room_for, ShowsNext, ShowsVisits, begun, visits_mean, Reads}
+use Rattle.lr_include.specs.Stages.{Stage, settled_stage, visited, at_visits, is_shallow, room_for, ShowsNext, ShowsVisits, begun, visits_mean, Reads}
 use Rattle.lr_include.proofs.Calls.{calls_are_failed}
 use Rattle.lr_sought.proofs.OneOrder.{one_order}
 
@@ -208,18 +208,18 @@ failed_first (Some v) vs = refl
 visits_one : (s : Stage) (xs ys : List (Option Visit)) (ts us vs ws : List Entry) → (at_visits s xs).todo ≡ [] → (at_visits s ys).todo ≡ [] → failed_in xs ≡ 0 → failed_in ys ≡ 0
     → ShowsVisits s xs ts → ShowsVisits s ys us → ts ++ vs ≡ us ++ ws → AreOne (List (Option Visit)) xs ys ts us vs ws
 visits_one s [] [] ts us vs ws m n f g h k e = none_one [] [] [] ts us vs ws refl refl h k e
-visits_one s [] (y ∷ ys) ts us vs ws m n f g h k e = absurd (no_next (settled s) (settled s).todo y k.front m k.first)
-visits_one s (x ∷ xs) [] ts us vs ws m n f g h k e = absurd (no_next (settled s) (settled s).todo x h.front n h.first)
+visits_one s [] (y ∷ ys) ts us vs ws m n f g h k e = absurd (no_next (settled_stage s) (settled_stage s).todo y k.front m k.first)
+visits_one s (x ∷ xs) [] ts us vs ws m n f g h k e = absurd (no_next (settled_stage s) (settled_stage s).todo x h.front n h.first)
 visits_one s (x ∷ xs) (y ∷ ys) ts us vs ws m n f g h k e =
     let a = failed_first x xs in
     let b = failed_first y ys in
     let fx : failed_in xs ≡ 0 = omega (arith, a, f) in
     let gy : failed_in ys ≡ 0 = omega (arith, b, g) in
     let split = front_same ts us (h.front ++ h.back) (k.front ++ k.back) vs ws h.joined k.joined e in
-    let one = next_one (settled s) (settled s).todo x y h.front k.front (h.back ++ vs) (k.back ++ ws) (omega (arith, a, f)) (omega (arith, b, g)) h.first k.first
+    let one = next_one (settled_stage s) (settled_stage s).todo x y h.front k.front (h.back ++ vs) (k.back ++ ws) (omega (arith, a, f)) (omega (arith, b, g)) h.first k.first
     (sym (append_assoc h.front h.back vs) ∙ (split ∙ append_assoc k.front k.back ws)) in
-    let more = visits_one (visited (settled s) x) xs ys h.back k.back vs ws m (subst (λ (v : Option Visit). (at_visits (visited (settled s) v) ys).todo ≡ []) (sym one.gave) n) fx gy h.second
-    (subst (λ (v : Option Visit). ShowsVisits (visited (settled s) v) ys k.back) (sym one.gave) k.second) one.behind in
+    let more = visits_one (visited (settled_stage s) x) xs ys h.back k.back vs ws m (subst (λ (v : Option Visit). (at_visits (visited (settled_stage s) v) ys).todo ≡ []) (sym one.gave) n) fx gy h.second
+    (subst (λ (v : Option Visit). ShowsVisits (visited (settled_stage s) v) ys k.back) (sym one.gave) k.second) one.behind in
     record {
       gave = ap (λ v. v ∷ xs) one.gave ∙ ap (λ l. y ∷ l) more.gave;
       left = h.joined ∙ (ap (λ es. es ++ h.back) one.left ∙ (ap (λ es. k.front ++ es) more.left ∙ sym k.joined));

@@ -19,15 +19,15 @@ abbrev pub Known : Type 0
 Known = Result Remembered Fault
 
 -- the fault of a path where the look failed or saw neither a regular file nor nothing
-abbrev pub fault_of : LookStop → Path → Fault
-fault_of stop.Call path = fault.Call call.Look path
-fault_of stop.NotFile path = fault.NotFile path
+abbrev pub state_look_fault : LookStop → Path → Fault
+state_look_fault stop.Call path = fault.Call call.Look path
+state_look_fault stop.NotFile path = fault.NotFile path
 
 -- the text: none where no file stands, else what was read of it; or the fault of a read that failed
-abbrev pub text_of : Path → Bool → Reading → Result (List ℕ) Fault
-text_of state false reading = Ok []
-text_of state true (Whole pieces last) = Ok (bytes_of pieces ++ last)
-text_of state true (Broken pieces) = Err (fault.Call call.Read state)
+abbrev pub text_read : Path → Bool → Reading → Result (List ℕ) Fault
+text_read state false reading = Ok []
+text_read state true (Whole pieces last) = Ok (bytes_of pieces ++ last)
+text_read state true (Broken pieces) = Err (fault.Call call.Read state)
 
 -- what a text says: its table, beside whether an old part file stands; or its first fault
 abbrev pub known_of : Bool → Said → Known
@@ -45,13 +45,13 @@ IsKnownBy stale (Err why) known = known ≡ Err why
 
 -- This is known by the part file that was found, and by the text.
 abbrev pub IsKnownBehind : Path → Bool → Result Bool LookStop → Reading → Known → Type 0
-IsKnownBehind state there (Ok stale) reading known = IsKnownBy stale (text_of state there reading) known
-IsKnownBehind state there (Err why) reading known = known ≡ Err (fault_of why (state_part state))
+IsKnownBehind state there (Ok stale) reading known = IsKnownBy stale (text_read state there reading) known
+IsKnownBehind state there (Err why) reading known = known ≡ Err (state_look_fault why (state_part state))
 
 -- This is known by the state's file that was found, by the part file, and by the text: the first fault counts.
 abbrev pub IsKnownOf : Path → Result Bool LookStop → Result Bool LookStop → Reading → Known → Type 0
 IsKnownOf state (Ok there) part reading known = IsKnownBehind state there part reading known
-IsKnownOf state (Err why) part reading known = known ≡ Err (fault_of why state)
+IsKnownOf state (Err why) part reading known = known ≡ Err (state_look_fault why state)
 
 -- This is known by what all of it came to.
 abbrev pub IsKnown : Path → StateSights → Known → Type 0

@@ -14,27 +14,27 @@ use Rattle.lr_state.specs.declared.text.StateStop.TheVariants as whole
 use Rattle.lr_reading.specs.declared.look.LookStop.{LookStop}
 use Rattle.lr_reading.specs.declared.pieces.ReadStop.{ReadStop}
 use Rattle.lr_reading.specs.declared.pieces.ReadStop.TheVariants as read
-use Rattle.lr_reading.specs.Answers.{Known, IsKnownBy, IsKnownBehind, text_of}
+use Rattle.lr_reading.specs.Answers.{Known, IsKnownBy, IsKnownBehind, text_read}
 use Rattle.lr_reading.specs.Pieces.{Reading, Whole, Broken, IsLast, IsReading, bytes_of, reads_of}
-use Rattle.lr_reading.specs.Sights.{Sight, found, look_of, part_entries, text_entries}
+use Rattle.lr_reading.specs.Sights.{StateSight, found, state_look, part_entries, text_entries}
 
 -- One look, and what was found.
-pub record Finds (path : Path) (result : Result Bool LookStop) (ts : List Entry) : Type 0 where
-  pub sight : Sight
-  pub entries : ts ≡ look_of path sight
+pub record FindsState (path : Path) (result : Result Bool LookStop) (ts : List Entry) : Type 0 where
+  pub sight : StateSight
+  pub entries : ts ≡ state_look path sight
   pub found_is : result ≡ found sight
 
 -- a piece that isn't the last has bytes, and the next begins here
-abbrev pub Follows : ℕ → Option ℕ → List ℕ → Type 0
-Follows place None piece = IsLast place piece
-Follows place (Some next) piece = (0 < length piece) × (next ≡ place + length piece) × (next ≤ 67_108_864)
+abbrev pub FollowsPiece : ℕ → Option ℕ → List ℕ → Type 0
+FollowsPiece place None piece = IsLast place piece
+FollowsPiece place (Some next) piece = (0 < length piece) × (next ≡ place + length piece) × (next ≤ 67_108_864)
 
 -- One read from a place, which gave a piece that was handed on.
 pub record ReadsOn (path : Path) (place size : ℕ) (next : Option ℕ) (before after : Given)
     (told later : Option Journal) : Type 0 where
   pub piece : List ℕ
   pub short : length piece ≤ size
-  pub follows : Follows place next piece
+  pub follows : FollowsPiece place next piece
   pub taken : (bytes : List ℕ) → HasTaken before bytes → HasTaken after (bytes ++ piece)
   pub entries : Left (Are (entry.Reads path place piece ∷ [])) told later
 
@@ -44,12 +44,12 @@ pub record ReadsOne (path : Path) (place size : ℕ) (ts : List Entry) : Type 0 
   pub short : length piece ≤ size
   pub entries : ts ≡ entry.Reads path place piece ∷ []
 
-abbrev pub StopsAt : Path → ℕ → ℕ → ReadStop → List Entry → Type 0
-StopsAt path place size read.Call ts = ts ≡ []
-StopsAt path place size read.Memory ts = ReadsOne path place size ts
+abbrev pub StopsAtPiece : Path → ℕ → ℕ → ReadStop → List Entry → Type 0
+StopsAtPiece path place size read.Call ts = ts ≡ []
+StopsAtPiece path place size read.Memory ts = ReadsOne path place size ts
 
 -- The text was read whole, and handed on.
-pub record ReadsWhole (path : Path) (size : ℕ) (after : Given) (told later : Option Journal) : Type 0 where
+pub record HandsOnWhole (path : Path) (size : ℕ) (after : Given) (told later : Option Journal) : Type 0 where
   pub pieces : List (List ℕ)
   pub last : List ℕ
   pub reading : IsReading size (Whole pieces last)
@@ -77,11 +77,11 @@ pub record ReadsText (state : Path) (size : ℕ) (there stale : Bool) (answer : 
   pub reading : Reading
   pub is : IsReading size reading
   pub entries : ts ≡ text_entries state there reading
-  pub known : IfOk answer (IsKnownBy stale (text_of state there reading))
+  pub known : IfOk answer (IsKnownBy stale (text_read state there reading))
 
 -- the same from the look at the part file on
-pub record ReadsPart (state : Path) (size : ℕ) (there : Bool) (answer : Result Known Memory) (ts : List Entry) : Type 0 where
-  pub part : Sight
+pub record ReadsPartFile (state : Path) (size : ℕ) (there : Bool) (answer : Result Known Memory) (ts : List Entry) : Type 0 where
+  pub part : StateSight
   pub reading : Reading
   pub is : IsReading size reading
   pub entries : ts ≡ part_entries state there part reading

@@ -7,8 +7,8 @@ ghost use Rattle.lr_rules.specs.declared.path.Path.{Path};
 ghost use Rattle.lr_rules.specs.StatePath.{state_part};
 ghost use Rattle.lr_host.specs.declared.entry.Entry.TheVariants as entry;
 ghost use Rattle.lr_host.specs.Told.{Left, Can, Onward, Rose};
-ghost use Rattle.lr_reading.specs.Answers.{IsStateFault, ReadsState, fault_of};
-ghost use Rattle.lr_reading.specs.Internal.{ReadsPart};
+ghost use Rattle.lr_reading.specs.Answers.{IsStateFault, ReadsState, state_look_fault};
+ghost use Rattle.lr_reading.specs.Internal.{ReadsPartFile};
 
 use crate::look::{LookStop, look_at, look_fault};
 use crate::remembered::Remembered;
@@ -19,7 +19,7 @@ use std::alloc::Global;
 
 // The answer where a path of the state has something wrong with it.
 fn refused(alloc: Global, stop: LookStop, path: &Path) -> Result<Result<Remembered, Fault>, Memory>
-    ensures { IfOk result (λ known. known ≡ Err (fault_of stop path.now)) }
+    ensures { IfOk result (λ known. known ≡ Err (state_look_fault stop path.now)) }
 {
     let path = path.copy(alloc)?;
     Ok(Err(look_fault(stop, path)))
@@ -37,7 +37,7 @@ fn read_behind<H: Host>(
     requires part { part.now ≡ state_part state.now }
     requires room { 0 < length buffer.old }
     requires file { there ≡ true → Can (H.told host.old) (entry.Reads state.now 0 []) }
-    ensures told { Left (ReadsPart state.now (length buffer.old) there result) (H.told host.old) (H.told host.new) }
+    ensures told { Left (ReadsPartFile state.now (length buffer.old) there result) (H.told host.old) (H.told host.new) }
     ensures cause { (kind : CallKind) (path : Path) → result ≡ Ok (Err (fault.Call kind path))
         → Rose (H.counts host.old).faults (H.counts host.new).faults }
     ensures only { (f : Fault) → result ≡ Ok (Err f) → IsStateFault state.now f }

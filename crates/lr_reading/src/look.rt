@@ -2,8 +2,8 @@
 ghost use Rattle.std.specs.Prelude.{◌≡◌, [], Ok, Err, true};
 ghost use Rattle.lr_host.specs.declared.entry.Entry.TheVariants as entry;
 ghost use Rattle.lr_host.specs.Told.{Left, Can, Onward, Rose};
-ghost use Rattle.lr_reading.specs.Answers.{fault_of};
-ghost use Rattle.lr_reading.specs.Internal.{Finds};
+ghost use Rattle.lr_reading.specs.Answers.{state_look_fault};
+ghost use Rattle.lr_reading.specs.Internal.{FindsState};
 
 use lr_host::{Host, Kind};
 use lr_rules::{CallKind, Fault, Path};
@@ -19,7 +19,7 @@ pub enum LookStop {
 
 /// Whether a regular file stands at the path, rather than nothing. Links aren't followed.
 pub fn look_at<H: Host>(host: &mut H, path: &Path) -> Result<bool, LookStop>
-    ensures told { Left (Finds path.now result) (H.told host.old) (H.told host.new) }
+    ensures told { Left (FindsState path.now result) (H.told host.old) (H.told host.new) }
     ensures there { result ≡ Ok true → Can (H.told host.new) (entry.Reads path.now 0 []) }
     ensures cause { result ≡ Err LookStop.Call → Rose (H.counts host.old).faults (H.counts host.new).faults }
     ensures counts { Onward (H.counts host.old) (H.counts host.new) }
@@ -39,7 +39,7 @@ pub fn look_at<H: Host>(host: &mut H, path: &Path) -> Result<bool, LookStop>
 
 /// The fault that tells what is wrong at the path.
 pub fn look_fault(stop: LookStop, path: Path) -> Fault
-    ensures { result ≡ fault_of stop path }
+    ensures { result ≡ state_look_fault stop path }
 {
     match stop {
         LookStop::Call => Fault::Call(CallKind::Look, path),

@@ -10,7 +10,7 @@ use Rattle.std.proofs.lemmas.Slice.Eq.{bytes_eq-Decides}
 use Rattle.lr_rules.specs.declared.civil.Civil.{Civil}
 use Rattle.lr_rules.specs.declared.path.Path.{Path}
 use Rattle.lr_state.specs.Table.{Entry, moment_of, is_name, is_table}
-use Rattle.lr_state.specs.Written.{escaped, decimal, moment_text, line_text, line_of, text_of}
+use Rattle.lr_state.specs.Written.{escaped, decimal, moment_text, line_text, entry_line, text_of}
 use Rattle.lr_state.proofs.Views.{bytes_swapped}
 use Rattle.lr_record.specs.After.{is_among}
 use Rattle.lr_record.specs.Measured.{longer, widest, measured_text}
@@ -42,32 +42,32 @@ longer_length was now = go (nat_lt (length (moment_text now)) (length (moment_te
 
 -- ---- lines
 
-line_length : (name : List ℕ) (at : Civil) → length (line_of (name, at)) ≡ length (flat_map escaped name) + length (moment_text at) + 4
+line_length : (name : List ℕ) (at : Civil) → length (entry_line (name, at)) ≡ length (flat_map escaped name) + length (moment_text at) + 4
 unfolding line_text
 line_length name at =
     let whole = length-append (line_text (name, at)) (10 ∷ []) in
     let quoted = length-append (flat_map escaped name) (34 ∷ (32 ∷ moment_text at)) in
     omega (arith, whole, quoted)
 
-line_grows : (name : List ℕ) (was now : Civil) (more : ℕ) → length (moment_text now) ≡ length (moment_text was) + more → length (line_of (name, now)) ≡ length (line_of (name, was)) + more
+line_grows : (name : List ℕ) (was now : Civil) (more : ℕ) → length (moment_text now) ≡ length (moment_text was) + more → length (entry_line (name, now)) ≡ length (entry_line (name, was)) + more
 line_grows name was now more grown =
     let old = line_length name was in
     let new = line_length name now in
     omega (arith, old, new, grown)
 
-line_widens : (due : List Path) (now : Civil) (e : Entry) → length (line_of e) ≤ length (line_of (widest due now e))
+line_widens : (due : List Path) (now : Civil) (e : Entry) → length (entry_line e) ≤ length (entry_line (widest due now e))
 line_widens due now e = go (is_among due e.0)
   where
-    go : (b : Bool) → length (line_of e) ≤ length (line_of (cond b (e.0, longer e.1 now) e))
+    go : (b : Bool) → length (entry_line e) ≤ length (entry_line (cond b (e.0, longer e.1 now) e))
     go true = let grown = line_grows e.0 e.1 (longer e.1 now) (length (moment_text now) - length (moment_text e.1)) (longer_length e.1 now) in omega (arith, grown)
     go false = omega arith
 
 -- ---- texts
 
-lines_length : (e : Entry) (es : List Entry) → length (flat_map line_of (e ∷ es)) ≡ length (line_of e) + length (flat_map line_of es)
-lines_length e es = length-append (line_of e) (flat_map line_of es)
+lines_length : (e : Entry) (es : List Entry) → length (flat_map entry_line (e ∷ es)) ≡ length (entry_line e) + length (flat_map entry_line es)
+lines_length e es = length-append (entry_line e) (flat_map entry_line es)
 
-lines_widen : (due : List Path) (now : Civil) (es : List Entry) → length (flat_map line_of es) ≤ length (flat_map line_of (map (widest due now) es))
+lines_widen : (due : List Path) (now : Civil) (es : List Entry) → length (flat_map entry_line es) ≤ length (flat_map entry_line (map (widest due now) es))
 lines_widen due now [] = omega arith
 lines_widen due now (e ∷ es) =
     let old = lines_length e es in
@@ -115,7 +115,7 @@ due_same due log now (e ∷ es) is = ap (λ x. x ∷ map (widest (due ++ log ∷
 
 -- a new one that the table has
 found_grows : (due : List Path) (log : Path) (now was : Civil) (more : ℕ) → is_among due log ≡ false → length (moment_text (longer was now)) ≡ length (moment_text was) + more
-    → (es : List Entry) → is_table es ≡ true → moment_of es log ≡ Some was → length (flat_map line_of (map (widest (due ++ log ∷ []) now) es)) ≡ length (flat_map line_of (map (widest due now) es)) + more
+    → (es : List Entry) → is_table es ≡ true → moment_of es log ≡ Some was → length (flat_map entry_line (map (widest (due ++ log ∷ []) now) es)) ≡ length (flat_map entry_line (map (widest due now) es)) + more
 unfolding moment_of is_table
 found_grows due log now was more new grown [] table is = absurd (cc is)
 found_grows due log now was more new grown (e ∷ es) table is = go (bytes_eq log e.0) refl is (found_grows due log now was more new grown es parts.1)
@@ -130,21 +130,21 @@ found_grows due log now was more new grown (e ∷ es) table is = go (bytes_eq lo
     later = due ++ log ∷ []
 
     go : (b : Bool) → bytes_eq log e.0 ≡ b → cond b (Some e.1) (moment_of es log) ≡ Some was
-        → (moment_of es log ≡ Some was → length (flat_map line_of (map (widest later now) es)) ≡ length (flat_map line_of (map (widest due now) es)) + more)
-        → length (flat_map line_of (map (widest later now) (e ∷ es))) ≡ length (flat_map line_of (map (widest due now) (e ∷ es))) + more
+        → (moment_of es log ≡ Some was → length (flat_map entry_line (map (widest later now) es)) ≡ length (flat_map entry_line (map (widest due now) es)) + more)
+        → length (flat_map entry_line (map (widest later now) (e ∷ es))) ≡ length (flat_map entry_line (map (widest due now) (e ∷ es))) + more
     go true same at next =
         let named : log ≡ e.0 = (bytes_eq-Decides log e.0).0 same in
         let moment : e.1 ≡ was = cc at in
         let wide : widest later now e ≡ (e.0, longer e.1 now) = ap (λ b. cond b (e.0, longer e.1 now) e) (among_more due log e.0 ∙ (ap (λ b. is_among due e.0 || b) ((bytes_eq-Decides e.0 log).1 (sym named)) ∙ or-true (is_among due e.0))) in
         let narrow : widest due now e ≡ e = ap (λ b. cond b (e.0, longer e.1 now) e) (sym (ap (is_among due) named) ∙ new) in
-        let first : length (line_of (widest later now e)) ≡ length (line_of (widest due now e)) + more =
-        ap (λ (x : Entry). length (line_of x)) wide ∙ (line_grows e.0 e.1 (longer e.1 now) more (subst (λ (x : Civil). length (moment_text (longer x now)) ≡ length (moment_text x) + more) (sym moment) grown) ∙ ap (λ (x : Entry). length (line_of x) + more) (sym narrow)) in
-        let rest : length (flat_map line_of (map (widest later now) es)) ≡ length (flat_map line_of (map (widest due now) es)) = ap (λ (xs : List Entry). length (flat_map line_of xs)) (lacked_same due log now es (ap (λ n. is_some (moment_of es n)) named ∙ alone)) in
+        let first : length (entry_line (widest later now e)) ≡ length (entry_line (widest due now e)) + more =
+        ap (λ (x : Entry). length (entry_line x)) wide ∙ (line_grows e.0 e.1 (longer e.1 now) more (subst (λ (x : Civil). length (moment_text (longer x now)) ≡ length (moment_text x) + more) (sym moment) grown) ∙ ap (λ (x : Entry). length (entry_line x) + more) (sym narrow)) in
+        let rest : length (flat_map entry_line (map (widest later now) es)) ≡ length (flat_map entry_line (map (widest due now) es)) = ap (λ (xs : List Entry). length (flat_map entry_line xs)) (lacked_same due log now es (ap (λ n. is_some (moment_of es n)) named ∙ alone)) in
         let old_sum = lines_length (widest due now e) (map (widest due now) es) in
         let new_sum = lines_length (widest later now e) (map (widest later now) es) in
         omega (arith, first, rest, old_sum, new_sum)
     go false other at next =
-        let first : length (line_of (widest later now e)) ≡ length (line_of (widest due now e)) = ap (λ (x : Entry). length (line_of x)) (other_same due log now e other) in
+        let first : length (entry_line (widest later now e)) ≡ length (entry_line (widest due now e)) = ap (λ (x : Entry). length (entry_line x)) (other_same due log now e other) in
         let rest = next at in
         let old_sum = lines_length (widest due now e) (map (widest due now) es) in
         let new_sum = lines_length (widest later now e) (map (widest later now) es) in

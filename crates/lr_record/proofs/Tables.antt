@@ -2,11 +2,11 @@
 use Rattle.std.proofs.Common.{◌≡◌, ◌∙◌, ap, sym, subst, refl, ⊎_elim, ℕ, ◌+◌, nat_lt, length, Bool, true, false, List, [], ◌∷◌, ◌++◌, None, is_some}
 use Rattle.std.specs.Prelude.{Ok}
 use Rattle.std.specs.List.{slice_split}
-use Rattle.lr_state.specs.Grammar.{Adds, LinesSay, BehindTop, TextLinesSay, SizedTextSays, TextSays, is_top, is_newline}
+use Rattle.lr_state.specs.Grammar.{AddsLine, LinesSay, BehindTop, TextLinesSay, SizedTextSays, TextSays, is_top, is_newline}
 use Rattle.lr_state.specs.Table.{Entry, moment_of, is_table}
 use Rattle.lr_state.proofs.Views.{put-new, table-put}
 
-line_adds : (before : List Entry) (line : List ℕ) (later : List Entry) → is_table before ≡ true → Adds before line later → is_table later ≡ true
+line_adds : (before : List Entry) (line : List ℕ) (later : List Entry) → is_table before ≡ true → AddsLine before line later → is_table later ≡ true
 line_adds before line later table h = ⊎_elim
     (λ e. ap is_table e.1 ∙ table)
     (λ e. ap is_table (e.6 ∙ sym (put-new before e.0 e.2 (ap is_some e.5))) ∙ table-put before e.0 e.2 e.3.1 table)

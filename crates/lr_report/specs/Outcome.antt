@@ -16,8 +16,8 @@ status_of Held = 3
 status_of OutOfMemory = 4
 
 -- all that there is to say of an answer: the lines of its report, or one line
-abbrev pub text_of : Outcome → List ℕ
-text_of (Done report) = lines report.notices report.faults
-text_of BadWords = line (codes "bad command line")
-text_of Held = line (codes "state file is locked")
-text_of OutOfMemory = line (codes "out of memory")
+abbrev pub outcome_text : Outcome → List ℕ
+outcome_text (Done report) = lines report.notices report.faults
+outcome_text BadWords = line (codes "bad command line")
+outcome_text Held = line (codes "state file is locked")
+outcome_text OutOfMemory = line (codes "out of memory")

@@ -2,7 +2,7 @@
 ghost use Rattle.std.specs.Prelude.{◌≡◌, ◌≤◌, ◌⊎◌, OnErr, OnOk};
 ghost use Rattle.lr_host.specs.Told.{Rose};
 ghost use Rattle.lr_report.specs.Lines.{lines};
-ghost use Rattle.lr_report.specs.Outcome.{text_of};
+ghost use Rattle.lr_report.specs.Outcome.{outcome_text};
 ghost use Rattle.lr_report.specs.Puts.{Took, TookPart};
 
 use crate::lines::{put_lines, put_said};
@@ -22,8 +22,8 @@ pub fn put_report<K: Sink>(report: &Report, out: &mut K) -> Result<(), SinkFault
 
 /// Puts all that there is to say of an outcome: the lines of its report, or its one line.
 pub fn put_outcome<K: Sink>(outcome: &Outcome, out: &mut K) -> Result<(), SinkFault>
-    ensures whole { OnOk result (Took (text_of outcome.now) (K.taken out.old) (K.taken out.new)) }
-    ensures part { TookPart (text_of outcome.now) (K.taken out.old) (K.taken out.new) }
+    ensures whole { OnOk result (Took (outcome_text outcome.now) (K.taken out.old) (K.taken out.new)) }
+    ensures part { TookPart (outcome_text outcome.now) (K.taken out.old) (K.taken out.new) }
     ensures cause { OnErr result (Rose (K.faults out.old) (K.faults out.new)) }
     ensures counts { K.faults out.old ≤ K.faults out.new }
 {
@@ -39,8 +39,8 @@ pub fn put_outcome<K: Sink>(outcome: &Outcome, out: &mut K) -> Result<(), SinkFa
 /// report.
 pub fn printed<K: Sink>(outcome: Outcome, out: &mut K) -> Outcome
     ensures same { result ≡ outcome }
-    ensures printed { TookPart (text_of outcome) (K.taken out.old) (K.taken out.new) }
-    ensures whole { Took (text_of outcome) (K.taken out.old) (K.taken out.new) ⊎ Rose (K.faults out.old) (K.faults out.new) }
+    ensures printed { TookPart (outcome_text outcome) (K.taken out.old) (K.taken out.new) }
+    ensures whole { Took (outcome_text outcome) (K.taken out.old) (K.taken out.new) ⊎ Rose (K.faults out.old) (K.faults out.new) }
     ensures counts { K.faults out.old ≤ K.faults out.new }
 {
     let _ = put_outcome(&outcome, out);

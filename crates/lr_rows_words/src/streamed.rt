@@ -1,6 +1,6 @@
 // Items and faults of texts that come in pieces.
 ghost use Rattle.std.specs.Prelude.{◌≡◌, ◌<◌, ◌≤◌, ◌+◌, ◌^◌, false, length};
-ghost use Rattle.lr_stream.specs.Streams.{Stands, given};
+ghost use Rattle.lr_stream.specs.Streams.{StreamStands, given};
 
 use crate::answers::Answer;
 use crate::lex::put_told;
@@ -10,8 +10,8 @@ use std::alloc::Global;
 
 // What is whole so far, 64 items and faults at most.
 fn put_whole(stream: &mut Stream, out: &mut Answer)
-    requires { Stands stream.old }
-    ensures stands { Stands stream.new }
+    requires { StreamStands stream.old }
+    ensures stands { StreamStands stream.new }
     ensures closed { stream.new.closed ≡ stream.old.closed }
     ensures few { given stream.new ≤ given stream.old }
 {
@@ -24,10 +24,10 @@ fn put_whole(stream: &mut Stream, out: &mut Answer)
 }
 
 fn put_piece(stream: &mut Stream, piece: &[u8], out: &mut Answer) -> Result<(), Trouble>
-    requires stands { Stands stream.old }
+    requires stands { StreamStands stream.old }
     requires open { stream.old.closed ≡ false }
     requires few { given stream.old + length piece.now < 2 ^ 32 }
-    ensures stands { Stands stream.new }
+    ensures stands { StreamStands stream.new }
     ensures open { stream.new.closed ≡ false }
     ensures given { given stream.new ≤ given stream.old + length piece.now }
 {
@@ -43,7 +43,7 @@ fn put_pieces(
     size: usize,
     out: &mut Answer,
 ) -> Result<(), Trouble>
-    requires stands { Stands stream.old }
+    requires stands { StreamStands stream.old }
     requires open { stream.old.closed ≡ false }
     requires few { given stream.old + length text.now < 2 ^ 32 }
     requires some { 0 < size }

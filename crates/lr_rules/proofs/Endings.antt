@@ -11,7 +11,7 @@ use Rattle.std.proofs.lemmas.List.Splits.{slice_split-cons_yes, slice_split-cons
 use Rattle.std.proofs.lemmas.Str.{IsUtf8-from_is_utf8, is_utf8-from_IsUtf8, IsUtf8-append, IsUtf8-from_ascii}
 use Rattle.lr_rules.specs.declared.path.PathFault.{PathFault}
 use Rattle.lr_rules.specs.declared.path.PathFault.TheVariants as fault
-use Rattle.lr_rules.specs.Path.{path_fault, has_bad_byte, has_empty_part, has_dot_part, is_absolute, is_bad, is_slash, is_empty, is_dots, parent_of, IsRefusal}
+use Rattle.lr_rules.specs.Path.{path_fault, has_bad_byte, has_empty_part, has_dot_part, is_absolute, is_bad_byte, is_slash, is_empty, is_dots, parent_of, IsRefusal}
 use Rattle.lr_rules.proofs.PathLemmas.{none_of, plain_both, cut_of, absolute_has_slash, last_start_is}
 
 -- What may stand behind a path: a text of at least three bytes, without a slash, a newline and a zero byte.
@@ -116,7 +116,7 @@ module _ (ending : List ℕ) (is : IsEnding ending) where
       let dots = none_of (has_dot_part bs) _ _ full.1 in
       let absolute : is_absolute bs ≡ true = not-false (is_absolute bs) start.0 in
       let utf8 : is_utf8 (bs ++ ending) ≡ true = is_utf8-from_IsUtf8 (bs ++ ending) (IsUtf8-append bs ending (IsUtf8-from_is_utf8 bs (not-false (is_utf8 bs) text.0)) is.text) in
-      no_fault _ _ _ _ _ _ (ap not utf8) (list_any-append is_bad bs ending ∙ or_from (list_any is_bad bs) (list_any is_bad ending) bytes.0 is.good) (le-ltb 4096 (length (bs ++ ending)) (omega (arith, length-append bs ending)))
+      no_fault _ _ _ _ _ _ (ap not utf8) (list_any-append is_bad_byte bs ending ∙ or_from (list_any is_bad_byte bs) (list_any is_bad_byte ending) bytes.0 is.good) (le-ltb 4096 (length (bs ++ ending)) (omega (arith, length-append bs ending)))
       (ap not (still_absolute bs absolute)) (no_empty bs absolute full.0) (no_dots bs absolute dots.0)
 
 -- a refusal is want of memory

@@ -9,7 +9,7 @@ use Rattle.std.proofs.lemmas.List.Folds.{list_any-append}
 use Rattle.std.proofs.lemmas.Str.{IsUtf8-from_is_utf8, is_utf8-from_IsUtf8, IsUtf8-append, IsUtf8-drop, IsUtf8-nil, IsUtf8-from_ascii, IsCharBoundary-after_ascii}
 use Rattle.lr_rules.specs.declared.path.PathFault.{PathFault}
 use Rattle.lr_rules.specs.declared.path.PathFault.TheVariants as fault
-use Rattle.lr_rules.specs.Path.{path_fault, has_bad_byte, has_empty_part, has_dot_part, is_absolute, is_bad, is_slash, is_empty, is_dots, joined}
+use Rattle.lr_rules.specs.Path.{path_fault, has_bad_byte, has_empty_part, has_dot_part, is_absolute, is_bad_byte, is_slash, is_empty, is_dots, joined}
 use Rattle.lr_rules.proofs.PathLemmas.{at_slash, no_text}
 use Rattle.lr_rules.proofs.ParentPath.{is_path, split_both}
 
@@ -90,7 +90,7 @@ tests_by (x ∷ y ∷ zs) n false e none =
     let p = is_path (x ∷ y ∷ zs) none in
     record {
       text = text_behind (x ∷ y ∷ zs) n p.text;
-      bytes = any_behind is_bad (x ∷ y ∷ zs) (47 ∷ n) p.bytes;
+      bytes = any_behind is_bad_byte (x ∷ y ∷ zs) (47 ∷ n) p.bytes;
       absolute = p.absolute;
       full = parts_behind is_empty (y ∷ zs) n p.full ∙ lacks_other n;
       dots = parts_behind is_dots (y ∷ zs) n p.no_dots;

@@ -10,7 +10,7 @@ use Rattle.std.specs.Prelude.{IsUtf8}
 use Rattle.std.specs.Str.{is_utf8}
 use Rattle.std.proofs.lemmas.Str.{IsUtf8-from_is_utf8, is_utf8-from_IsUtf8, IsUtf8-take, IsUtf8-from_ascii, IsCharBoundary-before_ascii}
 use Rattle.lr_rules.specs.declared.path.PathFault.{PathFault}
-use Rattle.lr_rules.specs.Path.{path_fault, is_slash, is_bad, is_absolute, parent_of, has_bad_byte, has_empty_part, has_dot_part, is_empty, is_dots}
+use Rattle.lr_rules.specs.Path.{path_fault, is_slash, is_bad_byte, is_absolute, parent_of, has_bad_byte, has_empty_part, has_dot_part, is_empty, is_dots}
 use Rattle.lr_rules.proofs.PathLemmas.{last_start_is, cut_of, none_of, at_slash, parent_front, absolute_has_slash}
 
 -- ---- the parts before a slash
@@ -94,7 +94,7 @@ path_front (x ∷ xs) n some none =
     let longer = length-append (x ∷ xs) (47 ∷ n) in
     has_none (x ∷ xs) (record {
       text = text_front (x ∷ xs) n p.text;
-      bytes = any_front is_bad (x ∷ xs) (47 ∷ n) p.bytes;
+      bytes = any_front is_bad_byte (x ∷ xs) (47 ∷ n) p.bytes;
       size = not_longer (length (x ∷ xs)) (length ((x ∷ xs) ++ 47 ∷ n)) (omega arith) p.size;
       absolute = p.absolute;
       full = full_front x xs n p.full;

@@ -17,7 +17,7 @@ use Rattle.lr_rules.specs.declared.rule.Piece.TheVariants as piece
 use Rattle.lr_rules.specs.declared.rule.Rule.{Rule}
 use Rattle.lr_rules.specs.Match.{is_wildcard, literal_path, part_end}
 use Rattle.lr_rules.specs.Names.{path_from, ends_with}
-use Rattle.lr_rules.specs.Path.{last_of, is_bad, is_slash, is_absolute, has_bad_byte, has_empty_part, has_dot_part}
+use Rattle.lr_rules.specs.Path.{last_of, is_bad_byte, is_slash, is_absolute, has_bad_byte, has_empty_part, has_dot_part}
 
 -- ---- words
 
@@ -106,7 +106,7 @@ times k (p ∷ pieces) = if is_rank k p then 1 + times k pieces else times k pie
 
 -- a byte that stands for itself
 abbrev pub is_plain_piece : Piece → Bool
-is_plain_piece (piece.Byte b) = not (b == 37 || (is_slash b || is_bad b))
+is_plain_piece (piece.Byte b) = not (b == 37 || (is_slash b || is_bad_byte b))
 is_plain_piece (piece.Field f) = true
 
 -- the letter of a field

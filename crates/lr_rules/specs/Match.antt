@@ -67,14 +67,14 @@ pub data PathMatches : List ℕ → List ℕ → Type 0 where
       → Matches true (chars part) (chars name) → PathMatches parts names → PathMatches pattern path
 
 -- it stands for other characters where no backslash is before it
-abbrev pub is_sign : ℕ → Bool
-is_sign c = c == 42 || c == 63 || c == 91
+abbrev pub is_wild_sign : ℕ → Bool
+is_wild_sign c = c == 42 || c == 63 || c == 91
 
 -- one of these is such a sign; the first is escaped where `is_escaped` holds
 abbrev pub has_sign : Bool → List ℕ → Bool
 has_sign is_escaped [] = false
 has_sign true (c ∷ cs) = has_sign false cs
-has_sign false (c ∷ cs) = is_sign c || has_sign (c == 92) cs
+has_sign false (c ∷ cs) = is_wild_sign c || has_sign (c == 92) cs
 
 -- the word is a wildcard; any other is literal
 abbrev pub is_wildcard : List ℕ → Bool

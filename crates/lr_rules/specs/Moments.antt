@@ -5,7 +5,7 @@ use Rattle.lr_rules.specs.declared.rule.Piece.{Piece}
 use Rattle.lr_rules.specs.Civil.{IsMoment, moment_seconds}
 use Rattle.lr_rules.specs.declared.stamp_parts.StampParts.{StampParts}
 use Rattle.lr_rules.specs.StampParts.{least}
-use Rattle.lr_rules.specs.Stamps.{is_in, IsReading}
+use Rattle.lr_rules.specs.Stamps.{is_in, IsStampReading}
 
 -- the parts are those of a moment of the calendar
 abbrev pub AreOfMoment : StampParts → Type 0
@@ -22,6 +22,6 @@ seconds_by pieces p = if is_in field.Epoch pieces then pos p.epoch else civil_se
 -- these.
 pub record IsStamp (pieces : List Piece) (seconds : ℤ) (bytes : List ℕ) : Type 0 where
   pub parts : StampParts
-  pub reading : IsReading pieces least parts bytes
+  pub reading : IsStampReading pieces least parts bytes
   pub moment : AreOfMoment parts
   pub is : seconds ≡ seconds_by pieces parts

@@ -22,8 +22,8 @@ abbrev pub is_step : List ℕ → Bool
 is_step part = not (is_empty part || bytes_eq part (46 ∷ []))
 
 -- the parts of a word, without empty ones and `.`
-abbrev pub steps_of : List ℕ → List (List ℕ)
-steps_of word = filter is_step (slice_split is_slash word)
+abbrev pub word_parts : List ℕ → List (List ℕ)
+word_parts word = filter is_step (slice_split is_slash word)
 
 -- the path of these parts
 abbrev pub path_by : List (List ℕ) → List ℕ
@@ -32,7 +32,7 @@ path_by (part ∷ parts) = flat_map (λ name. 47 ∷ name) (part ∷ parts)
 
 -- the path of a word; a relative one goes on from a directory
 abbrev pub path_from : Path → List ℕ → List ℕ
-path_from here word = cond (is_absolute word) (path_by (steps_of word)) (path_by (steps_of here ++ steps_of word))
+path_from here word = cond (is_absolute word) (path_by (word_parts word)) (path_by (word_parts here ++ word_parts word))
 
 -- the directory of the family: that of the log, or `olddir`, from there on
 abbrev pub family_dir : Path → Option (List ℕ) → List ℕ

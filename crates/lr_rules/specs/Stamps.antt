@@ -42,7 +42,7 @@ is_in f (piece.Byte b ∷ pieces) = is_in f pieces
 is_in f (piece.Field g ∷ pieces) = same_field f g || is_in f pieces
 
 -- The bytes are the text of the pieces with these values. Fields that don't stand among the pieces have those that they had before.
-pub record IsReading (pieces : List Piece) (before p : StampParts) (bytes : List ℕ) : Type 0 where
+pub record IsStampReading (pieces : List Piece) (before p : StampParts) (bytes : List ℕ) : Type 0 where
   pub text : bytes ≡ stamp_text p pieces
   pub small : (f : Field) → is_in f pieces ≡ true → part p f < bound f
   pub rest : (f : Field) → is_in f pieces ≡ false → part p f ≡ part before f

@@ -26,7 +26,7 @@ use Rattle.lr_plan.specs.Done.{rotated_logs}
 use Rattle.lr_plan.specs.Planned.{decision}
 use Rattle.lr_plan.specs.Steps.{steps_of_set, steps_of_plan}
 use Rattle.lr_acts.specs.Making.{all_of_sets}
-use Rattle.lr_acts.specs.Named.{IsNamed, OneCreates, LastsBehind, IsCreated, TellCreated, KeepsNames}
+use Rattle.lr_acts.specs.Named.{PathIsNamed, OneCreates, LastsBehind, IsCreated, TellCreated, KeepsNames}
 use Rattle.lr_looks.specs.Shown.{ShowsLooks, LooksAtAll}
 use Rattle.lr_laws_targets.proofs.LogSeen.{log_among}
 use Rattle.lr_reading.specs.declared.remembered.Remembered.{Remembered}
@@ -42,7 +42,7 @@ use Rattle.lr_state.specs.Written.{text_of}
 use Rattle.lr_laws_targets.specs.Target.{Target}
 use Rattle.lr_weave.specs.Planned.{AreReadyFor}
 use Rattle.lr_record.specs.After.{after}
-use Rattle.lr_run.specs.Internal.{plan_for, steps_behind}
+use Rattle.lr_run.specs.Internal.{plan_for, steps_of_writing}
 use Rattle.lr_run.specs.Work.{Acts}
 use Rattle.lr_run.proofs.Keeping.{writing_keeps}
 use Rattle.lr_run.proofs.Lasting.{plan_lasts, created_among}
@@ -83,11 +83,11 @@ module _ (state : Path) (rules : Rules) (looks : Looks) (remembered : Remembered
   abbrev decide : Rule → LogLook → Due
   decide = decision remembered.table clock.now asked.force
 
-  untold : {P : List Entry → Type 0} {n : Option Journal} → Left P None n → (x : Path) → IsNamed x n
+  untold : {P : List Entry → Type 0} {n : Option Journal} → Left P None n → (x : Path) → PathIsNamed x n
   untold not_told x = tt
 
   pub anew_named : (a b : List Fault) {P : List Entry → Type 0} {o m n middle : Option Journal} → Left (LooksAtAll (reserved_by state) rules.sets looks a b) o m → Left P m n → KeepsNames (all_of_sets (steps_of_plan planned)) acts.marks m middle
-      → Left (Course (steps_behind state looks remembered clock acts) [] acts.of_state) middle n → (x : Path) → IsIn (mark.Created x) acts.marks → IsNamed x n
+      → Left (Course (steps_of_writing state looks remembered clock acts) [] acts.of_state) middle n → (x : Path) → IsIn (mark.Created x) acts.marks → PathIsNamed x n
   anew_named a b not_told did names wrote x i = untold did x
   anew_named a b {n = n} {middle = middle} (is_told {es = es} made g) did names wrote x i =
       writing_keeps state remembered.stale acts.dirs (text_of (after remembered.table (rotated_logs acts.marks) looks.kept clock.now.civil)) acts.of_state x (out state (inl refl)) (out (state ++ codes ".tmp") (inr (inl refl))) wrote

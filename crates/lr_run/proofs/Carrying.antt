@@ -24,7 +24,7 @@ use Rattle.lr_plan.specs.Cut.{SetsCut}
 use Rattle.lr_plan.specs.Steps.{state_steps}
 use Rattle.lr_host.proofs.Counts.{counted_on}
 use Rattle.lr_acts.specs.declared.progress.Progress.{Progress}
-use Rattle.lr_acts.specs.Adding.{Adds}
+use Rattle.lr_acts.specs.Adding.{AddsSteps}
 use Rattle.lr_acts.specs.Making.{all_of_sets}
 use Rattle.lr_acts.proofs.Taking.{taken_on}
 use Rattle.lr_record.specs.After.{is_among, stamped}
@@ -80,7 +80,7 @@ behind_of ready before marks items dirs is behind = subst (λ (ms : List Mark). 
 abbrev Text : Ready → Civil → Progress → ℕ → List ℕ
 Text ready now y before = text_of (map (stamped (rotated_logs (drop before y.marks.items)) now) ready.table)
 
-module _ (ready : Ready) (x y : Progress) (before : ℕ) (dirs : List Path) (o m : Option Journal) (j k : Counts) (is : before ≡ length x.marks.items) (a : Adds (SetsDone ready.steps) (all_of_sets ready.steps) x y o m j k)
+module _ (ready : Ready) (x y : Progress) (before : ℕ) (dirs : List Path) (o m : Option Journal) (j k : Counts) (is : before ≡ length x.marks.items) (a : AddsSteps (SetsDone ready.steps) (all_of_sets ready.steps) x y o m j k)
     (behind : AreBehind ready (drop before y.marks.items) dirs) where
   own : drop before y.marks.items ≡ a.marks
   own = ap (drop before) a.marks_are ∙ (ap (λ (i : ℕ). drop i (x.marks.items ++ a.marks)) is ∙ drop-append_seam x.marks.items a.marks)
@@ -116,6 +116,6 @@ module _ (ready : Ready) (x y : Progress) (before : ℕ) (dirs : List Path) (o m
 
 -- ---- a first part of the acts
 
-pub some_acts : {T E : Type 0} (r : Result T E) (steps : List SetSteps) {all : List Step} {x y : Progress} {o n : Option Journal} {j k : Counts} → Adds (SetsCut steps) all x y o n j k → OnErr r (Left (SomeActs steps) o n)
+pub some_acts : {T E : Type 0} (r : Result T E) (steps : List SetSteps) {all : List Step} {x y : Progress} {o n : Option Journal} {j k : Counts} → AddsSteps (SetsCut steps) all x y o n j k → OnErr r (Left (SomeActs steps) o n)
 some_acts (Ok u) steps a = tt
 some_acts (Err u) steps a = left_as a.entries (λ ts h. record { marks = a.marks; faults = a.faults; part = h })

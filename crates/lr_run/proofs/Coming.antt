@@ -26,7 +26,7 @@ use Rattle.lr_plan.specs.Course.{Course}
 use Rattle.lr_plan.specs.Done.{SetsDone, rotated_logs}
 use Rattle.lr_plan.specs.Steps.{steps_of_plan, state_steps}
 use Rattle.lr_acts.specs.Making.{all_of_sets}
-use Rattle.lr_acts.specs.Taken.{Spares}
+use Rattle.lr_acts.specs.Taken.{SparesPath}
 use Rattle.lr_acts.proofs.Taking.{taken_later, taken_before}
 use Rattle.lr_looks.specs.Shown.{LooksAtAll}
 use Rattle.lr_reading.specs.declared.remembered.Remembered.{Remembered}
@@ -37,7 +37,7 @@ use Rattle.lr_state.specs.Table.{Entry as Row}
 use Rattle.lr_state.specs.Written.{text_of}
 use Rattle.lr_looks.specs.Reserved.{reserved_by}
 use Rattle.lr_synced.specs.Synced.{AreSynced}
-use Rattle.lr_run.specs.Internal.{plan_for, steps_behind, ActsBy, outgrew, acted, Carries, CameTo, WorksTo, SeesTooBig, LooksAndActs, saw_too_big, came_to, IsBehind, ReadsText, WorksOn, knows_none, knows, EndsWork, Begun, Goes, begun}
+use Rattle.lr_run.specs.Internal.{plan_for, steps_of_writing, ActsBy, outgrew, acted, Carries, CameTo, WorksTo, SeesTooBig, LooksAndActs, saw_too_big, came_to, IsKnownBefore, KnowsText, WorksOn, knows_none, knows, EndsWork, Begun, Goes, begun}
 use Rattle.lr_run.specs.Ran.{TellsNames, TellsNamesOf}
 use Rattle.lr_run.specs.Runs.{logs_in}
 use Rattle.lr_run.specs.Saw.{Saw, ShowsSets, ShowsStateText}
@@ -66,7 +66,7 @@ module _ (state : Path) (rules : Rules) (looks : Looks) (remembered : Remembered
   planned = plan_for rules looks remembered clock asked
 
   abbrev Looked : Option Work → List Entry → Type 0
-  Looked = LooksAndActs (IsBehind remembered) state rules.sets clock asked plan a c
+  Looked = LooksAndActs (IsKnownBefore remembered) state rules.sets clock asked plan a c
 
   module _ (seen did : List Entry) (g : LooksAtAll (reserved_by state) rules.sets looks a b seen) where
     abbrev sees : Saw
@@ -92,7 +92,7 @@ module _ (state : Path) (rules : Rules) (looks : Looks) (remembered : Remembered
     })
 
     looked_worked : (acts : Acts) → plan ≡ Some planned → c ≡ b ++ (planned.faults ++ act_faults acts) → length (measured looks.kept) ≤ 67_108_864 → AreSynced planned.sets acts.marks acts.dirs
-        → Then (SetsDone (steps_of_plan planned) acts.marks acts.of_logs) (Course (steps_behind state looks remembered clock acts) [] acts.of_state) did → Looked (Some (work_of acts)) (seen ++ did)
+        → Then (SetsDone (steps_of_plan planned) acts.marks acts.of_logs) (Course (steps_of_writing state looks remembered clock acts) [] acts.of_state) did → Looked (Some (work_of acts)) (seen ++ did)
     looked_worked acts is e small dirs t = came_to (work_of acts) refl (record {
       plan_is = is;
       faults_are = later (planned.faults ++ act_faults acts) e;
@@ -106,7 +106,7 @@ module _ (state : Path) (rules : Rules) (looks : Looks) (remembered : Remembered
       };
     })
 
-    names_of : (acts : Acts) {m n : Option Journal} → TellsNames acts.marks (all_of_sets (steps_of_plan planned) ++ steps_behind state looks remembered clock acts) (planned.faults ++ act_faults acts) m n → TellsNamesOf state clock (work_of acts) m n
+    names_of : (acts : Acts) {m n : Option Journal} → TellsNames acts.marks (all_of_sets (steps_of_plan planned) ++ steps_of_writing state looks remembered clock acts) (planned.faults ++ act_faults acts) m n → TellsNamesOf state clock (work_of acts) m n
     names_of acts {m} {n} t = subst (λ (ks : List Path). TellsNames acts.marks (all_of_sets (steps_of_plan planned) ++ state_steps state remembered.stale acts.dirs (text_of (after remembered.table (rotated_logs acts.marks) ks clock.now.civil))) (planned.faults ++ act_faults acts) m n) g.kept_are t
 
   looked_so : {o m n : Option Journal} → Left (LooksAtAll (reserved_by state) rules.sets looks a b) o m → Carries state rules looks remembered clock asked plan b c m n → CameTo Looked state clock o n
@@ -114,7 +114,7 @@ module _ (state : Path) (rules : Rules) (looks : Looks) (remembered : Remembered
   looked_so (is_told {j = i} {k = j} {es = es} made g) h = go h.acts h.shows h.names
     where
       go : (acts : Option Acts) {n : Option Journal} → Left (ActsBy state rules looks remembered clock asked plan b c acts) (Some j) n
-          → ((v : Acts) → acts ≡ Some v → TellsNames v.marks (all_of_sets (steps_of_plan planned) ++ steps_behind state looks remembered clock v) (planned.faults ++ act_faults v) (Some j) n) → CameTo Looked state clock (Some i) n
+          → ((v : Acts) → acts ≡ Some v → TellsNames v.marks (all_of_sets (steps_of_plan planned) ++ steps_of_writing state looks remembered clock v) (planned.faults ++ act_faults v) (Some j) n) → CameTo Looked state clock (Some i) n
       go acts (is_told {k = k} {es = fs} made' (outgrew none gone e big nothing)) names = record {
         work = None;
         shows = both_told (Looked None) i j k made made' (looked_too_big (reverse es) (reverse fs) g none e big nothing);
@@ -128,7 +128,7 @@ module _ (state : Path) (rules : Rules) (looks : Looks) (remembered : Remembered
       }
 
 pub looked_done : {T E : Type 0} (r : Result T E) (state : Path) (rules : Rules) (looks : Looks) (remembered : Remembered) (clock : Clock) (asked : Asked) (plan : Option Plan) (a b c : List Fault) {o m : Option Journal} (n : Option Journal) → Left (LooksAtAll (reserved_by state) rules.sets looks a b) o m
-    → OnOk r (Carries state rules looks remembered clock asked plan b c m n) → OnOk r (CameTo (LooksAndActs (IsBehind remembered) state rules.sets clock asked plan a c) state clock o n)
+    → OnOk r (Carries state rules looks remembered clock asked plan b c m n) → OnOk r (CameTo (LooksAndActs (IsKnownBefore remembered) state rules.sets clock asked plan a c) state clock o n)
 looked_done (Ok u) state rules looks remembered clock asked plan a b c n l h = looked_so state rules looks remembered clock asked plan a b c l h
 looked_done (Err u) state rules looks remembered clock asked plan a b c n l h = tt
 
@@ -146,7 +146,7 @@ module _ (state : Path) (rules : List Rule) (clock : Clock) (asked : Asked) (rem
   Worked = WorksOn state rules clock asked plan a b
 
   module _ (reads ts : List Entry) (t : KnownText state remembered reads) where
-    read_so : (saw : Saw) (before : List Entry) → IsBehind remembered saw before → ReadsText state (with_text t.text saw) reads
+    read_so : (saw : Saw) (before : List Entry) → IsKnownBefore remembered saw before → KnowsText state (with_text t.text saw) reads
     read_so saw before h = record {
       shown = subst (λ stale. ShowsStateText state t.text stale reads) (sym h.1) t.shown;
       says = subst (λ (table : List Row). TextSaysOnly t.text (Ok table)) (sym h.0) t.says;
@@ -156,7 +156,7 @@ module _ (state : Path) (rules : List Rule) (clock : Clock) (asked : Asked) (rem
     without : (before rest : List Entry) → before ≡ [] → ts ≡ before ++ rest → reads ++ ts ≡ reads ++ rest
     without before rest none e = ap (λ us. reads ++ us) (e ∙ ap (λ us. us ++ rest) none)
 
-    read_too_big : (saw : Saw) → plan ≡ None → b ≡ a ++ (saw.faults ++ fault.State 0 kind.TooBig ∷ []) → SeesTooBig (IsBehind remembered) state rules clock asked saw ts → Worked None (reads ++ ts)
+    read_too_big : (saw : Saw) → plan ≡ None → b ≡ a ++ (saw.faults ++ fault.State 0 kind.TooBig ∷ []) → SeesTooBig (IsKnownBefore remembered) state rules clock asked saw ts → Worked None (reads ++ ts)
     read_too_big saw none e s = knows (saw_too_big (with_text t.text saw) none refl e (record {
       reads = reads;
       looks = s.looks;
@@ -166,7 +166,7 @@ module _ (state : Path) (rules : List Rule) (clock : Clock) (asked : Asked) (rem
       big = s.big;
     }))
 
-    read_worked : (w : Work) → WorksTo (IsBehind remembered) state rules clock asked plan a b w ts → Worked (Some (with_reads t.text reads w)) (reads ++ ts)
+    read_worked : (w : Work) → WorksTo (IsKnownBefore remembered) state rules clock asked plan a b w ts → Worked (Some (with_reads t.text reads w)) (reads ++ ts)
     read_worked w h = knows (came_to (with_reads t.text reads w) refl (record {
       plan_is = h.plan_is;
       faults_are = h.faults_are;
@@ -177,14 +177,14 @@ module _ (state : Path) (rules : List Rule) (clock : Clock) (asked : Asked) (rem
       done = record { dirs = h.done.dirs; entries = h.done.entries };
     }))
 
-  known_so : {o m n : Option Journal} → Left (ReadsState state 65_536 (Ok (Ok remembered))) o m → CameTo (LooksAndActs (IsBehind remembered) state rules clock asked plan a b) state clock m n → CameTo Worked state clock o n
+  known_so : {o m n : Option Journal} → Left (ReadsState state 65_536 (Ok (Ok remembered))) o m → CameTo (LooksAndActs (IsKnownBefore remembered) state rules clock asked plan a b) state clock m n → CameTo Worked state clock o n
   known_so not_told h = none_told Worked state clock h.shows
   known_so (is_told {j = i} {k = j} {es = es} made p) h = go h.work h.shows h.names
     where
       t : KnownText state remembered (reverse es)
       t = known_text state remembered p.sights (reverse es) p.known p.shown
 
-      go : (work : Option Work) {n : Option Journal} → Left (LooksAndActs (IsBehind remembered) state rules clock asked plan a b work) (Some j) n → ((w : Work) → work ≡ Some w → TellsNamesOf state clock w (Some j) n) → CameTo Worked state clock (Some i) n
+      go : (work : Option Work) {n : Option Journal} → Left (LooksAndActs (IsKnownBefore remembered) state rules clock asked plan a b work) (Some j) n → ((w : Work) → work ≡ Some w → TellsNamesOf state clock w (Some j) n) → CameTo Worked state clock (Some i) n
       go work (is_told {k = k} {es = fs} made' (saw_too_big was none gone e s)) names = record {
         work = None;
         shows = both_told (Worked None) i j k made made' (read_too_big (reverse es) (reverse fs) t was none e s);
@@ -198,7 +198,7 @@ module _ (state : Path) (rules : List Rule) (clock : Clock) (asked : Asked) (rem
       }
 
 pub known_done : {T E : Type 0} (r : Result T E) (state : Path) (rules : List Rule) (clock : Clock) (asked : Asked) (remembered : Remembered) (plan : Option Plan) (a b : List Fault) {o m : Option Journal} (n : Option Journal) → Left (ReadsState state 65_536 (Ok (Ok remembered))) o m
-    → OnOk r (CameTo (LooksAndActs (IsBehind remembered) state rules clock asked plan a b) state clock m n) → OnOk r (CameTo (WorksOn state rules clock asked plan a b) state clock o n)
+    → OnOk r (CameTo (LooksAndActs (IsKnownBefore remembered) state rules clock asked plan a b) state clock m n) → OnOk r (CameTo (WorksOn state rules clock asked plan a b) state clock o n)
 known_done (Ok u) state rules clock asked remembered plan a b n l h = known_so state rules clock asked remembered plan a b l h
 known_done (Err u) state rules clock asked remembered plan a b n l h = tt
 
@@ -218,7 +218,7 @@ work_ended (Ok x) state rules clock asked plan a b o h k = record {
   shows = left_as (left_both h.shows k) (λ ts t. t);
   names = λ w is. record {
     named = λ x i. end_keeps x k ((h.names w is).named x i);
-    taken = λ x last i. taken_before x ((h.names w is).taken x last i) (left_as k (λ ts e. subst (Each (Spares x)) (sym e) (tt, tt)));
+    taken = λ x last i. taken_before x ((h.names w is).taken x last i) (left_as k (λ ts e. subst (Each (SparesPath x)) (sym e) (tt, tt)));
   };
 }
 work_ended (Err x) state rules clock asked plan a b o h k = tt

@@ -17,13 +17,13 @@ use Rattle.lr_host.specs.Steps.{is_change}
 use Rattle.lr_host.specs.Told.{Each, IsTools}
 use Rattle.lr_host.proofs.Quiet.{no_disk_change}
 use Rattle.lr_laws.specs.Follow.{changed_paths}
-use Rattle.lr_durable.specs.Renewing.{IsAsideOf, IsWithin}
+use Rattle.lr_durable.specs.Renewing.{LeavesAlone, IsWithinDirs}
 use Rattle.lr_durable.specs.StateWhole.{renamed_paths}
 use Rattle.lr_family.specs.declared.stand.Member.{Member}
 use Rattle.lr_chain.specs.declared.ready.Ready.{Ready}
 use Rattle.lr_chain.specs.Prepared.{ready_by, ready_of}
 use Rattle.lr_laws_targets.specs.AllTurns.{IsItsDir, IsOf, IsOfSome}
-use Rattle.lr_laws_targets.specs.Apart.{HasNames, HaveNames}
+use Rattle.lr_laws_targets.specs.Apart.{HasNames, TargetsHaveNames}
 use Rattle.lr_laws_targets.specs.Own.{MakesItsDir, IsOfFamily}
 use Rattle.lr_laws_targets.specs.Seen.{IsLogSeen}
 use Rattle.lr_laws_targets.specs.Target.{Target, IsReadyBy}
@@ -59,10 +59,10 @@ renamed_changed _ x i = absurd i
 not_in : (x : Path) (xs : List Path) → xs ≡ [] → IsIn x xs → ⊥
 not_in x xs e i = let none : IsIn x [] = subst (λ (ys : List Path). IsIn x ys) e i in none
 
-pub none_aside : (x : Path) (e : Entry) → changed_paths e ≡ [] → IsAsideOf x e
+pub none_aside : (x : Path) (e : Entry) → changed_paths e ≡ [] → LeavesAlone x e
 none_aside x e h i = not_in x (changed_paths e) h i
 
-pub none_within : (part : Path) (dirs : List Path) (e : Entry) → changed_paths e ≡ [] → IsWithin part dirs e
+pub none_within : (part : Path) (dirs : List Path) (e : Entry) → changed_paths e ≡ [] → IsWithinDirs part dirs e
 none_within part dirs e h x i = absurd (not_in x (changed_paths e) h (renamed_changed e x i))
 
 -- what holds of the changes among entries, and of the others
@@ -131,7 +131,7 @@ log_placed rules clock looks t l =
 
 -- ---- a change of the acts and the state
 
-pub some_aside : (state : Path) (ts : List Target) (e : Entry) → HaveNames ts → AreFreeOf (reserved_by state) ts → IsOfSome ts e → IsAsideOf state e
+pub some_aside : (state : Path) (ts : List Target) (e : Entry) → TargetsHaveNames ts → AreFreeOf (reserved_by state) ts → IsOfSome ts e → LeavesAlone state e
 some_aside state [] e h free i = absurd i
 some_aside state (t ∷ ts) e h free (inl i) = λ changed. free.0 state (inl refl) (any_change t e h.0 i state changed)
 some_aside state (t ∷ ts) e h free (inr i) = some_aside state ts e h.1 free.1 i

@@ -29,9 +29,9 @@ use Rattle.lr_acts.specs.Named.{KeepsNames}
 use Rattle.lr_acts.specs.Taken.{TakenOnly}
 use Rattle.lr_reading.specs.declared.remembered.Remembered.{Remembered}
 use Rattle.lr_record.proofs.After.{stamps}
-use Rattle.lr_writing.specs.Target.{Target}
+use Rattle.lr_writing.specs.Target.{StateTarget}
 use Rattle.lr_run.specs.declared.ready.Ready.{Ready}
-use Rattle.lr_run.specs.Internal.{ReadyFor, SeenBefore, ActsAndWrites, writing_steps, plan_for, measured_for, steps_behind, ActsBy, outgrew, acted, Carries}
+use Rattle.lr_run.specs.Internal.{ReadyFor, SeenBefore, ActsAndWrites, writing_steps, plan_for, measured_for, steps_of_writing, ActsBy, outgrew, acted, Carries}
 use Rattle.lr_run.specs.Ran.{TellsNames}
 use Rattle.lr_run.specs.Work.{Acts, act_faults}
 use Rattle.lr_run.proofs.Anew.{anew_named}
@@ -44,30 +44,30 @@ module _ (state : Path) (rules : Rules) (looks : Looks) (remembered : Remembered
   abbrev planned : Plan
   planned = plan_for rules looks remembered clock asked
 
-  behind : writing_steps ready.writing ready.table clock.now.civil h.acts ≡ steps_behind state looks remembered clock h.acts
+  behind : writing_steps ready.writing ready.table clock.now.civil h.acts ≡ steps_of_writing state looks remembered clock h.acts
   behind =
-      ap (λ (w : Target). writing_steps w ready.table clock.now.civil h.acts) r.is.writes
+      ap (λ (w : StateTarget). writing_steps w ready.table clock.now.civil h.acts) r.is.writes
       ∙ (ap (λ (rows : List Row). writing_steps (record { state = state; stale = remembered.stale }) rows clock.now.civil h.acts) r.is.table_is
       ∙ ap (λ (rows : List Row). state_steps state remembered.stale h.acts.dirs (text_of rows)) (sym (stamps remembered.table (rotated_logs h.acts.marks) looks.kept clock.now.civil)))
 
-  did : Left (Then (SetsDone (steps_of_plan planned) h.acts.marks h.acts.of_logs) (Course (steps_behind state looks remembered clock h.acts) [] h.acts.of_state)) m n
+  did : Left (Then (SetsDone (steps_of_plan planned) h.acts.marks h.acts.of_logs) (Course (steps_of_writing state looks remembered clock h.acts) [] h.acts.of_state)) m n
   did = subst (λ (ss : List Step). Left (Then (SetsDone (steps_of_plan planned) h.acts.marks h.acts.of_logs) (Course ss [] h.acts.of_state)) m n) behind
       (subst (λ (ss : List SetSteps). Left (Then (SetsDone ss h.acts.marks h.acts.of_logs) (Course (writing_steps ready.writing ready.table clock.now.civil h.acts) [] h.acts.of_state)) m n) r.is.steps h.entries)
 
-  wrote : Left (Course (steps_behind state looks remembered clock h.acts) [] h.acts.of_state) h.middle n
+  wrote : Left (Course (steps_of_writing state looks remembered clock h.acts) [] h.acts.of_state) h.middle n
   wrote = subst (λ (ss : List Step). Left (Course ss [] h.acts.of_state) h.middle n) behind h.wrote
 
   named : KeepsNames (all_of_sets (steps_of_plan planned)) h.acts.marks m h.middle
   named = subst (λ (ss : List SetSteps). KeepsNames (all_of_sets ss) h.acts.marks m h.middle) r.is.steps h.names
 
-  taken : TakenOnly (all_of_sets (steps_of_plan planned) ++ steps_behind state looks remembered clock h.acts) (act_faults h.acts) m n
+  taken : TakenOnly (all_of_sets (steps_of_plan planned) ++ steps_of_writing state looks remembered clock h.acts) (act_faults h.acts) m n
   taken = subst (λ (ss : List Step). TakenOnly (all_of_sets (steps_of_plan planned) ++ ss) (act_faults h.acts) m n) behind
       (subst (λ (ss : List SetSteps). TakenOnly (all_of_sets ss ++ writing_steps ready.writing ready.table clock.now.civil h.acts) (act_faults h.acts) m n) r.is.steps h.taken)
 
   faults_are : z.faults.items ≡ x.faults.items ++ (planned.faults ++ act_faults h.acts)
   faults_are = h.faults_are ∙ (ap (λ (fs : List Fault). fs ++ act_faults h.acts) r.is.faults ∙ append_assoc x.faults.items planned.faults (act_faults h.acts))
 
-  tells : SeenBefore state rules looks remembered m → TellsNames h.acts.marks (all_of_sets (steps_of_plan planned) ++ steps_behind state looks remembered clock h.acts) (planned.faults ++ act_faults h.acts) m n
+  tells : SeenBefore state rules looks remembered m → TellsNames h.acts.marks (all_of_sets (steps_of_plan planned) ++ steps_of_writing state looks remembered clock h.acts) (planned.faults ++ act_faults h.acts) m n
   tells seen = record {
     named = λ path i. anew_named state rules looks remembered clock asked h.acts seen.faults seen.all_faults seen.looked did named wrote path i;
     taken = λ path last i. ⊎_elim (λ a. hindered_taken state rules looks remembered clock asked h.acts seen.faults seen.all_faults seen.looked did path a) (λ b. taken.taken path last b) (in_append (fault.Taken path) planned.faults (act_faults h.acts) i);
@@ -77,7 +77,7 @@ module _ (state : Path) (rules : Rules) (looks : Looks) (remembered : Remembered
   carries plan is seen = record {
     acts = Some h.acts;
     shows = left_as did (λ ts t. acted h.acts is refl faults_are r.small (h.dirs_are planned.sets r.is.directories) t);
-    names = λ a e. subst (λ (b : Acts). TellsNames b.marks (all_of_sets (steps_of_plan planned) ++ steps_behind state looks remembered clock b) (planned.faults ++ act_faults b) m n) (same_Some h.acts a e) (tells seen);
+    names = λ a e. subst (λ (b : Acts). TellsNames b.marks (all_of_sets (steps_of_plan planned) ++ steps_of_writing state looks remembered clock b) (planned.faults ++ act_faults b) m n) (same_Some h.acts a e) (tells seen);
   }
 
 -- ---- by the answer

@@ -20,7 +20,7 @@ use Rattle.lr_emptied.specs.Emptied.{EmptiesCopied}
 use Rattle.lr_emptied.proofs.Entries.{quiet_empties}
 use Rattle.lr_seen.proofs.Quiet.{whole_looking, part_looking}
 use Rattle.lr_run.specs.declared.answer.RunStop.TheVariants as stop
-use Rattle.lr_run.specs.Answers.{Leaves, Lacks}
+use Rattle.lr_run.specs.Answers.{RunLeaves, Lacks}
 use Rattle.lr_run.specs.Copied.{IsCopyBy}
 use Rattle.lr_run.specs.Dry.{Plans, PlansBy, unknown, known, Tries, unseen, not_directory, by_none, by_state, LacksTry, before_all, amid_looks, amid_state}
 use Rattle.lr_run.specs.Runs.{of_looks}
@@ -53,7 +53,7 @@ module _ (P : Entry → Type 0) (look : (x : Path) (seen : Option Seen) → P (e
 -- ---- a run that is dry, or isn't
 
 -- each log that it empties it copied just before
-pub leaves_copied : (debug : Bool) (state : Path) (rules : Rules) (clock : Clock) (asked : Asked) → (plan : Option Plan) (own : List Fault) (ts : List Entry) → AreMade ts → Leaves debug state asked clock rules plan own ts → EmptiesCopied (IsCopyBy rules.sets clock) ts
+pub leaves_copied : (debug : Bool) (state : Path) (rules : Rules) (clock : Clock) (asked : Asked) → (plan : Option Plan) (own : List Fault) (ts : List Entry) → AreMade ts → RunLeaves debug state asked clock rules plan own ts → EmptiesCopied (IsCopyBy rules.sets clock) ts
 leaves_copied true state rules clock asked plan own ts made h = quiet_empties (IsCopyBy rules.sets clock) ts (tries_so IsQuiet (λ x seen. (tt, refl)) (λ x names. (tt, refl)) (λ x place piece short. (tt, refl)) state rules.sets clock asked plan own ts h)
 leaves_copied false state rules clock asked plan own ts made h = runs_copied state rules clock asked plan own ts made h
 

@@ -15,7 +15,7 @@ use Rattle.lr_host.specs.Steps.{is_change}
 use Rattle.lr_host.specs.Told.{Each}
 use Rattle.lr_host.proofs.Each.{each_as}
 use Rattle.lr_host.proofs.Lists.{in_append, in_front, in_back}
-use Rattle.lr_durable.specs.Renewing.{IsWithin}
+use Rattle.lr_durable.specs.Renewing.{IsWithinDirs}
 use Rattle.lr_durable.specs.StateWhole.{renamed_paths}
 use Rattle.lr_chain.specs.declared.ready.Ready.{Ready}
 use Rattle.lr_plan.specs.declared.mark.Mark.{Mark}
@@ -123,7 +123,7 @@ module _ (sets : List SetPlan) where
   more_synced : AllowsMore AreSyncedAt
   more_synced more fewer has e f x i = let s = f x i in record { path = s.path; touched = s.touched; beside = s.beside; made = still_made (all_to_make_of sets) more fewer (parent_of x) has s.made }
 
-  within_by : (part : Path) (dirs : List Path) (marks : List Mark) (e : Entry) → AreSynced sets marks dirs → AreSyncedAt marks e → IsWithin part dirs e
+  within_by : (part : Path) (dirs : List Path) (marks : List Mark) (e : Entry) → AreSynced sets marks dirs → AreSyncedAt marks e → IsWithinDirs part dirs e
   within_by part dirs marks e synced f x i =
       let s = f x i in
       inr (subst (λ (d : Path). IsIn d dirs) s.beside (has_parent sets marks dirs synced s.path s.touched (subst (λ (d : Path). is_unmade (all_to_make_of sets) (made_in marks) d ≡ false) (sym s.beside) s.made)))
@@ -185,6 +185,6 @@ module _ (sets : List SetPlan) where
       }
 
     -- each change of the acts is in one of these directories
-    pub changes_within : (part : Path) (dirs : List Path) (marks : List Mark) (faults : List Fault) (acts : List Entry) → AreSynced sets marks dirs → SetsDone (map steps_of_set sets) marks faults acts → Each (IsWithin part dirs) (filter is_change acts)
+    pub changes_within : (part : Path) (dirs : List Path) (marks : List Mark) (faults : List Fault) (acts : List Entry) → AreSynced sets marks dirs → SetsDone (map steps_of_set sets) marks faults acts → Each (IsWithinDirs part dirs) (filter is_change acts)
     changes_within part dirs marks faults acts synced done =
-        each_as (AreSyncedAt marks) (IsWithin part dirs) (filter is_change acts) (λ e f. within_by part dirs marks e synced f) (acts_guarded AreSyncedAt more_synced groups sets marks faults acts logs allows done)
+        each_as (AreSyncedAt marks) (IsWithinDirs part dirs) (filter is_change acts) (λ e f. within_by part dirs marks e synced f) (acts_guarded AreSyncedAt more_synced groups sets marks faults acts logs allows done)

@@ -43,11 +43,11 @@ use Rattle.lr_plan.specs.declared.looks.SetLooks.{SetLooks}
 use Rattle.lr_plan.specs.declared.mark.Mark.{Mark}
 use Rattle.lr_plan.specs.Course.{Course}
 use Rattle.lr_plan.specs.Done.{SetsDone}
-use Rattle.lr_plan.specs.Planned.{is_made, dir_is_log, makes_dir, empty_stand, stand_for, faults_of, where_due, log_faults, all_faults, all_plans}
+use Rattle.lr_plan.specs.Planned.{is_made, dir_is_log, makes_dir, empty_stand, stand_for, due_faults, where_due, log_faults, all_faults, all_plans}
 use Rattle.lr_seen.proofs.Hindrances.{faults_so, free_of_members}
 use Rattle.lr_plan.specs.Steps.{steps_of_set, state_steps}
-use Rattle.lr_acts.specs.Named.{IsNamed}
-use Rattle.lr_acts.specs.Taken.{Spares, WasTaken}
+use Rattle.lr_acts.specs.Named.{PathIsNamed}
+use Rattle.lr_acts.specs.Taken.{SparesPath, WasTaken}
 use Rattle.lr_acts.proofs.Taking.{taken_now, taken_before}
 use Rattle.lr_looks.specs.declared.standing.Standing.{Standing}
 use Rattle.lr_looks.specs.Families.{LookedLog, looked_at, looked_of}
@@ -58,7 +58,7 @@ use Rattle.lr_laws_targets.specs.AllTurns.{IsOf, IsOfSome, IsOfState}
 use Rattle.lr_laws_targets.specs.Target.{Target}
 use Rattle.lr_laws_family.specs.Shown.{WasSeen, Shown}
 use Rattle.lr_laws_family.proofs.Stood.{file_stands}
-use Rattle.lr_laws_targets.specs.Apart.{HasNames, HaveNames}
+use Rattle.lr_laws_targets.specs.Apart.{HasNames, TargetsHaveNames}
 use Rattle.lr_laws_targets.proofs.Own.{member_own}
 use Rattle.lr_weave.proofs.Parting.{done_some}
 use Rattle.lr_weave.proofs.Planning.{ready_planned}
@@ -183,14 +183,14 @@ hindered_by clock decide (rule ∷ rules) [] path i = absurd i
 hindered_by clock decide (rule ∷ rules) (set ∷ sets) path i = ⊎_elim own (λ b. further (hindered_by clock decide rules sets path b)) (in_append (fault.Taken path) (log_faults clock rule (decide rule) set.logs) (all_faults clock decide rules sets) i)
   where
     -- neither another thing nor a log that is taken up is such a fault
-    by_members : (look : LogLook) → IsIn (fault.Taken path) (faults_of clock rule look) → IsIn (fault.Taken path) (what_hinders look.family.naming rule.count clock (stand_for rule look))
+    by_members : (look : LogLook) → IsIn (fault.Taken path) (due_faults clock rule look) → IsIn (fault.Taken path) (what_hinders look.family.naming rule.count clock (stand_for rule look))
     by_members look = faults_so (λ fs. IsIn (fault.Taken path) fs → IsIn (fault.Taken path) (what_hinders look.family.naming rule.count clock (stand_for rule look))) clock rule look
         (λ i. absurd i) (λ seen is i. ⊎_elim (λ e. absurd (cc)) (λ none. absurd none) i) (λ i. ⊎_elim (λ e. absurd (cc)) (λ none. absurd none) i) (λ i. i)
 
     own : IsIn (fault.Taken path) (log_faults clock rule (decide rule) set.logs) → IsHindered clock (rule ∷ rules) (set ∷ sets) path
     own a =
-        let r = in_flat (λ (look : LogLook). where_due (decide rule look) (faults_of clock rule look)) set.logs (fault.Taken path) a in
-        record { place = 0; rule = rule; set = set; look = r.0; at_set = refl; among = r.1; fault_in = by_members r.0 (in_due (decide rule r.0) (faults_of clock rule r.0) (fault.Taken path) r.2) }
+        let r = in_flat (λ (look : LogLook). where_due (decide rule look) (due_faults clock rule look)) set.logs (fault.Taken path) a in
+        record { place = 0; rule = rule; set = set; look = r.0; at_set = refl; among = r.1; fault_in = by_members r.0 (in_due (decide rule r.0) (due_faults clock rule r.0) (fault.Taken path) r.2) }
 
     further : IsHindered clock rules sets path → IsHindered clock (rule ∷ rules) (set ∷ sets) path
     further h = record { place = suc h.place; rule = h.rule; set = h.set; look = h.look; at_set = h.at_set; among = h.among; fault_in = h.fault_in }
@@ -200,29 +200,29 @@ hindered_by clock decide (rule ∷ rules) (set ∷ sets) path i = ⊎_elim own (
 -- ---- what the acts spare
 
 -- an entry that changes nothing unlinks nothing
-calm_spares : (path : Path) (e : Entry) → is_change e ≡ false → Spares path e
+calm_spares : (path : Path) (e : Entry) → is_change e ≡ false → SparesPath path e
 calm_spares path (entry.Unlinks x) h = absurd (cc)
 calm_spares path _ h = tt
 
-all_spare : (path : Path) (R : Entry → Type 0) → ((e : Entry) → R e → Spares path e) → (ts : List Entry) → Each R (filter is_change ts) → Each (Spares path) ts
+all_spare : (path : Path) (R : Entry → Type 0) → ((e : Entry) → R e → SparesPath path e) → (ts : List Entry) → Each R (filter is_change ts) → Each (SparesPath path) ts
 all_spare path R spare [] a = tt
 all_spare path R spare (e ∷ ts) a = go (is_change e) refl (λ b. all_spare path R spare ts b) a
   where
-    go : (b : Bool) → is_change e ≡ b → (Each R (filter is_change ts) → Each (Spares path) ts) → Each R (cond b (e ∷ filter is_change ts) (filter is_change ts)) → Spares path e × Each (Spares path) ts
+    go : (b : Bool) → is_change e ≡ b → (Each R (filter is_change ts) → Each (SparesPath path) ts) → Each R (cond b (e ∷ filter is_change ts) (filter is_change ts)) → SparesPath path e × Each (SparesPath path) ts
     go true h rest a = (spare e a.0, rest a.1)
     go false h rest a = (calm_spares path e h, rest a)
 
 -- an unlink of the path is on own names of the log that is rotated
-unlinks_own : (t : Target) (path : Path) (e : Entry) → HasNames t → (IsOwnName t.log t.naming path → ⊥) → IsOf t e → Spares path e
+unlinks_own : (t : Target) (path : Path) (e : Entry) → HasNames t → (IsOwnName t.log t.naming path → ⊥) → IsOf t e → SparesPath path e
 unlinks_own t path (entry.Unlinks x) h none i = λ same. none (subst (IsOwnName t.log t.naming) same (unlinked_own t h x i))
 unlinks_own t path _ h none i = tt
 
-some_spare : (path : Path) (ts : List Target) → HaveNames ts → ((t : Target) → IsIn t ts → IsOwnName t.log t.naming path → ⊥) → (e : Entry) → IsOfSome ts e → Spares path e
+some_spare : (path : Path) (ts : List Target) → TargetsHaveNames ts → ((t : Target) → IsIn t ts → IsOwnName t.log t.naming path → ⊥) → (e : Entry) → IsOfSome ts e → SparesPath path e
 some_spare path [] h none e i = absurd i
 some_spare path (t ∷ ts) h none e (inl i) = unlinks_own t path e h.0 (none t (inl refl)) i
 some_spare path (t ∷ ts) h none e (inr i) = some_spare path ts h.1 (λ u j. none u (inr j)) e i
 
-state_spares : (state path : Path) → path ≢ state → path ≢ state ++ codes ".tmp" → (e : Entry) → IsOfState state e → Spares path e
+state_spares : (state path : Path) → path ≢ state → path ≢ state ++ codes ".tmp" → (e : Entry) → IsOfState state e → SparesPath path e
 state_spares state path other part (entry.Unlinks x) (inl is) = λ same. other (sym same ∙ is)
 state_spares state path other part (entry.Unlinks x) (inr is) = λ same. part (sym same ∙ is)
 state_spares state path other part _ h = tt
@@ -311,8 +311,8 @@ module _ (state : Path) (rules : Rules) (sets : List SetLooks) (faults : List Fa
 
   -- so the acts spare it
   acts_spare : (mailer : Path) (stale : Bool) (dirs : List Path) (text : List ℕ) (marks : List Mark) (of_plan of_state : List Fault) (ts : List Entry)
-      → Then (SetsDone (map steps_of_set (all_plans clock mailer decide rules.sets sets)) marks of_plan) (Course (state_steps state stale dirs text) [] of_state) ts → Each (Spares path) ts
-  acts_spare mailer stale dirs text marks of_plan of_state ts a = subst (Each (Spares path)) (sym a.joined) (each_append (Spares path) a.front a.back
+      → Then (SetsDone (map steps_of_set (all_plans clock mailer decide rules.sets sets)) marks of_plan) (Course (state_steps state stale dirs text) [] of_state) ts → Each (SparesPath path) ts
+  acts_spare mailer stale dirs text marks of_plan of_state ts a = subst (Each (SparesPath path)) (sym a.joined) (each_append (SparesPath path) a.front a.back
       (all_spare path (IsOfSome targets) (some_spare path targets (targets_have_names rules sets faults looks clock decide s) no_name) a.front
       (done_some targets (map steps_of_set (all_plans clock mailer decide rules.sets sets)) marks of_plan a.front
       (ready_planned (groups_of clock decide rules.sets sets) (all_plans clock mailer decide rules.sets sets) (plans_have_logs rules.sets sets faults looks clock mailer decide s) (targets_apart rules.sets sets faults looks clock decide s)) a.first))
@@ -349,7 +349,7 @@ plan_taken state rules sets faults looks clock mailer decide stale dirs text mar
     seen : (m : Member) × (m.path ≡ path) × WasSeen looks m
     seen = member_seen state rules sets faults looks clock decide s path h
 
-    named : IsNamed path (Some k)
+    named : PathIsNamed path (Some k)
     named =
         let file = file_stands (past j) (past k) es made (still_in_order es (quiet_still (reverse es) (subst AreQuiet is (whole_quiet rules.sets sets faults looks s)))) seen.0.path (seen.0.seen, seen.2.0, subst (IsIn (entry.Look seen.0.path (Some seen.0.seen))) is seen.2.1) in
-        subst (λ (x : Path). IsNamed x (Some k)) seen.1 (file_named (past k) seen.0.path file.0 file.1)
+        subst (λ (x : Path). PathIsNamed x (Some k)) seen.1 (file_named (past k) seen.0.path file.0 file.1)

@@ -11,7 +11,7 @@ use Rattle.lr_host.specs.Steps.{is_change}
 use Rattle.lr_host.specs.Told.{Are, Each, Left}
 use Rattle.lr_plan.specs.Course.{Course}
 use Rattle.lr_plan.specs.Steps.{state_steps}
-use Rattle.lr_acts.specs.Named.{IsNamed}
+use Rattle.lr_acts.specs.Named.{PathIsNamed}
 use Rattle.lr_laws_targets.specs.AllTurns.{IsOfState}
 use Rattle.lr_acts.proofs.Keeping.{KeepsName, left_keeps}
 use Rattle.lr_run.proofs.Stating.{state_writing, changes_of_state}
@@ -35,10 +35,10 @@ all_keep x R keep (e ∷ ts) a = go (is_change e) refl (λ b. all_keep x R keep 
     go false h rest a = (calm_keeps x e h, rest a)
 
 -- the writing keeps each name but its own
-pub writing_keeps : (state : Path) (stale : Bool) (dirs : List Path) (text : List ℕ) (fs : List Fault) (x : Path) {o n : Option Journal} → x ≢ state → x ≢ state ++ codes ".tmp" → Left (Course (state_steps state stale dirs text) [] fs) o n → IsNamed x o → IsNamed x n
+pub writing_keeps : (state : Path) (stale : Bool) (dirs : List Path) (text : List ℕ) (fs : List Fault) (x : Path) {o n : Option Journal} → x ≢ state → x ≢ state ++ codes ".tmp" → Left (Course (state_steps state stale dirs text) [] fs) o n → PathIsNamed x o → PathIsNamed x n
 writing_keeps state stale dirs text fs x other part left named =
     left_keeps x left (λ ts c. all_keep x (IsOfState state) (state_keeps state x other part) ts (changes_of_state state ts (state_writing state stale dirs text fs ts c))) named
 
 -- the end keeps all
-pub end_keeps : (x : Path) {o n : Option Journal} → Left (Are (Ends ∷ [])) o n → IsNamed x o → IsNamed x n
+pub end_keeps : (x : Path) {o n : Option Journal} → Left (Are (Ends ∷ [])) o n → PathIsNamed x o → PathIsNamed x n
 end_keeps x left named = left_keeps x left (λ ts is. subst (Each (KeepsName x)) (sym is) (tt, tt)) named

@@ -7,7 +7,7 @@ use Rattle.lr_state.specs.Grammar.{Said}
 use Rattle.lr_state.specs.Table.{Entry as Row}
 use Rattle.lr_reading.specs.declared.look.LookStop.{LookStop}
 use Rattle.lr_reading.specs.declared.remembered.Remembered.{Remembered}
-use Rattle.lr_reading.specs.Answers.{IsKnown, IsKnownBehind, IsKnownBy, IsKnownOf, TextSaysOnly, known_of, text_of}
+use Rattle.lr_reading.specs.Answers.{IsKnown, IsKnownBehind, IsKnownBy, IsKnownOf, TextSaysOnly, known_of, text_read}
 use Rattle.lr_reading.specs.Sights.{StateSights, ShowsState, found}
 use Rattle.lr_run.specs.Saw.{ShowsStateText}
 
@@ -20,7 +20,7 @@ pub record KnownText (state : Path) (remembered : Remembered) (ts : List Entry) 
 pub known_text : (state : Path) (remembered : Remembered) (sights : StateSights) (ts : List Entry) → IsKnown state sights (Ok remembered) → ShowsState state 65_536 sights ts → KnownText state remembered ts
 known_text state remembered sights ts known shown = of_state (found sights.state) (found sights.part) refl refl known
   where
-    says : (there stale : Bool) (text : List ℕ) (said : Said) → found sights.state ≡ Ok there → found sights.part ≡ Ok stale → text_of state there sights.reading ≡ Ok text → TextSaysOnly text said → Ok remembered ≡ known_of stale said → KnownText state remembered ts
+    says : (there stale : Bool) (text : List ℕ) (said : Said) → found sights.state ≡ Ok there → found sights.part ≡ Ok stale → text_read state there sights.reading ≡ Ok text → TextSaysOnly text said → Ok remembered ≡ known_of stale said → KnownText state remembered ts
     says there stale text (Ok table) stood part read only is = subst (λ (r : Remembered). KnownText state r ts) (sym same)
         (record { text = text; shown = record { sights = sights; there = there; stood = stood; part = part; read = read; shown = shown }; says = only })
       where
@@ -28,12 +28,12 @@ known_text state remembered sights ts known shown = of_state (found sights.state
         same = cc
     says there stale text (Err bad) stood part read only is = absurd (cc)
 
-    of_text : (there stale : Bool) (t : Result (List ℕ) Fault) → found sights.state ≡ Ok there → found sights.part ≡ Ok stale → text_of state there sights.reading ≡ t → IsKnownBy stale t (Ok remembered) → KnownText state remembered ts
+    of_text : (there stale : Bool) (t : Result (List ℕ) Fault) → found sights.state ≡ Ok there → found sights.part ≡ Ok stale → text_read state there sights.reading ≡ t → IsKnownBy stale t (Ok remembered) → KnownText state remembered ts
     of_text there stale (Ok text) stood part read k = says there stale text k.0 stood part read k.1 k.2
     of_text there stale (Err why) stood part read k = absurd (cc)
 
     of_part : (there : Bool) (p : Result Bool LookStop) → found sights.state ≡ Ok there → found sights.part ≡ p → IsKnownBehind state there p sights.reading (Ok remembered) → KnownText state remembered ts
-    of_part there (Ok stale) stood part k = of_text there stale (text_of state there sights.reading) stood part refl k
+    of_part there (Ok stale) stood part k = of_text there stale (text_read state there sights.reading) stood part refl k
     of_part there (Err why) stood part k = absurd (cc)
 
     of_state : (s p : Result Bool LookStop) → found sights.state ≡ s → found sights.part ≡ p → IsKnownOf state s p sights.reading (Ok remembered) → KnownText state remembered ts

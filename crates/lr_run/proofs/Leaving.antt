@@ -19,7 +19,7 @@ use Rattle.lr_host.specs.Quiet.{AreQuiet}
 use Rattle.lr_host.proofs.Each.{each_append}
 use Rattle.lr_run.proofs.Made.{AreMade}
 use Rattle.lr_run.proofs.Shape.{sees_quiet}
-use Rattle.lr_durable.specs.Renewing.{IsAsideOf, IsWithin, MayRenew, left_alone}
+use Rattle.lr_durable.specs.Renewing.{LeavesAlone, IsWithinDirs, MayRenew, left_alone}
 use Rattle.lr_state.specs.Written.{text_of}
 use Rattle.lr_looks.specs.Found.{FoundLog, paths_of}
 use Rattle.lr_record.specs.After.{after}
@@ -27,7 +27,7 @@ use Rattle.lr_plan.specs.Asked.{Asked}
 use Rattle.lr_plan.specs.declared.plan.Plan.{Plan}
 use Rattle.lr_plan.specs.Done.{rotated_logs}
 use Rattle.lr_seen.proofs.Quiet.{whole_looking}
-use Rattle.lr_run.specs.Answers.{Leaves, Holds, Lacks}
+use Rattle.lr_run.specs.Answers.{RunLeaves, Holds, Lacks}
 use Rattle.lr_run.specs.Dry as dry
 use Rattle.lr_run.specs.Dry.{Tries}
 use Rattle.lr_run.specs.Halt as halt
@@ -47,7 +47,7 @@ use Rattle.lr_run.proofs.Turned.{inside}
 module _ (state : Path) (rules : Rules) (clock : Clock) (asked : Asked) where
   -- a run that halted so, without a plan
   abbrev pub HaltLeft : Bool → Option Plan → Halt → List Entry → Type 0
-  HaltLeft debug plan (OfFaults own) ts = Leaves debug state asked clock rules plan own ts
+  HaltLeft debug plan (OfFaults own) ts = RunLeaves debug state asked clock rules plan own ts
   HaltLeft debug plan OfLock ts = Holds debug state ts
   HaltLeft debug plan OfMemory ts = Lacks debug state asked clock rules ts
 
@@ -86,7 +86,7 @@ module _ (state : Path) (rules : Rules) (clock : Clock) (asked : Asked) where
     halt_left false h hs = acting_halt h hs
 
   -- a run that carried its plan out
-  pub carried_left : (w : Work) → ShowsWork false state rules.sets clock asked w → CarriesOut state clock w → Leaves false state asked clock rules (Some w.plan) (faults_of w) (run_entries false state clock rules w)
+  pub carried_left : (w : Work) → ShowsWork false state rules.sets clock asked w → CarriesOut state clock w → RunLeaves false state asked clock rules (Some w.plan) (faults_of w) (run_entries false state clock rules w)
   carried_left w shows out = runs.began (within_of state rules clock asked (Works state rules.sets clock asked (Some w.plan) (faults_of w)) w.dir w.reads w.looks w.did (run_entries false state clock rules w) (text_shown state w.saw.text w.saw.stale w.dir w.reads shows.seen.file).0 refl
       (runs.worked (worked_of state rules clock asked w shows out) (ap Some shows.plan.is)))
 
@@ -96,7 +96,7 @@ module _ (state : Path) (rules : Rules) (clock : Clock) (asked : Asked) where
       (broken_of state rules clock asked w shows out)
 
   -- a dry one
-  pub tried_left : (w : Work) → ShowsWork true state rules.sets clock asked w → DidNothing w → Leaves true state asked clock rules (Some w.plan) (faults_of w) (run_entries true state clock rules w)
+  pub tried_left : (w : Work) → ShowsWork true state rules.sets clock asked w → DidNothing w → RunLeaves true state asked clock rules (Some w.plan) (faults_of w) (run_entries true state clock rules w)
   tried_left w shows out = subst (λ (fs : List Fault). Tries state rules.sets clock asked (Some w.plan) fs (run_entries true state clock rules w)) (sym own)
       (tries_seen state rules.sets clock asked w.saw (Some w.plan) w.plan.faults (run_entries true state clock rules w) w.dir w.reads w.looks refl shows.seen (shows.plan, refl))
     where
@@ -110,8 +110,8 @@ module _ (state : Path) (rules : Rules) (clock : Clock) (asked : Asked) where
   carried_may w shows out made = subst (MayRenew state (λ bytes. bytes ≡ text)) (sym i.entries)
       (subst (MayRenew state (λ bytes. bytes ≡ text)) (append_assoc i.before (entry.Starts state clock.now rules ∷ []) (i.between ++ entry.Ends ∷ []))
       (worked_may state rules clock asked (faults_of w) i.between i.within (between_made state rules clock asked i.before i.between (run_entries false state clock rules w) i.entries made) (λ bytes. bytes ≡ text) text_is (i.before ++ entry.Starts state clock.now rules ∷ [])
-      (each_append (IsAsideOf state) i.before (entry.Starts state clock.now rules ∷ []) (calm_aside state i.before quiet) ((λ n. n), tt))
-      (each_append (IsWithin (state_part state) w.acts.dirs) i.before (entry.Starts state clock.now rules ∷ []) (calm_within (state_part state) w.acts.dirs i.before quiet) ((λ x n. absurd n), tt))))
+      (each_append (LeavesAlone state) i.before (entry.Starts state clock.now rules ∷ []) (calm_aside state i.before quiet) ((λ n. n), tt))
+      (each_append (IsWithinDirs (state_part state) w.acts.dirs) i.before (entry.Starts state clock.now rules ∷ []) (calm_within (state_part state) w.acts.dirs i.before quiet) ((λ x n. absurd n), tt))))
     where
       text : List ℕ
       text = text_by w.saw clock (rotated_logs w.acts.marks)
@@ -148,7 +148,7 @@ module _ (P : Entry → Type 0) (look : (x : Path) (seen : Option Seen) → P (e
 
   acting_so : (state : Path) (rules : Rules) (clock : Clock) (asked : Asked) (h : Halt) (ts : List Entry) → Halts false state rules clock asked h ts → Each P ts
   acting_so state rules clock asked h ts (halt.not_seen e none) = subst (Each P) (sym none) tt
-  acting_so state rules clock asked h ts (halt.no_directory e s) = sees_so P look list read (parent_of state) (halt.Bars false) ts s
+  acting_so state rules clock asked h ts (halt.no_directory e s) = sees_so P look list read (parent_of state) (halt.DirBars false) ts s
   acting_so state rules clock asked h ts (halt.held d e s) = sees_so P look list read (parent_of state) IsDir ts s
   acting_so state rules clock asked h ts (halt.not_begun d e t) = then_so P look list read _ _ ts (λ us s. sees_so P look list read (parent_of state) IsDir us s) (λ us m. maybe_so state clock rules us m) t
   acting_so state rules clock asked h ts (halt.unknown f e i) = inside_so state clock rules (LacksState state f) ts (λ us l. state_so P look read state l.sights us l.shown) i

@@ -15,9 +15,9 @@ use Rattle.lr_scripts.specs.declared.removal.Removal.{Removal}
 use Rattle.lr_copy.specs.declared.job.Job.{Job}
 use Rattle.lr_chain.specs.declared.ready.Move.{Move}
 use Rattle.lr_laws_targets.specs.Apart.{HasNames}
-use Rattle.lr_laws_targets.specs.Rotation.{paths_in}
+use Rattle.lr_laws_targets.specs.Rotation.{removal_paths}
 use Rattle.lr_laws_targets.specs.Seen.{IsLogSeen}
-use Rattle.lr_laws_targets.specs.Target.{Target, source_of, HasWay, HasDir, HasJob}
+use Rattle.lr_laws_targets.specs.Target.{Target, source_of, HasWay, HasDir, TargetHasJob}
 use Rattle.lr_laws_targets.proofs.LogSeen.{any_names}
 use Rattle.lr_laws_targets.proofs.Own.{named_own, target_member}
 use Rattle.lr_laws_targets.proofs.PartFile.{part_no_member}
@@ -52,7 +52,7 @@ pub record HasMembers (t : Target) : Type 0 where
   pub target : IsMember t.naming t.ready.target
   pub retire : AreOfMembers t.naming t.ready.retire
   pub dir : HasDir t
-  pub job : HasJob t
+  pub job : TargetHasJob t
   pub apart : IsMember t.naming (part_of t.ready.target) → ⊥
   pub no_log : IsMember t.naming t.log → ⊥
   pub no_source : IsMember t.naming (source_of t) → ⊥
@@ -90,9 +90,9 @@ waits_no_log t h path is e = beside_other t.log (sym e ∙ (aside_is t path h.wa
 -- ---- the rotation of a log
 
 -- the removals of these paths
-of_paths : (n : Naming) (rs : List Removal) → All (IsMember n) (paths_in rs) → AreOfMembers n rs
+of_paths : (n : Naming) (rs : List Removal) → All (IsMember n) (removal_paths rs) → AreOfMembers n rs
 of_paths n [] a = tt
-of_paths n (r ∷ rs) a = (All-head (IsMember n) r.path (paths_in rs) a, of_paths n rs (All-tail (IsMember n) r.path (paths_in rs) a))
+of_paths n (r ∷ rs) a = (All-head (IsMember n) r.path (removal_paths rs) a, of_paths n rs (All-tail (IsMember n) r.path (removal_paths rs) a))
 
 abbrev MovesMember : Naming → Move → Type 0
 MovesMember n m = IsMember n m.from × IsMember n m.to

@@ -38,7 +38,7 @@ use Rattle.lr_family.specs.Parts.{part_of, IsMember, IsMembersPart}
 use Rattle.lr_scripts.specs.declared.removal.Removal.{Removal}
 use Rattle.lr_copy.specs.declared.job.Job.{Job}
 use Rattle.lr_copy.specs.Fits.{ArePaths}
-use Rattle.lr_copied.specs.Whole.{Named, WritersSpare}
+use Rattle.lr_copied.specs.Whole.{Named, WritersSpareCopy}
 use Rattle.lr_copied.proofs.Moments.{IsLast, is_last}
 use Rattle.lr_chain.specs.declared.ready.Ready.{Ready}
 use Rattle.lr_move.specs.Moved.{CopiesAside, IsLetGo, LetsGoWhole, WritersSpareCopies, KeepsMovedWhere}
@@ -56,7 +56,7 @@ use Rattle.lr_emptied.specs.LetGo.{CopiedFrom, UnlinksCopied, AreElsewhere, MayL
 use Rattle.lr_emptied.proofs.Letting.{Spares, both_copied, same_copied, spared_copied, plan_lets, sets_letting, sets_cut_letting, state_letting}
 use Rattle.lr_emptied.proofs.Whole.{whole_since}
 use Rattle.lr_laws_rotations.proofs.SetMembers.{keyless_no_member}
-use Rattle.lr_laws_targets.specs.Rotation.{paths_in}
+use Rattle.lr_laws_targets.specs.Rotation.{removal_paths}
 use Rattle.lr_laws_targets.specs.Target.{Target, IsJob, HasWay, source_by}
 use Rattle.lr_laws_targets.proofs.Reached.{IsKnownFor, waits_at}
 use Rattle.lr_laws_targets.proofs.RunSafety.{known_targets, part_apart}
@@ -84,7 +84,7 @@ pub record IsOwnCopy (s : LogSet) (job : Job) : Type 0 where
   pub paths : ArePaths job
 
 -- writers that spare the set's copies spare this one
-spares : (s : LogSet) (job : Job) (p q : Past) → IsOwnCopy s job → WritersSpareCopies s p q → WritersSpare job p q
+spares : (s : LogSet) (job : Job) (p q : Past) → IsOwnCopy s job → WritersSpareCopies s p q → WritersSpareCopy job p q
 spares s job p q own only = since_as (λ x. (s.key x ≡ None) × (IsMembersPart s.naming x → ⊥)) (λ x. (x ≢ job.part) × (x ≢ job.to)) p q
     (λ x h. ((λ same. h.1 (job.to, own.to_is, same ∙ own.part_is)), (λ same. own.aside.member (ap s.key (sym same) ∙ h.0)))) only
 
@@ -107,7 +107,7 @@ module _ (s : LogSet) (p q : Past) (es : List Entry) (made : Made p es q) (j : I
       all_are = ap reverse (w.es_are ∙ ap (λ us. w.new ++ us) k.es_are) ∙ (reverse-append w.new (last ∷ k.front) ∙ (ap (λ us. us ++ reverse w.new) (reverse-append (last ∷ []) k.front) ∙ append_assoc (reverse k.front) (last ∷ []) (reverse w.new)))
 
       -- writers spared the copy up to here
-      only_u : (job : Job) → IsOwnCopy s job → WritersSpare job p u
+      only_u : (job : Job) → IsOwnCopy s job → WritersSpareCopy job p u
       only_u job own = since_before _ p u q k.front (w.new ++ last ∷ []) k.made (made_on u (u ▸ last) q (last ∷ []) w.new (by_tool at_first tt k.fits) w.behind) (spares s job p q own only)
 
       go : CopiedFrom (IsOwnCopy s) waiting (reverse k.front) → IsLetGo s p u
@@ -207,14 +207,14 @@ module _ (s : LogSet) (asked : s.naming.aside ≡ true) (t : Target) (k : IsKnow
 
   -- ---- its plan
 
-  elsewhere : (rs : List Removal) → All (IsMember t.naming) (paths_in (map bare_removal rs)) → AreElsewhere waits rs
+  elsewhere : (rs : List Removal) → All (IsMember t.naming) (removal_paths (map bare_removal rs)) → AreElsewhere waits rs
   elsewhere [] a = All-nil (λ (r : Removal). r.path ≢ waits)
-  elsewhere (r ∷ rs) a = All-cons (λ (r : Removal). r.path ≢ waits) r rs (member_other r.path (All-head (IsMember t.naming) r.path (paths_in (map bare_removal rs)) a)) (elsewhere rs (All-tail (IsMember t.naming) r.path (paths_in (map bare_removal rs)) a))
+  elsewhere (r ∷ rs) a = All-cons (λ (r : Removal). r.path ≢ waits) r rs (member_other r.path (All-head (IsMember t.naming) r.path (removal_paths (map bare_removal rs)) a)) (elsewhere rs (All-tail (IsMember t.naming) r.path (removal_paths (map bare_removal rs)) a))
 
   pub may_let_go : (log : LogPlan) → IsReadyFor t log → MayLetGo (IsOwnCopy s) waits log
   may_let_go log r = record {
-    leftovers = elsewhere log.ready.leftovers (subst (λ (ready : Ready). All (IsMember t.naming) (paths_in ready.leftovers)) (sym r.ready_is) (family_members t k.names).early);
-    retire = elsewhere log.ready.retire (subst (λ (ready : Ready). All (IsMember t.naming) (paths_in ready.retire)) (sym r.ready_is) (family_members t k.names).gone);
+    leftovers = elsewhere log.ready.leftovers (subst (λ (ready : Ready). All (IsMember t.naming) (removal_paths ready.leftovers)) (sym r.ready_is) (family_members t k.names).early);
+    retire = elsewhere log.ready.retire (subst (λ (ready : Ready). All (IsMember t.naming) (removal_paths ready.retire)) (sym r.ready_is) (family_members t k.names).gone);
     part = λ job is. part_other job (sym r.job_is ∙ is);
     waits = λ job is goes. own_copy job (sym r.job_is ∙ is) (sym r.aside_is ∙ goes);
   }

@@ -27,10 +27,10 @@ use Rattle.lr_run.specs.declared.answer.RunStop.{RunStop}
 use Rattle.lr_run.specs.declared.answer.RunStop.TheVariants as stop
 use Rattle.lr_family.specs.declared.directory.DirStop.{DirStop}
 use Rattle.lr_family.specs.declared.directory.DirStop.TheVariants as dir
-use Rattle.lr_family.specs.Directory.{DirSeen, DirStopped}
+use Rattle.lr_family.specs.Directory.{DirSeen, DirLookStopped}
 use Rattle.lr_run.specs.Halt as halt
 use Rattle.lr_run.specs.Halt.{Halts, LacksState, OfFaults, OfLock, OfMemory}
-use Rattle.lr_run.specs.Internal.{dir_fault_of, CameTo, WorksTo, SeesTooBig, saw_too_big, came_to, ReadsText, WorksOn, knows_none, knows, SomeWork, some_seen, some_done, Begun, Goes, begun, not_begun, Stopped, StopsSo}
+use Rattle.lr_run.specs.Internal.{dir_fault_of, CameTo, WorksTo, SeesTooBig, saw_too_big, came_to, KnowsText, WorksOn, knows_none, knows, SomeWork, some_seen, some_done, Begun, Goes, begun, not_begun, RunStopped, StopsSo}
 use Rattle.lr_run.specs.Ran.{RanSo, RunEnds, halted, came, TellsNamesOf}
 use Rattle.lr_looks.specs.Inside.{Inside}
 use Rattle.lr_run.specs.Runs as runs
@@ -43,12 +43,12 @@ use Rattle.lr_run.proofs.Knowing.{KnownText, known_text}
 pub began : (state : Path) (clock : Clock) (rules : Rules) (b : Bool) {o n : Option Journal} → b ≡ true → Left (DidWhere {E = CallFault} (Ok b) (Starts state clock.now rules)) o n → Left (Are (Starts state clock.now rules ∷ [])) o n
 began state clock rules b e l = left_as l (λ ts h. subst (λ (x : Bool). DidWhere {E = CallFault} (Ok x) (Starts state clock.now rules) ts) e h)
 
-pub locked : (state : Path) (asked : Asked) (clock : Clock) (rules : Rules) (b : Bool) {o n : Option Journal} → b ≡ false → Left (DidWhere {E = CallFault} (Ok b) (Starts state clock.now rules)) o n → Left (Stopped state asked clock rules stop.Held) o n
+pub locked : (state : Path) (asked : Asked) (clock : Clock) (rules : Rules) (b : Bool) {o n : Option Journal} → b ≡ false → Left (DidWhere {E = CallFault} (Ok b) (Starts state clock.now rules)) o n → Left (RunStopped state asked clock rules stop.Held) o n
 locked state asked clock rules b e l = left_as l (λ ts h. subst (λ (x : Bool). DidWhere {E = CallFault} (Ok x) (Starts state clock.now rules) ts) e h)
 
 -- ---- between the begin and the end
 
-pub lacks : (state : Path) (asked : Asked) (clock : Clock) (rules : Rules) {o m n : Option Journal} → Left (Are (Starts state clock.now rules ∷ [])) o m → Left (Then (SomeWork state rules.sets clock asked) (Are (Ends ∷ []))) m n → Left (Stopped state asked clock rules stop.Memory) o n
+pub lacks : (state : Path) (asked : Asked) (clock : Clock) (rules : Rules) {o m n : Option Journal} → Left (Are (Starts state clock.now rules ∷ [])) o m → Left (Then (SomeWork state rules.sets clock asked) (Are (Ends ∷ []))) m n → Left (RunStopped state asked clock rules stop.Memory) o n
 lacks state asked clock rules l k = left_then l k (λ ts us p q. subst (λ (xs : List Entry). Begun state clock rules (SomeWork state rules.sets clock asked) (ts ++ xs)) (sym q.joined) (begins state clock rules (SomeWork state rules.sets clock asked) ts q.front q.back p q.first q.second))
 
 pub goes_not : (state : Path) (asked : Asked) (clock : Clock) (rules : Rules) (plan : Option Plan) (name : Path) (a b : List Fault) {o n : Option Journal} → plan ≡ None → name ≡ state → b ≡ a ++ fault.Call call.Begin name ∷ [] → Left (λ ts. (ts ≡ []) ⊎ (ts ≡ Starts state clock.now rules ∷ [])) o n
@@ -80,7 +80,7 @@ module _ (state : Path) (asked : Asked) (clock : Clock) (rules : Rules) (earlier
   entries_are ts us between reads looks did e f = ap (λ xs. ts ++ xs) (e ∙ ap (λ xs. Starts state clock.now rules ∷ xs)
       (ap (λ xs. xs ++ Ends ∷ []) f ∙ (append_assoc reads (looks ++ did) (Ends ∷ []) ∙ ap (λ xs. reads ++ xs) (append_assoc looks did (Ends ∷ [])))))
 
-  ends_too_big : (ts us : List Entry) (saw : Saw) → ran.plan ≡ None → ran.faults.items ≡ earlier ++ (saw.faults ++ fault.State 0 kind.TooBig ∷ []) → Sees (parent_of state) IsDir ts → (b : Begun state clock rules (SeesTooBig (ReadsText state) state rules.sets clock asked saw) us) → Ended None (ts ++ us)
+  ends_too_big : (ts us : List Entry) (saw : Saw) → ran.plan ≡ None → ran.faults.items ≡ earlier ++ (saw.faults ++ fault.State 0 kind.TooBig ∷ []) → Sees (parent_of state) IsDir ts → (b : Begun state clock rules (SeesTooBig (KnowsText state) state rules.sets clock asked saw) us) → Ended None (ts ++ us)
   ends_too_big ts us saw none e s b = halted (OfFaults (saw.faults ++ fault.State 0 kind.TooBig ∷ [])) refl (halt.too_big saw refl (record {
     dir = ts;
     reads = b.within.reads;
@@ -90,7 +90,7 @@ module _ (state : Path) (asked : Asked) (clock : Clock) (rules : Rules) (earlier
     big = b.within.big;
   })) (none, e)
 
-  ends_worked : (ts us : List Entry) (w : Work) → Sees (parent_of state) IsDir ts → (b : Begun state clock rules (WorksTo (ReadsText state) state rules.sets clock asked ran.plan earlier ran.faults.items w) us) → Ended (Some (with_dir ts w)) (ts ++ us)
+  ends_worked : (ts us : List Entry) (w : Work) → Sees (parent_of state) IsDir ts → (b : Begun state clock rules (WorksTo (KnowsText state) state rules.sets clock asked ran.plan earlier ran.faults.items w) us) → Ended (Some (with_dir ts w)) (ts ++ us)
   ends_worked ts us w s b = came (with_dir ts w) refl
       (record { seen = record { file = by_dir s b.within.read.shown; says = b.within.read.says; sets = b.within.sets }; plan = record { is = b.within.planned.is; small = b.within.planned.small } })
       (record { plan = b.within.plan_is; faults = b.within.faults_are }, record { dirs = b.within.done.dirs; entries = b.within.done.entries })
@@ -134,11 +134,11 @@ lacked : (state : Path) (asked : Asked) (clock : Clock) (rules : Rules) (ts : Li
 lacked state asked clock rules ts i (some_seen s) = runs.in_looks (inside_as state clock rules (SomeWork state rules.sets clock asked) (runs.SomeSeen state rules.sets) ts i s)
 lacked state asked clock rules ts i (some_done b) = runs.in_acts (inside_as state clock rules (SomeWork state rules.sets clock asked) (runs.BrokeOff state rules.sets clock asked) ts i b)
 
-stops : (state : Path) (asked : Asked) (clock : Clock) (rules : Rules) (why : RunStop) (ts us : List Entry) → Sees (parent_of state) IsDir ts → Stopped state asked clock rules why us → StopsSo state asked clock rules why (ts ++ us)
+stops : (state : Path) (asked : Asked) (clock : Clock) (rules : Rules) (why : RunStop) (ts us : List Entry) → Sees (parent_of state) IsDir ts → RunStopped state asked clock rules why us → StopsSo state asked clock rules why (ts ++ us)
 stops state asked clock rules stop.Held ts us s h = subst (Sees (parent_of state) IsDir) (sym (ap (λ xs. ts ++ xs) h ∙ append-nil ts)) s
 stops state asked clock rules stop.Memory ts us s h = let i = inside state clock rules (SomeWork state rules.sets clock asked) ts us s h in lacked state asked clock rules (ts ++ us) i i.within
 
-pub stopped_behind : (state : Path) (asked : Asked) (clock : Clock) (rules : Rules) (dir : Path) {T : Type 0} (r : Result T RunStop) {o m : Option Journal} (n : Option Journal) → dir ≡ parent_of state → Left (Sees dir IsDir) o m → IfErr r (λ why. Left (Stopped state asked clock rules why) m n) → IfErr r (λ why. Left (StopsSo state asked clock rules why) o n)
+pub stopped_behind : (state : Path) (asked : Asked) (clock : Clock) (rules : Rules) (dir : Path) {T : Type 0} (r : Result T RunStop) {o m : Option Journal} (n : Option Journal) → dir ≡ parent_of state → Left (Sees dir IsDir) o m → IfErr r (λ why. Left (RunStopped state asked clock rules why) m n) → IfErr r (λ why. Left (StopsSo state asked clock rules why) o n)
 stopped_behind state asked clock rules dir (Ok x) n e l k = tt
 stopped_behind state asked clock rules dir (Err why) n e l k = left_then l k (λ ts us p q. stops state asked clock rules why ts us (subst (λ (x : Path). Sees x IsDir ts) e p) q)
 
@@ -160,7 +160,7 @@ module _ (state : Path) (asked : Asked) (clock : Clock) (rules : Rules) (earlier
   pub nothing_there : {o n : Option Journal} → ran.plan ≡ None → x ≡ parent_of state → ran.faults.items ≡ earlier ++ fault.NoDir x ∷ [] → Left (DirSeen x false) o n → RanSo false state rules clock asked earlier (Ok ran) o n
   nothing_there none e is l = none_came state asked clock rules earlier ran (left_as l (λ ts h. at_dir IsNothing ts none e is (λ look g. subst IsNotDir (sym g) tt) h))
 
-  pub no_dir : (why : DirStop) {o n : Option Journal} → ran.plan ≡ None → x ≡ parent_of state → ran.faults.items ≡ earlier ++ dir_fault_of why x ∷ [] → Left (DirStopped x why) o n → RanSo false state rules clock asked earlier (Ok ran) o n
+  pub no_dir : (why : DirStop) {o n : Option Journal} → ran.plan ≡ None → x ≡ parent_of state → ran.faults.items ≡ earlier ++ dir_fault_of why x ∷ [] → Left (DirLookStopped x why) o n → RanSo false state rules clock asked earlier (Ok ran) o n
   no_dir dir.Call none e is l = none_came state asked clock rules earlier ran (left_as l (λ ts h. dir_told (fault.Call call.Look (parent_of state) ∷ []) ts none (is ∙ ap (λ (y : Path). earlier ++ fault.Call call.Look y ∷ []) e) (halt.not_seen refl h)))
   no_dir dir.NotDir none e is l = none_came state asked clock rules earlier ran (left_as l (λ ts h. at_dir IsNoDir ts none e is other_seen h))
 

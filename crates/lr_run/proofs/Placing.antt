@@ -16,7 +16,7 @@ use Rattle.lr_plan.specs.Steps.{state_steps}
 use Rattle.lr_acts.specs.declared.progress.Progress.{Progress}
 use Rattle.lr_looks.specs.Shown.{LooksAtAll}
 use Rattle.lr_reading.specs.declared.remembered.Remembered.{Remembered}
-use Rattle.lr_writing.specs.Target.{Target}
+use Rattle.lr_writing.specs.Target.{StateTarget}
 use Rattle.lr_writing.proofs.Fits.{writing_fits}
 use Rattle.lr_looks.specs.Reserved.{reserved_by}
 use Rattle.lr_seen.proofs.Free.{targets_free}
@@ -32,7 +32,7 @@ state_fits : (state : Path) (rules : Rules) (looks : Looks) (remembered : Rememb
     → ReadyFor state clock.now remembered looks.kept (plan_for rules looks remembered clock asked) ready x y → KnownBefore state remembered middle → Left (LooksAtAll (reserved_by state) rules.sets looks a b) middle told → CanWrite ready told
 state_fits state rules looks remembered clock asked ready x y a b r known not_told = λ later marks faults dirs text behind acts. make_at _ (make_none _) acts
 state_fits state rules looks remembered clock asked ready x y a b {middle = middle} {told = told} r known (is_told m h) = λ later marks faults dirs text behind acts.
-    subst (λ (w : Target). CanMake later (state_steps w.state w.stale dirs text)) (sym r.is.writes)
+    subst (λ (w : StateTarget). CanMake later (state_steps w.state w.stale dirs text)) (sym r.is.writes)
     (writing_fits state remembered.stale dirs text later
     (state_placed none_reserved state 65_536 remembered rules looks.sets clock asked.mailer (decision remembered.table clock.now asked.force) marks faults dirs known.before middle told later
     (behind (plan_for rules looks remembered clock asked).sets r.is.directories) known.disk known.there known.read (is_told m (h.own, h.shown))

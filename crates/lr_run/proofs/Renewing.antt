@@ -20,7 +20,7 @@ use Rattle.lr_host.specs.Steps.{is_change}
 use Rattle.lr_host.specs.Told.{Each, IsTools, Left, not_told, is_told, Maybe}
 use Rattle.lr_host.specs.World.{past}
 use Rattle.lr_host.proofs.Each.{each_append, each_as, each_first}
-use Rattle.lr_durable.specs.Renewing.{IsAsideOf, IsWithin, MayRenew, left_alone, renewed}
+use Rattle.lr_durable.specs.Renewing.{LeavesAlone, IsWithinDirs, MayRenew, left_alone, renewed}
 use Rattle.lr_durable.specs.StateWhole.{KeepsWhole}
 use Rattle.lr_durable.proofs.Whole.{whole_at}
 use Rattle.lr_due.specs.declared.answer.Due.{Due}
@@ -32,7 +32,7 @@ use Rattle.lr_plan.specs.Done.{SetsDone, rotated_logs}
 use Rattle.lr_plan.specs.Planned.{decision}
 use Rattle.lr_plan.specs.Steps.{steps_of_set}
 use Rattle.lr_laws_targets.specs.AllTurns.{IsOfSome}
-use Rattle.lr_laws_targets.specs.Apart.{HaveNames}
+use Rattle.lr_laws_targets.specs.Apart.{TargetsHaveNames}
 use Rattle.lr_laws_targets.specs.Target.{Target}
 use Rattle.lr_weave.specs.Parts.{ArePlanned}
 use Rattle.lr_weave.specs.Planned.{HaveLogs}
@@ -55,7 +55,7 @@ use Rattle.lr_run.specs.declared.answer.RunStop.TheVariants as stop
 use Rattle.lr_run.specs.Runs as runs
 use Rattle.lr_run.specs.Answers.{Answers}
 use Rattle.lr_run.specs.Runs.{Looked, Worked, Works, not_known, too_big, worked, Runs, no_directory, not_seen, not_begun, BrokeOff, at_first, in_looks, in_acts, plan_in, state_text}
-use Rattle.lr_run.specs.State.{Tells, IsNewText}
+use Rattle.lr_run.specs.State.{TellsState, IsNewText}
 use Rattle.lr_run.proofs.Covering.{none_changed, none_aside, none_within, of_changes, some_aside}
 use Rattle.lr_run.proofs.Guarding.{changes_within}
 use Rattle.lr_run.proofs.Made.{AreMade, are_made, made_by_tools, made_first, made_later, DontClash, dont_clash}
@@ -64,7 +64,7 @@ use Rattle.lr_run.proofs.Shape.{sees_quiet, some_quiet, seen_quiet, looked_parts
 -- ---- what the writing leaves
 
 -- the tool's entry spares the path
-spares_aside : (x : Path) (e : Entry) → IsTools e → Spares x e → IsAsideOf x e
+spares_aside : (x : Path) (e : Entry) → IsTools e → Spares x e → LeavesAlone x e
 spares_aside x (entry.Renames from to) i s (inl e) = s.0 e
 spares_aside x (entry.Renames from to) i s (inr (inl e)) = s.1 e
 spares_aside x (entry.Renames from to) i s (inr (inr none)) = none
@@ -81,7 +81,7 @@ spares_aside x (entry.MakesDir y mode) i s (inr none) = none
 spares_aside x (entry.Attach v y at) i s c = i
 spares_aside x _ i s c = c
 
-all_aside : (x : Path) (ts : List Entry) → Each IsTools ts → Each (Spares x) ts → Each (IsAsideOf x) ts
+all_aside : (x : Path) (ts : List Entry) → Each IsTools ts → Each (Spares x) ts → Each (LeavesAlone x) ts
 all_aside x [] i s = tt
 all_aside x (t ∷ ts) i s = (spares_aside x t i.0 s.0, all_aside x ts i.1 s.1)
 
@@ -95,26 +95,26 @@ in_pieces : (to : Path) (text : List ℕ) (ts : List Entry) → Appended to text
 in_pieces to _ _ no_more = record { pieces = []; ts_are = refl; text_is = refl }
 in_pieces to _ _ (piece_more piece text {ts = ts} a) = let r = in_pieces to text ts a in record { pieces = piece ∷ r.pieces; ts_are = ap (λ es. entry.Appends to piece ∷ es) r.ts_are; text_is = ap (λ bs. piece ++ bs) r.text_is }
 
-cleared_within : (part : Path) (dirs : List Path) (ts : List Entry) → Maybe (entry.Unlinks part) ts → Each (IsWithin part dirs) ts
-cleared_within part dirs ts (inl e) = subst (Each (IsWithin part dirs)) (sym e) tt
-cleared_within part dirs ts (inr e) = subst (Each (IsWithin part dirs)) (sym e) ((λ x i. ⊎_elim (λ is. inl (sym is)) (λ none. absurd none) i), tt)
+cleared_within : (part : Path) (dirs : List Path) (ts : List Entry) → Maybe (entry.Unlinks part) ts → Each (IsWithinDirs part dirs) ts
+cleared_within part dirs ts (inl e) = subst (Each (IsWithinDirs part dirs)) (sym e) tt
+cleared_within part dirs ts (inr e) = subst (Each (IsWithinDirs part dirs)) (sym e) ((λ x i. ⊎_elim (λ is. inl (sym is)) (λ none. absurd none) i), tt)
 
 synced_calm : (dir : Path) (ts : List Entry) → Maybe (entry.SyncsDir dir) ts → Each (λ e. is_disk_change e ≡ false) ts
 synced_calm dir ts (inl e) = subst (Each (λ e. is_disk_change e ≡ false)) (sym e) tt
 synced_calm dir ts (inr e) = subst (Each (λ e. is_disk_change e ≡ false)) (sym e) (refl, tt)
 
 -- Behind entries that leave the state alone, in these directories, the state is left alone or renewed.
-module _ (state : Path) (dirs : List Path) (text : List ℕ) (IsText : List ℕ → Type 0) (is : IsText text) (front : List Entry) (aside : Each (IsAsideOf state) front) (within : Each (IsWithin (state_part state) dirs) front) where
-  back_may : (back ends : List Entry) → Each IsTools back → Each (IsAsideOf state) ends → Each (λ e. is_disk_change e ≡ false) ends → NamedLast state dirs text back → MayRenew state IsText (front ++ (back ++ ends))
-  back_may back ends tools far calm (not_named s) = left_alone (each_append (IsAsideOf state) front (back ++ ends) aside (each_append (IsAsideOf state) back ends (all_aside state back tools s) far))
+module _ (state : Path) (dirs : List Path) (text : List ℕ) (IsText : List ℕ → Type 0) (is : IsText text) (front : List Entry) (aside : Each (LeavesAlone state) front) (within : Each (IsWithinDirs (state_part state) dirs) front) where
+  back_may : (back ends : List Entry) → Each IsTools back → Each (LeavesAlone state) ends → Each (λ e. is_disk_change e ≡ false) ends → NamedLast state dirs text back → MayRenew state IsText (front ++ (back ++ ends))
+  back_may back ends tools far calm (not_named s) = left_alone (each_append (LeavesAlone state) front (back ++ ends) aside (each_append (LeavesAlone state) back ends (all_aside state back tools s) far))
   back_may back ends tools far calm (named before after e ready spared behind) = renewed dirs text is (record {
     front = front ++ ready.cleared;
     mode = Some 416;
     pieces = p.pieces;
     after = after ++ ends;
     ts_are = ap (λ es. front ++ (es ++ ends)) (e ∙ ap (λ es. es ++ (entry.Renames part state ∷ after)) (ready.before_is ∙ ap (λ es. ready.cleared ++ (entry.Makes part (Some 416) ∷ (es ++ (entry.SyncsFile part ∷ map entry.SyncsDir dirs)))) p.ts_are)) ∙ in_order;
-    aside = each_append (IsAsideOf state) front ready.cleared aside (each_first (IsAsideOf state) ready.cleared _ (subst (Each (IsAsideOf state)) ready.before_is (all_aside state before (each_first IsTools before _ (subst (Each IsTools) e tools)) spared)));
-    within = each_append (IsWithin part dirs) front ready.cleared within (cleared_within part dirs ready.cleared ready.cleared_is);
+    aside = each_append (LeavesAlone state) front ready.cleared aside (each_first (LeavesAlone state) ready.cleared _ (subst (Each (LeavesAlone state)) ready.before_is (all_aside state before (each_first IsTools before _ (subst (Each IsTools) e tools)) spared)));
+    within = each_append (IsWithinDirs part dirs) front ready.cleared within (cleared_within part dirs ready.cleared ready.cleared_is);
     text_is = p.text_is;
     nothing_more = each_append (λ e. is_disk_change e ≡ false) after ends (synced_calm (parent_of state) after behind) calm;
   })
@@ -140,33 +140,33 @@ module _ (state : Path) (dirs : List Path) (text : List ℕ) (IsText : List ℕ 
 
 -- ---- what a run leaves
 
-pub calm_aside : (x : Path) (ts : List Entry) → AreQuiet ts → Each (IsAsideOf x) ts
-calm_aside x ts q = each_as IsQuiet (IsAsideOf x) ts (λ e i. none_aside x e (none_changed e i.0 i.1)) q
+pub calm_aside : (x : Path) (ts : List Entry) → AreQuiet ts → Each (LeavesAlone x) ts
+calm_aside x ts q = each_as IsQuiet (LeavesAlone x) ts (λ e i. none_aside x e (none_changed e i.0 i.1)) q
 
-pub calm_within : (part : Path) (dirs : List Path) (ts : List Entry) → AreQuiet ts → Each (IsWithin part dirs) ts
-calm_within part dirs ts q = each_as IsQuiet (IsWithin part dirs) ts (λ e i. none_within part dirs e (none_changed e i.0 i.1)) q
+pub calm_within : (part : Path) (dirs : List Path) (ts : List Entry) → AreQuiet ts → Each (IsWithinDirs part dirs) ts
+calm_within part dirs ts q = each_as IsQuiet (IsWithinDirs part dirs) ts (λ e i. none_within part dirs e (none_changed e i.0 i.1)) q
 
 pub quiet_alone : (state : Path) (IsText : List ℕ → Type 0) (ts : List Entry) → AreQuiet ts → MayRenew state IsText ts
 quiet_alone state IsText ts q = left_alone (calm_aside state ts q)
 
 -- behind entries that change nothing
 pub behind_quiet : (state : Path) (I J : List ℕ → Type 0) → ((text : List ℕ) → I text → J text) → (xs ts : List Entry) → AreQuiet xs → MayRenew state I ts → MayRenew state J (xs ++ ts)
-behind_quiet state I J f xs ts q (left_alone a) = left_alone (each_append (IsAsideOf state) xs ts (calm_aside state xs q) a)
+behind_quiet state I J f xs ts q (left_alone a) = left_alone (each_append (LeavesAlone state) xs ts (calm_aside state xs q) a)
 behind_quiet state I J f xs ts q (renewed dirs text is r) = renewed dirs text (f text is) (record {
   front = xs ++ r.front;
   mode = r.mode;
   pieces = r.pieces;
   after = r.after;
   ts_are = ap (λ es. xs ++ es) r.ts_are ∙ sym (append_assoc xs r.front _);
-  aside = each_append (IsAsideOf state) xs r.front (calm_aside state xs q) r.aside;
-  within = each_append (IsWithin (state_part state) dirs) xs r.front (calm_within (state_part state) dirs xs q) r.within;
+  aside = each_append (LeavesAlone state) xs r.front (calm_aside state xs q) r.aside;
+  within = each_append (IsWithinDirs (state_part state) dirs) xs r.front (calm_within (state_part state) dirs xs q) r.within;
   text_is = r.text_is;
   nothing_more = r.nothing_more;
 })
 
 -- around what leaves the state alone
-pub around : (state x : Path) (clock : Clock) (rules : Rules) (before between : List Entry) → Each (IsAsideOf x) before → Each (IsAsideOf x) between → Each (IsAsideOf x) (before ++ (entry.Starts state clock.now rules ∷ (between ++ entry.Ends ∷ [])))
-around state x clock rules before between a b = each_append (IsAsideOf x) before (entry.Starts state clock.now rules ∷ (between ++ entry.Ends ∷ [])) a ((λ i. i), each_append (IsAsideOf x) between (entry.Ends ∷ []) b ((λ i. i), tt))
+pub around : (state x : Path) (clock : Clock) (rules : Rules) (before between : List Entry) → Each (LeavesAlone x) before → Each (LeavesAlone x) between → Each (LeavesAlone x) (before ++ (entry.Starts state clock.now rules ∷ (between ++ entry.Ends ∷ [])))
+around state x clock rules before between a b = each_append (LeavesAlone x) before (entry.Starts state clock.now rules ∷ (between ++ entry.Ends ∷ [])) a ((λ i. i), each_append (LeavesAlone x) between (entry.Ends ∷ []) b ((λ i. i), tt))
 
 module _ (state : Path) (rules : Rules) (clock : Clock) (asked : Asked) where
   -- acts behind the looks
@@ -183,7 +183,7 @@ module _ (state : Path) (rules : Rules) (clock : Clock) (asked : Asked) where
     planned : ArePlanned targets (map steps_of_set (plan_in state rules.sets ts l clock asked).sets)
     planned = ready_planned (groups_of clock decide rules.sets l.sets) (plan_in state rules.sets ts l clock asked).sets logs (targets_apart rules.sets l.sets l.of_looks l.looks clock decide l.shown)
 
-    have_names : HaveNames targets
+    have_names : TargetsHaveNames targets
     have_names = targets_have_names rules l.sets l.of_looks l.looks clock decide l.shown
 
     valid : (t : Target) → IsIn t targets → path_fault t.log ≡ None
@@ -197,19 +197,19 @@ module _ (state : Path) (rules : Rules) (clock : Clock) (asked : Asked) where
     seen = l.reads ++ l.looks
 
     -- whose changes are of the logs
-    behind_aside : (acts : List Entry) → Each IsTools acts → Each (IsOfSome targets) (filter is_change acts) → Each (IsAsideOf state) (seen ++ acts)
-    behind_aside acts tools of_logs = each_append (IsAsideOf state) seen acts (calm_aside state seen (seen_quiet state rules.sets ts l))
-        (of_changes (IsAsideOf state) acts (λ e i h. none_aside state e (none_changed e i h)) tools (each_as (IsOfSome targets) (IsAsideOf state) (filter is_change acts) (λ e i. some_aside state targets e have_names (targets_free rules.sets l.sets l.of_looks l.looks clock decide l.shown) i) of_logs))
+    behind_aside : (acts : List Entry) → Each IsTools acts → Each (IsOfSome targets) (filter is_change acts) → Each (LeavesAlone state) (seen ++ acts)
+    behind_aside acts tools of_logs = each_append (LeavesAlone state) seen acts (calm_aside state seen (seen_quiet state rules.sets ts l))
+        (of_changes (LeavesAlone state) acts (λ e i h. none_aside state e (none_changed e i h)) tools (each_as (IsOfSome targets) (LeavesAlone state) (filter is_change acts) (λ e i. some_aside state targets e have_names (targets_free rules.sets l.sets l.of_looks l.looks clock decide l.shown) i) of_logs))
 
     behind_within : (dirs : List Path) (marks : List Mark) (faults : List Fault) (acts : List Entry) → AreMade ts → Each IsTools acts → AreSynced (plan_in state rules.sets ts l clock asked).sets marks dirs → SetsDone (map steps_of_set (plan_in state rules.sets ts l clock asked).sets) marks faults acts
-        → Each (IsWithin (state_part state) dirs) (seen ++ acts)
-    behind_within dirs marks faults acts made tools synced done = each_append (IsWithin (state_part state) dirs) seen acts (calm_within (state_part state) dirs seen (seen_quiet state rules.sets ts l))
-        (of_changes (IsWithin (state_part state) dirs) acts (λ e i h. none_within (state_part state) dirs e (none_changed e i h)) tools
+        → Each (IsWithinDirs (state_part state) dirs) (seen ++ acts)
+    behind_within dirs marks faults acts made tools synced done = each_append (IsWithinDirs (state_part state) dirs) seen acts (calm_within (state_part state) dirs seen (seen_quiet state rules.sets ts l))
+        (of_changes (IsWithinDirs (state_part state) dirs) acts (λ e i h. none_within (state_part state) dirs e (none_changed e i h)) tools
         (changes_within (plan_in state rules.sets ts l clock asked).sets rules clock l.looks (groups_of clock decide rules.sets l.sets) logs (targets_seen rules l.sets l.of_looks l.looks clock decide l.shown) valid (looks_agree made) (state_part state) dirs marks faults acts synced done))
 
   -- a first part of the acts
-  pub broke_aside : (ts : List Entry) → AreMade ts → BrokeOff state rules.sets clock asked ts → Each (IsAsideOf state) ts
-  broke_aside ts made b = subst (Each (IsAsideOf state)) (sym parts)
+  pub broke_aside : (ts : List Entry) → AreMade ts → BrokeOff state rules.sets clock asked ts → Each (LeavesAlone state) ts
+  broke_aside ts made b = subst (Each (LeavesAlone state)) (sym parts)
       (behind_aside ts b.looked b.looked.acts (each_end IsTools (b.looked.reads ++ b.looked.looks) b.looked.acts (subst (Each IsTools) parts (made_by_tools ts made)))
       (cut_some (targets ts b.looked) (map steps_of_set (plan_in state rules.sets ts b.looked clock asked).sets) b.marks b.of_acts b.looked.acts (planned ts b.looked) b.part))
     where
@@ -239,19 +239,19 @@ module _ (state : Path) (rules : Rules) (clock : Clock) (asked : Asked) where
     back_tools : Each IsTools w.acted.entries.entries.back
     back_tools = each_end IsTools (seen ts l ++ acts) w.acted.entries.entries.back tools_of
 
-    acts_aside : Each (IsAsideOf state) (seen ts l ++ acts)
+    acts_aside : Each (LeavesAlone state) (seen ts l ++ acts)
     acts_aside = behind_aside ts l acts acts_tools of_logs
 
-    acts_within : Each (IsWithin (state_part state) w.acted.dirs) (seen ts l ++ acts)
+    acts_within : Each (IsWithinDirs (state_part state) w.acted.dirs) (seen ts l ++ acts)
     acts_within = behind_within ts l w.acted.dirs w.acted.marks w.acted.entries.of_plan acts made acts_tools w.acted.dirs_are w.acted.entries.entries.first
 
     abbrev text : List ℕ
     text = state_text state rules.sets ts l clock (rotated_logs w.acted.marks)
 
     -- behind more that leaves the state alone, and before its end
-    pub worked_may : (IsText : List ℕ → Type 0) → IsText text → (front : List Entry) → Each (IsAsideOf state) front → Each (IsWithin (state_part state) w.acted.dirs) front → MayRenew state IsText (front ++ (ts ++ entry.Ends ∷ []))
+    pub worked_may : (IsText : List ℕ → Type 0) → IsText text → (front : List Entry) → Each (LeavesAlone state) front → Each (IsWithinDirs (state_part state) w.acted.dirs) front → MayRenew state IsText (front ++ (ts ++ entry.Ends ∷ []))
     worked_may IsText is front aside within = subst (MayRenew state IsText) (sym in_order)
-        (back_may state w.acted.dirs text IsText is (front ++ (seen ts l ++ acts)) (each_append (IsAsideOf state) front (seen ts l ++ acts) aside acts_aside) (each_append (IsWithin (state_part state) w.acted.dirs) front (seen ts l ++ acts) within acts_within)
+        (back_may state w.acted.dirs text IsText is (front ++ (seen ts l ++ acts)) (each_append (LeavesAlone state) front (seen ts l ++ acts) aside acts_aside) (each_append (IsWithinDirs (state_part state) w.acted.dirs) front (seen ts l ++ acts) within acts_within)
         w.acted.entries.entries.back (entry.Ends ∷ []) back_tools ((λ i. i), tt) (refl, tt)
         (named_last state l.remembered.stale w.acted.dirs text w.acted.entries.of_state w.acted.entries.entries.back w.acted.entries.entries.second))
       where
@@ -260,14 +260,14 @@ module _ (state : Path) (rules : Rules) (clock : Clock) (asked : Asked) where
 
   -- the work, between what was before and the end
   works_may : (plan : Option Plan) (own : List Fault) (before between : List Entry) → AreQuiet before → AreMade between → Works state rules.sets clock asked plan own between
-      → (IsText : List ℕ → Type 0) → ((text : List ℕ) → Tells state rules.sets clock asked text between → IsText text) → MayRenew state IsText (before ++ (entry.Starts state clock.now rules ∷ (between ++ entry.Ends ∷ [])))
+      → (IsText : List ℕ → Type 0) → ((text : List ℕ) → TellsState state rules.sets clock asked text between → IsText text) → MayRenew state IsText (before ++ (entry.Starts state clock.now rules ∷ (between ++ entry.Ends ∷ [])))
   works_may plan own before between q made (not_known sights f known lost e shown) IsText tells = left_alone (around state state clock rules before between (calm_aside state before q) (calm_aside state between (state_quiet state 65_536 sights between shown)))
   works_may plan own before between q made (too_big l big lost e none) IsText tells = left_alone (around state state clock rules before between (calm_aside state before q)
       (calm_aside state between (subst AreQuiet (sym (l.joined ∙ (ap (λ xs. l.reads ++ (l.looks ++ xs)) none ∙ ap (λ xs. l.reads ++ xs) (append-nil l.looks)))) (seen_quiet state rules.sets between l))))
   works_may plan own before between q made (worked w is) IsText tells = subst (MayRenew state IsText) (append_assoc before (entry.Starts state clock.now rules ∷ []) (between ++ entry.Ends ∷ []))
       (worked_may own between w made IsText (tells _ (record { own = own; worked = w; text_is = refl })) (before ++ entry.Starts state clock.now rules ∷ [])
-      (each_append (IsAsideOf state) before (entry.Starts state clock.now rules ∷ []) (calm_aside state before q) ((λ i. i), tt))
-      (each_append (IsWithin (state_part state) w.acted.dirs) before (entry.Starts state clock.now rules ∷ []) (calm_within (state_part state) w.acted.dirs before q) ((λ x i. absurd i), tt)))
+      (each_append (LeavesAlone state) before (entry.Starts state clock.now rules ∷ []) (calm_aside state before q) ((λ i. i), tt))
+      (each_append (IsWithinDirs (state_part state) w.acted.dirs) before (entry.Starts state clock.now rules ∷ []) (calm_within (state_part state) w.acted.dirs before q) ((λ x i. absurd i), tt)))
 
   -- what a run leaves
   pub between_made : (before between ts : List Entry) → ts ≡ before ++ (entry.Starts state clock.now rules ∷ (between ++ entry.Ends ∷ [])) → AreMade ts → AreMade between
@@ -281,9 +281,9 @@ module _ (state : Path) (rules : Rules) (clock : Clock) (asked : Asked) where
   runs_may plan own ts made (not_seen lost e s) = quiet_alone state (IsTextOf ts) ts (subst AreQuiet (sym s) tt)
   runs_may plan own ts made (not_begun lost e t) = left_alone (go t.second)
     where
-      go : (t.back ≡ []) ⊎ (t.back ≡ entry.Starts state clock.now rules ∷ []) → Each (IsAsideOf state) ts
+      go : (t.back ≡ []) ⊎ (t.back ≡ entry.Starts state clock.now rules ∷ []) → Each (LeavesAlone state) ts
       go (inl none) = calm_aside state ts (subst AreQuiet (sym (t.joined ∙ (ap (λ es. t.front ++ es) none ∙ append-nil t.front))) (sees_quiet (parent_of state) IsDir t.front t.first))
-      go (inr one) = subst (Each (IsAsideOf state)) (sym (t.joined ∙ ap (λ es. t.front ++ es) one)) (each_append (IsAsideOf state) t.front (entry.Starts state clock.now rules ∷ []) (calm_aside state t.front (sees_quiet (parent_of state) IsDir t.front t.first)) ((λ i. i), tt))
+      go (inr one) = subst (Each (LeavesAlone state)) (sym (t.joined ∙ ap (λ es. t.front ++ es) one)) (each_append (LeavesAlone state) t.front (entry.Starts state clock.now rules ∷ []) (calm_aside state t.front (sees_quiet (parent_of state) IsDir t.front t.first)) ((λ i. i), tt))
   runs_may plan own ts made (runs.began i) = subst (MayRenew state (IsTextOf ts)) (sym i.entries)
       (works_may plan own i.before i.between (sees_quiet (parent_of state) IsDir i.before i.directory) (between_made i.before i.between ts i.entries made) i.within (IsTextOf ts)
       (λ text t. record { before = i.before; between = i.between; entries = i.entries; directory = i.directory; within = t }))

@@ -27,9 +27,9 @@ use Rattle.lr_plan.specs.Done.{PlanDone}
 use Rattle.lr_plan.specs.Planned.{decision}
 use Rattle.lr_laws_targets.specs.AllTurns.{dir_paths, other_paths, paths_beside}
 use Rattle.lr_laws_targets.specs.Target.{Target, HasDir}
-use Rattle.lr_laws_family.specs.Turned.{IsRotation}
+use Rattle.lr_laws_family.specs.Turned.{IsFamilyRotation}
 use Rattle.lr_laws_targets.specs.Rotation.{rotation_by}
-use Rattle.lr_laws_targets.specs.Apart.{HasNames, HaveNames}
+use Rattle.lr_laws_targets.specs.Apart.{HasNames, TargetsHaveNames}
 use Rattle.lr_laws_targets.proofs.Beside.{none_own}
 use Rattle.lr_laws_targets.specs.Runs.{AllTurnedBy}
 use Rattle.lr_laws_targets.proofs.Plan.{plan_is_one}
@@ -109,7 +109,7 @@ module _ (state : Path) (asked : Asked) (clock : Clock) (rules : Rules) (own : L
   abbrev pub targets : List Target
   targets = rotated_in state rules.sets i.between i.within.looked clock asked
 
-  named : HaveNames targets
+  named : TargetsHaveNames targets
   named = targets_have_names rules l.sets l.of_looks l.looks clock decide l.shown
 
   free : IsFreeOf (reserved_by state) t
@@ -145,7 +145,7 @@ module _ (state : Path) (asked : Asked) (clock : Clock) (rules : Rules) (own : L
   pub names_any : HasNames t
   names_any = any_names rules clock turned.turns.looks t seen
 
-  pub is_one : IsRotation t.naming (rotation_by t)
+  pub is_one : IsFamilyRotation t.naming (rotation_by t)
   is_one = plan_is_one t names_any
 
   -- the paths beside it are no names of its own

@@ -11,7 +11,7 @@ use Rattle.lr_host.proofs.Each.{each_append, each_as}
 use Rattle.lr_family.proofs.OnlyLooks.{IsLooking, AreLooking}
 use Rattle.lr_reading.specs.declared.look.LookStop.{LookStop}
 use Rattle.lr_reading.specs.Pieces.{Reading, Whole, Broken, AreSome, IsReading, reads_from, reads_of}
-use Rattle.lr_reading.specs.Sights.{Sight, Failed, Nothing, Saw, StateSights, ShowsState, found, look_of, text_entries, behind_part, behind_state}
+use Rattle.lr_reading.specs.Sights.{StateSight, Failed, Nothing, Saw, StateSights, ShowsState, found, state_look, text_entries, behind_part, behind_state}
 use Rattle.lr_seen.proofs.Quiet.{whole_looking, part_looking}
 use Rattle.lr_run.specs.Runs.{Looked, SomeSeen, of_state, of_looks}
 
@@ -38,7 +38,7 @@ module _ (P : Entry → Type 0) (look : (x : Path) (seen : Option Seen) → P (e
   reading_so path (Whole pieces last) is = reads_so path 0 (pieces ++ last ∷ []) (last_short pieces last is.0.0 is.1)
   reading_so path (Broken pieces) is = reads_so path 0 pieces (some_short pieces is.0)
 
-  look_so : (path : Path) (s : Sight) → Each P (look_of path s)
+  look_so : (path : Path) (s : StateSight) → Each P (state_look path s)
   look_so path Failed = tt
   look_so path Nothing = (look path _, tt)
   look_so path (Saw seen) = (look path _, tt)
@@ -51,12 +51,12 @@ module _ (P : Entry → Type 0) (look : (x : Path) (seen : Option Seen) → P (e
   part_so state there (Ok stale) r is = text_so state there r is
   part_so state there (Err why) r is = tt
 
-  behind_so : (state : Path) (f : Result Bool LookStop) (part : Sight) (r : Reading) → IsReading 65_536 r → Each P (behind_state state f part r)
-  behind_so state (Ok there) part r is = each_append P (look_of (state_part state) part) (behind_part state there (found part) r) (look_so (state_part state) part) (part_so state there (found part) r is)
+  behind_so : (state : Path) (f : Result Bool LookStop) (part : StateSight) (r : Reading) → IsReading 65_536 r → Each P (behind_state state f part r)
+  behind_so state (Ok there) part r is = each_append P (state_look (state_part state) part) (behind_part state there (found part) r) (look_so (state_part state) part) (part_so state there (found part) r is)
   behind_so state (Err why) part r is = tt
 
   pub state_so : (state : Path) (s : StateSights) (ts : List Entry) → ShowsState state 65_536 s ts → Each P ts
-  state_so state s ts shown = subst (Each P) (sym shown.entries) (each_append P (look_of state s.state) (behind_state state (found s.state) s.part s.reading) (look_so state s.state) (behind_so state (found s.state) s.part s.reading shown.reading))
+  state_so state s ts shown = subst (Each P) (sym shown.entries) (each_append P (state_look state s.state) (behind_state state (found s.state) s.part s.reading) (look_so state s.state) (behind_so state (found s.state) s.part s.reading shown.reading))
 
 -- and of listings: the logs, and both
 module _ (P : Entry → Type 0) (look : (x : Path) (seen : Option Seen) → P (entry.Look x seen)) (list : (x : Path) (names : List (List ℕ)) → P (entry.List x names)) (read : (x : Path) (place : ℕ) (piece : List ℕ) → length piece ≤ 65536 → P (entry.Reads x place piece)) where

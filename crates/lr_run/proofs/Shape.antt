@@ -29,7 +29,7 @@ use Rattle.lr_plan.specs.declared.looks.LogLook.{LogLook}
 use Rattle.lr_plan.specs.Planned.{decision}
 use Rattle.lr_laws_targets.specs.AllTurns.{IsOfSome, IsOfState, StandsBetween}
 use Rattle.lr_reading.proofs.Quiet.{state_quiet}
-use Rattle.lr_laws_targets.specs.Target.{Target, rotation_of, IsGiven, IsDirSeenBy, IsJobOf}
+use Rattle.lr_laws_targets.specs.Target.{Target, target_entries, IsGiven, IsDirSeenBy, IsTargetJob}
 use Rattle.lr_laws_family.specs.Weave.{Weave, FirstWoven, Among}
 use Rattle.lr_laws_family.proofs.Weaving.{weave_on, weave_others}
 use Rattle.lr_laws_targets.specs.Runs.{AllTurnsBy, AllTurnedBy, started, IsWholeRunBy}
@@ -80,13 +80,13 @@ ended state clock rules ts t = record {
   targets = t.targets;
   seen = t.seen;
   all = subst (Each (λ e. IsOfSome t.targets e ⊎ IsOfState state e)) (sym (ended_changes t.acts)) t.all;
-  each = λ x h. subst (FirstWoven (StandsBetween state x t.targets) (rotation_of x)) (sym (ended_changes t.acts)) (t.each x h);
+  each = λ x h. subst (FirstWoven (StandsBetween state x t.targets) (target_entries x)) (sym (ended_changes t.acts)) (t.each x h);
 }
 
 abbrev pub ended_whole : (state : Path) (clock : Clock) (rules : Rules) (ts : List Entry) → AllTurnedBy state clock rules ts → AllTurnedBy state clock rules (ts ++ entry.Ends ∷ [])
 ended_whole state clock rules ts t = record {
   turns = ended state clock rules ts t.turns;
-  whole = λ x h. subst (Weave (StandsBetween state x t.turns.targets) (rotation_of x)) (sym (ended_changes t.turns.acts)) (t.whole x h);
+  whole = λ x h. subst (Weave (StandsBetween state x t.turns.targets) (target_entries x)) (sym (ended_changes t.turns.acts)) (t.whole x h);
 }
 
 -- ---- the state's writing behind the rotations
@@ -107,15 +107,15 @@ written state clock rules ts us t a = record {
   seen = t.seen;
   all = subst (Each (λ e. IsOfSome t.targets e ⊎ IsOfState state e)) (sym (filter-append is_change t.acts us))
       (each_append (λ e. IsOfSome t.targets e ⊎ IsOfState state e) (filter is_change t.acts) (filter is_change us) t.all (each_as (IsOfState state) (λ e. IsOfSome t.targets e ⊎ IsOfState state e) (filter is_change us) (λ e h. inr h) a));
-  each = λ x h. subst (FirstWoven (StandsBetween state x t.targets) (rotation_of x)) (sym (filter-append is_change t.acts us))
-      (first_behind (StandsBetween state x t.targets) (rotation_of x) (filter is_change t.acts) (filter is_change us) (t.each x h) (each_as (IsOfState state) (StandsBetween state x t.targets) (filter is_change us) (λ e h. inr (inl h)) a));
+  each = λ x h. subst (FirstWoven (StandsBetween state x t.targets) (target_entries x)) (sym (filter-append is_change t.acts us))
+      (first_behind (StandsBetween state x t.targets) (target_entries x) (filter is_change t.acts) (filter is_change us) (t.each x h) (each_as (IsOfState state) (StandsBetween state x t.targets) (filter is_change us) (λ e h. inr (inl h)) a));
 }
 
 abbrev pub written_whole : (state : Path) (clock : Clock) (rules : Rules) (ts us : List Entry) → AllTurnedBy state clock rules ts → Each (IsOfState state) (filter is_change us) → AllTurnedBy state clock rules (ts ++ us)
 written_whole state clock rules ts us t a = record {
   turns = written state clock rules ts us t.turns a;
-  whole = λ x h. subst (Weave (StandsBetween state x t.turns.targets) (rotation_of x)) (sym (filter-append is_change t.turns.acts us))
-      (woven_behind (StandsBetween state x t.turns.targets) (rotation_of x) (filter is_change t.turns.acts) (filter is_change us) (t.whole x h) (each_as (IsOfState state) (StandsBetween state x t.turns.targets) (filter is_change us) (λ e h. inr (inl h)) a));
+  whole = λ x h. subst (Weave (StandsBetween state x t.turns.targets) (target_entries x)) (sym (filter-append is_change t.turns.acts us))
+      (woven_behind (StandsBetween state x t.turns.targets) (target_entries x) (filter is_change t.turns.acts) (filter is_change us) (t.whole x h) (each_as (IsOfState state) (StandsBetween state x t.turns.targets) (filter is_change us) (λ e h. inr (inl h)) a));
 }
 
 -- ---- what was seen behind a reading
@@ -169,7 +169,7 @@ seen_later rules clock xs looks (t ∷ ts) s = (
   seen_later rules clock xs looks ts s.1,
 )
   where
-    job_later : IsJobOf t looks → IsJobOf t (xs ++ looks)
+    job_later : IsTargetJob t looks → IsTargetJob t (xs ++ looks)
     job_later f = λ job is. let h = f job is in (h.0, λ stale. among_later (Sees job.part IsFile) xs looks (h.1 stale))
 
 -- ---- the work

@@ -26,7 +26,7 @@ use Rattle.lr_run.specs.declared.answer.Ran.{Ran}
 use Rattle.lr_run.specs.declared.answer.RunStop.{RunStop}
 use Rattle.lr_run.specs.Copied.{IsCopyBy}
 use Rattle.lr_glob.specs.Looking.{IsSight, AreSights}
-use Rattle.lr_run.specs.Halt.{Halt, Bars, Halts, not_seen, no_directory, held, not_begun, unknown, too_big, no_memory, short, short_anew}
+use Rattle.lr_run.specs.Halt.{Halt, DirBars, Halts, not_seen, no_directory, held, not_begun, unknown, too_big, no_memory, short, short_anew}
 use Rattle.lr_run.specs.Ran.{RunEnds, halted, came, RanSo}
 use Rattle.lr_run.specs.Saw.{Saw, ShowsStateFile, by_dir, by_none, ShowsSaw}
 use Rattle.lr_run.specs.State.{IsNewText}
@@ -61,7 +61,7 @@ module _ (P : Entry → Type 0) (look : (x : Path) (seen : Option Seen) → P (e
 
   pub halted_so : (state : Path) (rules : Rules) (clock : Clock) (asked : Asked) (halt : Halt) (ts : List Entry) → Halts true state rules clock asked halt ts → Each P ts
   halted_so state rules clock asked halt ts (not_seen is none) = none_so ts none
-  halted_so state rules clock asked halt ts (no_directory is s) = sees_so (parent_of state) (Bars true) ts s
+  halted_so state rules clock asked halt ts (no_directory is s) = sees_so (parent_of state) (DirBars true) ts s
   halted_so state rules clock asked halt ts (held acts is s) = absurd (cc)
   halted_so state rules clock asked halt ts (not_begun acts is t) = absurd (cc)
   halted_so state rules clock asked halt ts (unknown f is t) = then_so _ _ ts (λ us h. sees_so (parent_of state) IsDir us h) (λ us h. state_so P look read state h.sights us h.shown) t

@@ -23,7 +23,7 @@ use Rattle.lr_looks.specs.Choices.{duplicate, overlap, barred, choice_fault, cho
 use Rattle.lr_looks.specs.Families.{FamilySight, Stood, Stopped, stop_fault, family_faults}
 use Rattle.lr_looks.specs.Found.{FoundLog}
 use Rattle.lr_looks.specs.Asked.{Word}
-use Rattle.lr_looks.specs.Sights.{WordSight, missing, glob_fault, fault_of, faults_of}
+use Rattle.lr_looks.specs.Sights.{WordSight, missing, glob_fault, sight_faults, all_sight_faults}
 use Rattle.lr_looks.specs.Shown.{ShowsLooks, LooksAtAll}
 use Rattle.lr_plan.specs.Asked.{Asked}
 use Rattle.lr_plan.specs.declared.looks.Looks.{Looks}
@@ -37,7 +37,7 @@ use Rattle.lr_state.specs.Written.{text_of}
 use Rattle.lr_looks.specs.Reserved.{reserved_by}
 use Rattle.lr_acts.specs.Taken.{WasTaken, no_journal}
 use Rattle.lr_reading.specs.declared.remembered.Remembered.{Remembered}
-use Rattle.lr_run.specs.Internal.{plan_for, steps_behind}
+use Rattle.lr_run.specs.Internal.{plan_for, steps_of_writing}
 use Rattle.lr_run.specs.Work.{Acts}
 use Rattle.lr_run.proofs.Hindered.{plan_taken}
 
@@ -76,15 +76,15 @@ glob_none w glob.LongName = no_one (fault.LongName w.text) (λ h. h)
 glob_none w glob.TooMany = no_one (fault.TooMany w.text) (λ h. h)
 glob_none w glob.Memory = no_more
 
-word_none : (w : Word) (s : WordSight) → NoneOfNew (fault_of w s)
+word_none : (w : Word) (s : WordSight) → NoneOfNew (sight_faults w s)
 word_none w (Ok []) = missing_none w
 word_none w (Ok (m ∷ ms)) = no_more
 word_none w (Err why) = glob_none w why
 
-words_none : (ws : List Word) (ss : List WordSight) → NoneOfNew (faults_of ws ss)
+words_none : (ws : List Word) (ss : List WordSight) → NoneOfNew (all_sight_faults ws ss)
 words_none [] ss = no_more
 words_none (w ∷ ws) [] = no_more
-words_none (w ∷ ws) (s ∷ ss) = no_on (fault_of w s) (faults_of ws ss) (word_none w s) (words_none ws ss)
+words_none (w ∷ ws) (s ∷ ss) = no_on (sight_faults w s) (all_sight_faults ws ss) (word_none w s) (words_none ws ss)
 
 duplicate_none : (f : FoundLog) (o : Option FoundLog) → NoneOfNew (duplicate f o)
 duplicate_none f None = no_more
@@ -146,7 +146,7 @@ looks_none reserved rules sets own ts h =
 
 -- of the faults of the plan: behind the looks a member had the path, and no act unlinked it
 pub hindered_taken : (state : Path) (rules : Rules) (looks : Looks) (remembered : Remembered) (clock : Clock) (asked : Asked) (acts : Acts) (a b : List Fault) {o m n : Option Journal} → Left (LooksAtAll (reserved_by state) rules.sets looks a b) o m
-    → Left (Then (SetsDone (steps_of_plan (plan_for rules looks remembered clock asked)) acts.marks acts.of_logs) (Course (steps_behind state looks remembered clock acts) [] acts.of_state)) m n
+    → Left (Then (SetsDone (steps_of_plan (plan_for rules looks remembered clock asked)) acts.marks acts.of_logs) (Course (steps_of_writing state looks remembered clock acts) [] acts.of_state)) m n
     → (path : Path) → IsIn (fault.Taken path) (plan_for rules looks remembered clock asked).faults → WasTaken path m n
 hindered_taken state rules looks remembered clock asked acts a b not_told did path i = untold did
   where

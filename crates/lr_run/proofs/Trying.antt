@@ -22,7 +22,7 @@ use Rattle.lr_host.proofs.Counts.{AreFree, adds_on, adds_free}
 use Rattle.lr_host.proofs.Left.{left_as, left_first, left_then}
 use Rattle.lr_family.specs.declared.directory.DirStop.{DirStop}
 use Rattle.lr_family.specs.declared.directory.DirStop.TheVariants as dir
-use Rattle.lr_family.specs.Directory.{DirSeen, DirStopped}
+use Rattle.lr_family.specs.Directory.{DirSeen, DirLookStopped}
 use Rattle.lr_state.specs.Table.{Entry as Row}
 use Rattle.lr_looks.specs.Found.{paths_of}
 use Rattle.lr_looks.specs.Shown.{LooksAtAll, ShowsSomeLooks}
@@ -37,13 +37,13 @@ use Rattle.lr_looks.specs.Reserved.{reserved_by}
 use Rattle.lr_run.specs.declared.answer.Ran.{Ran}
 use Rattle.lr_run.specs.declared.answer.RunStop.{RunStop}
 use Rattle.lr_run.specs.declared.answer.RunStop.TheVariants as stop
-use Rattle.lr_run.specs.Dry.{measured_by, Follows}
+use Rattle.lr_run.specs.Dry.{measured_by, PlanFollows}
 use Rattle.lr_run.specs.Halt.{OfFaults, OfMemory, Halts, not_seen, no_directory, unknown, too_big, short, short_anew}
 use Rattle.lr_run.specs.Internal.{dir_fault_of, plan_if, faults_if}
 use Rattle.lr_run.specs.Ran.{halted, came, RanSo}
 use Rattle.lr_run.specs.Runs.{SomeSeen, of_state, of_looks}
 use Rattle.lr_run.specs.Saw.{Saw, ShowsStateFile, by_dir, by_none, ShowsSaw}
-use Rattle.lr_run.specs.Trying.{FollowsBy, PlansOn, PlansByOn, not_known, by_text, TriesOn}
+use Rattle.lr_run.specs.Trying.{PlanFollowsBy, PlansOn, PlansByOn, not_known, by_text, TriesOn}
 use Rattle.lr_run.specs.Work.{Work, no_acts}
 use Rattle.lr_run.proofs.Knowing.{known_text}
 use Rattle.lr_run.proofs.Works.{plan_free, none_fell, some_of_whole, none_sights, none_shown}
@@ -52,39 +52,39 @@ use Rattle.lr_run.proofs.Works.{plan_free, none_fell, some_of_whole, none_sights
 
 -- what is told of a plan that was measured
 pub measured : (b : Bool) (rules : List Rule) (sets : List SetLooks) (kept : List Path) (table : List Row) (clock : Clock) (asked : Asked) → b ≡ nat_le (length (measured_by (plan_of rules sets table clock asked) table kept clock)) 67_108_864
-    → Follows rules sets kept table clock asked (plan_if b (plan_of rules sets table clock asked)) (faults_if b (plan_of rules sets table clock asked))
+    → PlanFollows rules sets kept table clock asked (plan_if b (plan_of rules sets table clock asked)) (faults_if b (plan_of rules sets table clock asked))
 measured true rules sets kept table clock asked e = (leb-true (length (measured_by (plan_of rules sets table clock asked) table kept clock)) 67_108_864 (sym e), refl, refl)
 measured false rules sets kept table clock asked e = (leb-false (length (measured_by (plan_of rules sets table clock asked) table kept clock)) 67_108_864 (sym e), refl)
 
 -- so it is for the plan that was told
 pub follows : {E : Type 0} (r : Result (Option Plan) E) (b : Bool) (plan : Plan) (rules : List Rule) (sets : List SetLooks) (kept logs : List Path) (table : List Row) (clock : Clock) (asked : Asked) (x y : List Fault) → plan ≡ plan_of rules sets table clock asked → kept ≡ logs
     → b ≡ nat_le (length (measured_by plan table kept clock)) 67_108_864 → IfOk r (λ told. told ≡ plan_if b plan) → OnOk r (y ≡ x ++ faults_if b plan)
-    → IfOk r (λ told. (own : List Fault) × (y ≡ x ++ own) × Follows rules sets logs table clock asked told own)
+    → IfOk r (λ told. (own : List Fault) × (y ≡ x ++ own) × PlanFollows rules sets logs table clock asked told own)
 follows (Err e) b plan rules sets kept logs table clock asked x y is k m h g = tt
 follows (Ok told) b plan rules sets kept logs table clock asked x y is k m h g = (
   faults_if b plan,
   g,
-  subst (λ (p : Option Plan). Follows rules sets logs table clock asked p (faults_if b plan)) (sym h)
-      (subst (λ (p : Plan). Follows rules sets logs table clock asked (plan_if b p) (faults_if b p)) (sym is)
+  subst (λ (p : Option Plan). PlanFollows rules sets logs table clock asked p (faults_if b plan)) (sym h)
+      (subst (λ (p : Plan). PlanFollows rules sets logs table clock asked (plan_if b p) (faults_if b p)) (sym is)
       (measured b rules sets logs table clock asked (m ∙ (ap (λ (p : Plan). nat_le (length (measured_by p table kept clock)) 67_108_864) is ∙ ap (λ (ks : List Path). nat_le (length (measured_by (plan_of rules sets table clock asked) table ks clock)) 67_108_864) k)))),
 )
 
 -- its faults tell of no call and of no program
-follows_free : (rules : List Rule) (sets : List SetLooks) (kept : List Path) (table : List Row) (clock : Clock) (asked : Asked) (told : Option Plan) (own x y : List Fault) (k : Counts) → Follows rules sets kept table clock asked told own → y ≡ x ++ own → AddsFaults x y k k
+follows_free : (rules : List Rule) (sets : List SetLooks) (kept : List Path) (table : List Row) (clock : Clock) (asked : Asked) (told : Option Plan) (own x y : List Fault) (k : Counts) → PlanFollows rules sets kept table clock asked told own → y ≡ x ++ own → AddsFaults x y k k
 follows_free rules sets kept table clock asked (Some plan) own x y k f e = adds_free x y own k k e
     (subst (λ fs. AreFree fs) (sym (f.2 ∙ ap (λ (p : Plan). p.faults) f.1)) (plan_free clock (decision table clock.now asked.force) rules sets)) (none_fell k)
 follows_free rules sets kept table clock asked None own x y k f e = adds_free x y own k k e
     (subst (λ fs. AreFree fs) (sym f.1) (record { calls = refl; scripts = refl; none_around = ((λ h. h), tt) })) (none_fell k)
 
 -- so it is in what was seen
-follows_by : (rules : List Rule) (saw : Saw) (clock : Clock) (asked : Asked) (told : Option Plan) (own : List Fault) → Follows rules saw.sets (paths_of saw.kept) saw.table clock asked told own → FollowsBy rules saw clock asked told own
+follows_by : (rules : List Rule) (saw : Saw) (clock : Clock) (asked : Asked) (told : Option Plan) (own : List Fault) → PlanFollows rules saw.sets (paths_of saw.kept) saw.table clock asked told own → PlanFollowsBy rules saw clock asked told own
 follows_by rules saw clock asked (Some plan) own f = (record { is = f.1; small = f.0 }, f.2)
 follows_by rules saw clock asked None own f = f
 
 -- ---- the looks
 
 pub planned : {E : Type 0} (r : Result (Option Plan) E) (state : Path) (rules : List Rule) (looks : Looks) (table : List Row) (clock : Clock) (asked : Asked) (x y z : List Fault) {o n : Option Journal} → Left (LooksAtAll (reserved_by state) rules looks x y) o n
-    → IfOk r (λ told. (own : List Fault) × (z ≡ y ++ own) × Follows rules looks.sets looks.kept table clock asked told own)
+    → IfOk r (λ told. (own : List Fault) × (z ≡ y ++ own) × PlanFollows rules looks.sets looks.kept table clock asked told own)
     → IfOk r (λ told. Left (PlansOn state rules table clock asked told x z) o n)
 planned (Err e) state rules looks table clock asked x y z l h = tt
 planned (Ok told) state rules looks table clock asked x y z l h = left_as l (λ ts g.
@@ -94,11 +94,11 @@ planned (Ok told) state rules looks table clock asked x y z l h = left_as l (λ 
       sets = record { shown = g.shown; words_are = refl; kept_are = refl };
       own = h.0;
       faults_are = h.1 ∙ (ap (λ fs. fs ++ h.0) g.faults_are ∙ append_assoc x g.own h.0);
-      follows = follows_by rules saw clock asked told h.0 (subst (λ (ks : List Path). Follows rules looks.sets ks table clock asked told h.0) g.kept_are h.2);
+      follows = follows_by rules saw clock asked told h.0 (subst (λ (ks : List Path). PlanFollows rules looks.sets ks table clock asked told h.0) g.kept_are h.2);
     })
 
 pub planned_went : {E : Type 0} (r : Result (Option Plan) E) (rules : List Rule) (sets : List SetLooks) (kept : List Path) (table : List Row) (clock : Clock) (asked : Asked) (x y z : List Fault) (k l : Counts) → Went x y k l
-    → IfOk r (λ told. (own : List Fault) × (z ≡ y ++ own) × Follows rules sets kept table clock asked told own) → WentBy r x z k l
+    → IfOk r (λ told. (own : List Fault) × (z ≡ y ++ own) × PlanFollows rules sets kept table clock asked told own) → WentBy r x z k l
 planned_went (Err e) rules sets kept table clock asked x y z k l w h = w.onward
 planned_went (Ok told) rules sets kept table clock asked x y z k l w h = record { adds = adds_on x y z k l l w.adds (follows_free rules sets kept table clock asked told h.0 y z l h.2 h.1); onward = w.onward }
 
@@ -150,7 +150,7 @@ planned_so state rules clock asked told a later text table stale dir reads looks
       sets = record { shown = p.sets.shown; words_are = p.sets.words_are; kept_are = p.sets.kept_are };
     }
 
-    go : (told : Option Plan) → FollowsBy rules.sets p.saw clock asked told p.own → TriesOn state rules clock asked a (Ok (record { plan = told; faults = later })) (dir ++ (reads ++ looks))
+    go : (told : Option Plan) → PlanFollowsBy rules.sets p.saw clock asked told p.own → TriesOn state rules clock asked a (Ok (record { plan = told; faults = later })) (dir ++ (reads ++ looks))
     go (Some plan) f =
         let w : Work = record { saw = saw; plan = plan; acts = no_acts; dir = dir; reads = reads; looks = looks; did = [] } in (
           Some w,
@@ -180,7 +180,7 @@ tried_by_none (Ok told) state rules table clock asked x a later n is t l h = lef
     (by_none refl (subst (λ (y : Path). Sees y IsNothing ts) is p) refl refl) (subst (λ (rows : List Row). TextSaysOnly [] (Ok rows)) (sym t) nothing_said) q)
 
 -- it wasn't seen
-pub not_tried : (state : Path) (rules : Rules) (clock : Clock) (asked : Asked) (why : DirStop) (x : Path) (a : List Fault) (later : Vec Fault Global) {o n : Option Journal} → x ≡ parent_of state → later.items ≡ a ++ dir_fault_of why x ∷ [] → Left (DirStopped x why) o n
+pub not_tried : (state : Path) (rules : Rules) (clock : Clock) (asked : Asked) (why : DirStop) (x : Path) (a : List Fault) (later : Vec Fault Global) {o n : Option Journal} → x ≡ parent_of state → later.items ≡ a ++ dir_fault_of why x ∷ [] → Left (DirLookStopped x why) o n
     → Left (TriesOn state rules clock asked a (Ok (record { plan = None; faults = later }))) o n
 not_tried state rules clock asked dir.NotDir x a later e is l = left_as l (λ ts h. (
   None,

@@ -15,7 +15,7 @@ use Rattle.lr_plan.specs.Asked.{Asked}
 use Rattle.lr_laws_targets.specs.Target.{Target}
 use Rattle.lr_seen.specs.Planned.{targets_in}
 use Rattle.lr_seen.proofs.Planned.{plan_targets}
-use Rattle.lr_run.specs.Rotated.{rotated_logs, IsTurnedAmong, TurnLogs}
+use Rattle.lr_run.specs.Rotated.{rotated_targets, IsTurnedAmong, TurnLogs}
 use Rattle.lr_looks.specs.Inside.{Inside}
 use Rattle.lr_run.specs.Runs.{Worked}
 use Rattle.lr_run.specs.Work.{Work, IsPlanOf, ShowsWork, CarriesOut, run_entries}
@@ -23,7 +23,7 @@ use Rattle.lr_run.proofs.Evidence.{faults_of, text_shown, worked_of}
 use Rattle.lr_run.proofs.Turning.{run_turned}
 
 -- the logs of the plan are those that the looks show
-pub logs_are : (rules : List Rule) (clock : Clock) (asked : Asked) (w : Work) → IsPlanOf rules w.saw clock asked w.plan → rotated_logs rules w.saw.table clock asked w.saw.sets ≡ targets_in w.plan
+pub logs_are : (rules : List Rule) (clock : Clock) (asked : Asked) (w : Work) → IsPlanOf rules w.saw clock asked w.plan → rotated_targets rules w.saw.table clock asked w.saw.sets ≡ targets_in w.plan
 logs_are rules clock asked w planned = sym (ap targets_in planned.is ∙ plan_targets rules w.saw.sets w.saw.table clock asked)
 
 module _ (state : Path) (asked : Asked) (clock : Clock) (rules : Rules) (w : Work) (shows : ShowsWork false state rules.sets clock asked w) (out : CarriesOut state clock w) where

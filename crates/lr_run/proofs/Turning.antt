@@ -27,7 +27,7 @@ use Rattle.lr_laws_targets.specs.Seen.{IsLogSeen}
 use Rattle.lr_laws_targets.proofs.CallsFit.{log_paths}
 use Rattle.lr_laws_targets.proofs.Own.{named_own, member_own}
 use Rattle.lr_laws_targets.proofs.Way.{source_own}
-use Rattle.lr_weave.specs.Planned.{HaveLogs, AreApart}
+use Rattle.lr_weave.specs.Planned.{HaveLogs, LogsDiffer}
 use Rattle.lr_turned.proofs.Stands.{stands_first, plan_stands, plan_empties}
 use Rattle.lr_seen.specs.Targets.{groups_of}
 use Rattle.lr_seen.proofs.Apart.{targets_apart}
@@ -129,7 +129,7 @@ module _ (state : Path) (asked : Asked) (clock : Clock) (rules : Rules) (own : L
     logs : HaveLogs (groups_of clock (rotating.decide state asked clock rules own p q es reads acts made journal joined quiet i met_none t one) rules.sets w.looked.sets) (plan_in state rules.sets i.between w.looked clock asked).sets
     logs = plans_have_logs rules.sets w.looked.sets w.looked.of_looks w.looked.looks clock asked.mailer _ w.looked.shown
 
-    apart : AreApart (rotated_in state rules.sets i.between i.within.looked clock asked)
+    apart : LogsDiffer (rotated_in state rules.sets i.between i.within.looked clock asked)
     apart = targets_apart rules.sets w.looked.sets w.looked.of_looks w.looked.looks clock _ w.looked.shown
 
     stands : CopyStands job all.turns.acts

@@ -33,7 +33,7 @@ use Rattle.lr_plan.specs.declared.step.Step.{Step}
 use Rattle.lr_host.specs.Counted.{AddsFaults}
 use Rattle.lr_plan.specs.Cut.{SetsCut}
 use Rattle.lr_plan.specs.Asking.{asks, CanMake, CanEach, CanSet, CanSets}
-use Rattle.lr_plan.specs.Planned.{decision, stand_for, faults_of, where_due, log_faults, all_plans, all_faults, plan_of}
+use Rattle.lr_plan.specs.Planned.{decision, stand_for, due_faults, where_due, log_faults, all_plans, all_faults, plan_of}
 use Rattle.lr_plan.specs.Steps.{steps_of_set, steps_of_plan}
 use Rattle.lr_host.proofs.Counts.{AreFree, free_none, free_on, adds_on, adds_free, adds_call}
 use Rattle.lr_acts.specs.declared.progress.Progress.{Progress}
@@ -82,7 +82,7 @@ not_file_free path = record { calls = refl; scripts = refl; none_around = ((λ h
 unfinished_free : (path : Path) → AreFree (fault.Unfinished path ∷ [])
 unfinished_free path = record { calls = refl; scripts = refl; none_around = ((λ h. h), tt) }
 
-look_free : (clock : Clock) (rule : Rule) (look : LogLook) → AreFree (faults_of clock rule look)
+look_free : (clock : Clock) (rule : Rule) (look : LogLook) → AreFree (due_faults clock rule look)
 look_free clock rule look = faults_so AreFree clock rule look free_none (λ seen is. not_file_free (aside_path look.path)) (unfinished_free look.path)
     (each_hindrance AreFree free_none high_free taken_free look.family.naming rule.count clock (stand_for rule look) (λ none. no_dir_free look.family.naming.dir))
 
@@ -92,7 +92,7 @@ due_free (due.No why) fs h = free_none
 
 logs_free : (clock : Clock) (rule : Rule) (decide : LogLook → Due) (looks : List LogLook) → AreFree (log_faults clock rule decide looks)
 logs_free clock rule decide [] = free_none
-logs_free clock rule decide (l ∷ ls) = free_on (where_due (decide l) (faults_of clock rule l)) (log_faults clock rule decide ls) (due_free (decide l) (faults_of clock rule l) (look_free clock rule l)) (logs_free clock rule decide ls)
+logs_free clock rule decide (l ∷ ls) = free_on (where_due (decide l) (due_faults clock rule l)) (log_faults clock rule decide ls) (due_free (decide l) (due_faults clock rule l) (look_free clock rule l)) (logs_free clock rule decide ls)
 
 pub plan_free : (clock : Clock) (decide : Rule → LogLook → Due) (rules : List Rule) (sets : List SetLooks) → AreFree (all_faults clock decide rules sets)
 plan_free clock decide [] [] = free_none

@@ -18,9 +18,9 @@ use Rattle.lr_run.specs.Dry.{Tries, LacksTry}
 use Rattle.lr_run.specs.Runs.{Runs, LacksMemory}
 
 -- a run that is dry, or isn't, that came to this plan and has these faults of its own
-abbrev pub Leaves : Bool → Path → Asked → Clock → Rules → Option Plan → List Fault → List Entry → Type 0
-Leaves true state asked clock rules plan own ts = Tries state rules.sets clock asked plan own ts
-Leaves false state asked clock rules plan own ts = Runs state asked clock rules plan own ts
+abbrev pub RunLeaves : Bool → Path → Asked → Clock → Rules → Option Plan → List Fault → List Entry → Type 0
+RunLeaves true state asked clock rules plan own ts = Tries state rules.sets clock asked plan own ts
+RunLeaves false state asked clock rules plan own ts = Runs state asked clock rules plan own ts
 
 -- Another held the lock: the state's directory was seen, and no more. A dry run asks for no lock.
 abbrev pub Holds : Bool → Path → List Entry → Type 0
@@ -35,7 +35,7 @@ Lacks false state asked clock rules ts = LacksMemory state asked clock rules ts
 -- What a run left, by its answer. The faults that were handed in stand before its own.
 abbrev pub Answers : Path → Bool → Asked → Clock → Rules → List Fault → Result Ran RunStop → List Entry → Type 0
 Answers state debug asked clock rules earlier (Ok ran) ts = (own : List Fault) × (ran.faults.items ≡ earlier ++ own)
-    × Leaves debug state asked clock rules ran.plan own ts
+    × RunLeaves debug state asked clock rules ran.plan own ts
 Answers state debug asked clock rules earlier (Err stop.Held) ts = Holds debug state ts
 Answers state debug asked clock rules earlier (Err stop.Memory) ts = Lacks debug state asked clock rules ts
 

@@ -35,10 +35,10 @@ measured_by plan table kept clock = measured_text (logs_in plan) clock.now.civil
 
 -- What follows from these looks, where these logs are kept and the state has this table: the plan, with its own faults; or none,
 -- where the text of the state could become too big, and that is the fault.
-abbrev pub Follows : List Rule → List SetLooks → List Path → List Row → Clock → Asked → Option Plan → List Fault → Type 0
-Follows rules sets kept table clock asked (Some plan) faults = (length (measured_by plan table kept clock) ≤ 67_108_864)
+abbrev pub PlanFollows : List Rule → List SetLooks → List Path → List Row → Clock → Asked → Option Plan → List Fault → Type 0
+PlanFollows rules sets kept table clock asked (Some plan) faults = (length (measured_by plan table kept clock) ≤ 67_108_864)
     × (plan ≡ plan_of rules sets table clock asked) × (faults ≡ plan.faults)
-Follows rules sets kept table clock asked None faults = (67_108_864 < length
+PlanFollows rules sets kept table clock asked None faults = (67_108_864 < length
     (measured_by (plan_of rules sets table clock asked) table kept clock)) × (faults ≡ fault.State 0 kind.TooBig ∷ [])
 
 -- The logs were looked at, and what follows from that and from this table is planned. The faults are those of the looks and of the
@@ -50,7 +50,7 @@ pub record Plans (state : Path) (rules : List Rule) (table : List Row) (clock : 
   pub of_plan : List Fault
   pub faults_are : faults ≡ of_looks ++ of_plan
   pub shown : ShowsLooks (reserved_by state) rules sets of_looks ts
-  pub follows : Follows rules sets (paths_of shown.kept) table clock asked plan of_plan
+  pub follows : PlanFollows rules sets (paths_of shown.kept) table clock asked plan of_plan
 
 -- ---- the run
 

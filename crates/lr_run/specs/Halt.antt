@@ -30,9 +30,9 @@ pub data Halt : Type 0 where
   OfMemory : Halt
 
 -- What a look at the state's directory saw ends a run: nothing, or another kind of thing. A dry run goes on where it saw nothing.
-abbrev pub Bars : Bool → Option Seen → Type 0
-Bars true seen = IsNoDir seen
-Bars false seen = IsNotDir seen
+abbrev pub DirBars : Bool → Option Seen → Type 0
+DirBars true seen = IsNoDir seen
+DirBars false seen = IsNotDir seen
 
 -- Behind the look at the state's directory, and in a run that acts between its begin and its end, these are so.
 abbrev pub Within : Bool → Path → Clock → Rules → (List Entry → Type 0) → List Entry → Type 0
@@ -61,7 +61,7 @@ pub record Outgrows (debug : Bool) (state : Path) (rules : Rules) (clock : Clock
 pub data Halts (debug : Bool) (state : Path) (rules : Rules) (clock : Clock) (asked : Asked) (halt : Halt)
     (ts : List Entry) : Type 0 where
   not_seen : halt ≡ OfFaults (fault.Call call.Look (parent_of state) ∷ []) → ts ≡ [] → Halts debug state rules clock asked halt ts
-  no_directory : halt ≡ OfFaults (fault.NoDir (parent_of state) ∷ []) → Sees (parent_of state) (Bars debug) ts
+  no_directory : halt ≡ OfFaults (fault.NoDir (parent_of state) ∷ []) → Sees (parent_of state) (DirBars debug) ts
       → Halts debug state rules clock asked halt ts
   held : debug ≡ false → halt ≡ OfLock → Sees (parent_of state) IsDir ts → Halts debug state rules clock asked halt ts
   not_begun : debug ≡ false → halt ≡ OfFaults (fault.Call call.Begin state ∷ [])

@@ -50,7 +50,7 @@ use Rattle.lr_reading.specs.Answers.{IsKnown, ReadsState, TextSaysOnly}
 use Rattle.lr_reading.specs.Sights.{StateSights, ShowsState}
 use Rattle.lr_record.specs.After.{after, stamped}
 use Rattle.lr_record.specs.Measured.{measured_text}
-use Rattle.lr_writing.specs.Target.{Target}
+use Rattle.lr_writing.specs.Target.{StateTarget}
 use Rattle.lr_looks.specs.Reserved.{reserved_by}
 use Rattle.lr_synced.specs.Before.{IsBy}
 use Rattle.lr_synced.specs.Synced.{AreSynced}
@@ -72,7 +72,7 @@ dir_fault_of dir.NotDir path = fault.NoDir path
 
 -- The steps of the plan, with room for what they come to, and what the writing needs and the syncs before it; the faults of the
 -- plan were added.
-pub record IsReady (state : Path) (stale : Bool) (plan : Plan) (table : List Row) (ready : Ready)
+pub record IsRunReady (state : Path) (stale : Bool) (plan : Plan) (table : List Row) (ready : Ready)
     (before now : Progress) : Type 0 where
   pub steps : ready.steps ≡ steps_of_plan plan
   pub writes : ready.writing ≡ record { state = state; stale = stale }
@@ -86,7 +86,7 @@ pub record IsReady (state : Path) (stale : Bool) (plan : Plan) (table : List Row
 pub record ReadyFor (state : Path) (now : Moment) (remembered : Remembered) (kept : List Path) (plan : Plan) (ready : Ready)
     (before later : Progress) : Type 0 where
   pub small : length (measured_text (logs_in plan) now.civil (after remembered.table [] kept now.civil)) ≤ 67_108_864
-  pub is : IsReady state remembered.stale plan (after remembered.table [] kept now.civil) ready before later
+  pub is : IsRunReady state remembered.stale plan (after remembered.table [] kept now.civil) ready before later
 
 abbrev pub MayBeReady : Path → Moment → Remembered → List Path → Plan → Option Ready → Progress → Progress → Type 0
 MayBeReady state now remembered kept plan (Some ready) before later = ReadyFor state now remembered kept plan ready before later
@@ -106,7 +106,7 @@ CanWrite ready told = (later : Option Journal) (marks : List Mark) (faults : Lis
     → CanMake later (state_steps ready.writing.state ready.writing.stale dirs text)
 
 -- the steps of this writing of the state, behind these acts: the logs that they rotated have this moment in the table
-abbrev pub writing_steps : Target → List Row → Civil → Acts → List Step
+abbrev pub writing_steps : StateTarget → List Row → Civil → Acts → List Step
 writing_steps writing table now acts = state_steps writing.state writing.stale acts.dirs
     (text_of (map (stamped (rotated_logs acts.marks) now) table))
 
@@ -155,8 +155,8 @@ measured_for rules looks remembered clock asked = measured_text (logs_in (plan_f
     clock.now.civil (after remembered.table [] looks.kept clock.now.civil)
 
 -- the steps of the writing of the state behind these acts
-abbrev pub steps_behind : Path → Looks → Remembered → Clock → Acts → List Step
-steps_behind state looks remembered clock acts = state_steps state remembered.stale acts.dirs
+abbrev pub steps_of_writing : Path → Looks → Remembered → Clock → Acts → List Step
+steps_of_writing state looks remembered clock acts = state_steps state remembered.stale acts.dirs
     (text_of (after remembered.table (rotated_logs acts.marks) looks.kept clock.now.civil))
 
 -- What follows from the looks: the text of the state could become too big by the plan, and nothing was done; or the plan was
@@ -171,7 +171,7 @@ pub data ActsBy (state : Path) (rules : Rules) (looks : Looks) (remembered : Rem
       → length (measured_for rules looks remembered clock asked) ≤ 67_108_864
       → AreSynced (plan_for rules looks remembered clock asked).sets a.marks a.dirs
       → Then (SetsDone (steps_of_plan (plan_for rules looks remembered clock asked)) a.marks a.of_logs)
-      (Course (steps_behind state looks remembered clock a) [] a.of_state) ts
+      (Course (steps_of_writing state looks remembered clock a) [] a.of_state) ts
       → ActsBy state rules looks remembered clock asked plan faults all_faults acts ts
 
 -- So it was, with these acts, where there were some; and of them the journal tells the names besides.
@@ -181,7 +181,8 @@ pub record Carries (state : Path) (rules : Rules) (looks : Looks) (remembered : 
   pub shows : Left (ActsBy state rules looks remembered clock asked plan faults all_faults acts) told later
   pub names : (a : Acts) → acts ≡ Some a
       → TellsNames a.marks (all_of_sets (steps_of_plan (plan_for rules looks remembered clock asked))
-      ++ steps_behind state looks remembered clock a) ((plan_for rules looks remembered clock asked).faults ++ act_faults a) told
+      ++ steps_of_writing state looks remembered clock a) ((plan_for rules looks remembered clock asked).faults
+      ++ act_faults a) told
       later
 
 -- What a part of a run left, by what it came to, where it came to a plan; and of that the journal tells the names besides.
@@ -221,11 +222,11 @@ pub data LooksAndActs (Read : Saw → List Entry → Type 0) (state : Path) (rul
       → LooksAndActs Read state rules clock asked plan faults all_faults work ts
 
 -- this is known, and its reads stand before
-abbrev pub IsBehind : Remembered → Saw → List Entry → Type 0
-IsBehind remembered saw reads = (saw.table ≡ remembered.table) × (saw.stale ≡ remembered.stale) × (reads ≡ [])
+abbrev pub IsKnownBefore : Remembered → Saw → List Entry → Type 0
+IsKnownBefore remembered saw reads = (saw.table ≡ remembered.table) × (saw.stale ≡ remembered.stale) × (reads ≡ [])
 
 -- the text was read, and says the table
-pub record ReadsText (state : Path) (saw : Saw) (reads : List Entry) : Type 0 where
+pub record KnowsText (state : Path) (saw : Saw) (reads : List Entry) : Type 0 where
   pub shown : ShowsStateText state saw.text saw.stale reads
   pub says : TextSaysOnly saw.text (Ok saw.table)
 
@@ -234,7 +235,7 @@ pub data WorksOn (state : Path) (rules : List Rule) (clock : Clock) (asked : Ask
     (faults all_faults : List Fault) (work : Option Work) (ts : List Entry) : Type 0 where
   knows_none : (f : Fault) → plan ≡ None → work ≡ None → all_faults ≡ faults ++ f ∷ [] → LacksState state f ts
       → WorksOn state rules clock asked plan faults all_faults work ts
-  knows : LooksAndActs (ReadsText state) state rules clock asked plan faults all_faults work ts
+  knows : LooksAndActs (KnowsText state) state rules clock asked plan faults all_faults work ts
       → WorksOn state rules clock asked plan faults all_faults work ts
 
 -- and then the run ended
@@ -285,9 +286,9 @@ pub data Goes (state : Path) (asked : Asked) (clock : Clock) (rules : Rules) (pl
   not_begun : plan ≡ None → work ≡ None → all_faults ≡ faults ++ fault.Call call.Begin state ∷ []
       → Maybe (Starts state clock.now rules) ts → Goes state asked clock rules plan faults all_faults work ts
 
-abbrev pub Stopped : Path → Asked → Clock → Rules → RunStop → List Entry → Type 0
-Stopped state asked clock rules stop.Held ts = ts ≡ []
-Stopped state asked clock rules stop.Memory ts = Begun state clock rules (SomeWork state rules.sets clock asked) ts
+abbrev pub RunStopped : Path → Asked → Clock → Rules → RunStop → List Entry → Type 0
+RunStopped state asked clock rules stop.Held ts = ts ≡ []
+RunStopped state asked clock rules stop.Memory ts = Begun state clock rules (SomeWork state rules.sets clock asked) ts
 
 -- a run that stopped: the lock is another's, or there was no memory
 abbrev pub StopsSo : Path → Asked → Clock → Rules → RunStop → List Entry → Type 0

@@ -13,7 +13,7 @@ use Rattle.lr_plan.specs.Asked.{Asked}
 use Rattle.lr_plan.specs.declared.mark.Mark.{Mark}
 use Rattle.lr_plan.specs.declared.mark.Mark.TheVariants as mark
 use Rattle.lr_plan.specs.declared.step.Step.{Step}
-use Rattle.lr_acts.specs.Named.{IsNamed}
+use Rattle.lr_acts.specs.Named.{PathIsNamed}
 use Rattle.lr_acts.specs.Taken.{WasTaken, LastTaken}
 use Rattle.lr_run.specs.declared.answer.Ran.{Ran}
 use Rattle.lr_run.specs.declared.answer.RunStop.{RunStop}
@@ -62,7 +62,7 @@ pub data RunEnds (debug : Bool) (state : Path) (rules : Rules) (clock : Clock) (
 -- that a step made anew is named at the end; and so was a path that is told as taken, from a moment on, where no step behind the
 -- one that needs it unlinks it.
 pub record TellsNames (marks : List Mark) (steps : List Step) (faults : List Fault) (told later : Option Journal) : Type 0 where
-  pub named : (x : Path) → IsIn (mark.Created x) marks → IsNamed x later
+  pub named : (x : Path) → IsIn (mark.Created x) marks → PathIsNamed x later
   pub taken : (x : Path) → LastTaken x steps → IsIn (fault.Taken x) faults → WasTaken x told later
 
 -- of what a run came to

@@ -11,7 +11,7 @@ use Rattle.lr_plan.specs.Asked.{Asked}
 use Rattle.lr_plan.specs.declared.looks.SetLooks.{SetLooks}
 use Rattle.lr_plan.specs.declared.plan.Plan.{Plan}
 use Rattle.lr_plan.specs.Planned.{decision}
-use Rattle.lr_laws_family.specs.Made.{NoneAttached}
+use Rattle.lr_laws_family.specs.Made.{AttachedFarOnly}
 use Rattle.lr_laws_family.specs.Members.{AreThere}
 use Rattle.lr_laws_family.specs.Turned.{IsTurned}
 use Rattle.lr_laws_targets.specs.AllTurns.{paths_beside}
@@ -22,12 +22,12 @@ use Rattle.lr_seen.specs.Targets.{all_targets}
 use Rattle.lr_run.specs.Runs.{Looked}
 
 -- those of the plan that follows from these looks and this table
-abbrev pub rotated_logs : List Rule → List Row → Clock → Asked → List SetLooks → List Target
-rotated_logs rules table clock asked sets = all_targets clock (decision table clock.now asked.force) rules sets
+abbrev pub rotated_targets : List Rule → List Row → Clock → Asked → List SetLooks → List Target
+rotated_targets rules table clock asked sets = all_targets clock (decision table clock.now asked.force) rules sets
 
 -- those of a run
 abbrev pub rotated_in : (state : Path) (rules : List Rule) (ts : List Entry) → Looked state rules ts → Clock → Asked → List Target
-rotated_in state rules ts l clock asked = rotated_logs rules l.remembered.table clock asked l.sets
+rotated_in state rules ts l clock asked = rotated_targets rules l.remembered.table clock asked l.sets
 
 -- Between the two pasts the log was rotated whole, by its rename or by a copy, where no writer was attached to a member, nor to
 -- anything at the part file's path: the members that were seen are those that stood, and each file is where the rotation of its
@@ -35,7 +35,7 @@ rotated_in state rules ts l clock asked = rotated_logs rules l.remembered.table 
 -- state, and made the log's own directory, where that was missing.
 abbrev pub IsTurnedAmong : Path → List Target → Past → Past → Target → Type 0
 IsTurnedAmong state targets before after t =
-    NoneAttached t.naming (rotation_by t) before after → AreThere t.naming (names (world before)) t.stand.members
+    AttachedFarOnly t.naming (rotation_by t) before after → AreThere t.naming (names (world before)) t.stand.members
     × IsTurned (paths_beside state t targets) t.naming (rotation_by t) before after
 
 -- So was each log of this plan.

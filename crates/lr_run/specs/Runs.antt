@@ -41,11 +41,11 @@ use Rattle.lr_synced.specs.Synced.{all_to_make_of, AreSynced}
 -- ---- the paths of a plan
 
 -- the logs that it rotates
-abbrev pub logs_of : List LogPlan → List Path
-logs_of logs = map (λ log. log.log) logs
+abbrev pub logs_rotated : List LogPlan → List Path
+logs_rotated logs = map (λ log. log.log) logs
 
 abbrev pub all_logs_of : List SetPlan → List Path
-all_logs_of sets = flat_map (λ set. logs_of set.logs) sets
+all_logs_of sets = flat_map (λ set. logs_rotated set.logs) sets
 
 abbrev pub logs_in : Plan → List Path
 logs_in plan = all_logs_of plan.sets

@@ -23,9 +23,9 @@ use Rattle.lr_run.specs.Work.{Work, IsPlanOf}
 
 -- The plan that follows from what was seen, with its own faults; or none, where the text of the state could become too big, and
 -- that is the fault.
-abbrev pub FollowsBy : List Rule → Saw → Clock → Asked → Option Plan → List Fault → Type 0
-FollowsBy rules saw clock asked (Some plan) own = IsPlanOf rules saw clock asked plan × (own ≡ plan.faults)
-FollowsBy rules saw clock asked None own = (67_108_864 < length (measured_by saw (plan_by rules saw clock asked) clock))
+abbrev pub PlanFollowsBy : List Rule → Saw → Clock → Asked → Option Plan → List Fault → Type 0
+PlanFollowsBy rules saw clock asked (Some plan) own = IsPlanOf rules saw clock asked plan × (own ≡ plan.faults)
+PlanFollowsBy rules saw clock asked None own = (67_108_864 < length (measured_by saw (plan_by rules saw clock asked) clock))
     × (own ≡ fault.State 0 kind.TooBig ∷ [])
 
 -- The logs were looked at, and by this table it was planned; the faults of both were added. The text of the state is left open in
@@ -37,7 +37,7 @@ pub record PlansOn (state : Path) (rules : List Rule) (table : List Row) (clock 
   pub sets : ShowsSets state rules saw ts
   pub own : List Fault
   pub faults_are : all_faults ≡ faults ++ (saw.faults ++ own)
-  pub follows : FollowsBy rules saw clock asked plan own
+  pub follows : PlanFollowsBy rules saw clock asked plan own
 
 -- Behind the look at the state's directory: nothing is known of the state, whose fault was added, and there is no plan; or it was
 -- read, and planned by its table.

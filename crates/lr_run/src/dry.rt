@@ -11,7 +11,7 @@ ghost use Rattle.lr_looks.specs.Shown.{ShowsSomeLooks};
 ghost use Rattle.lr_plan.specs.Asked.{asking};
 ghost use Rattle.lr_plan.specs.Planned.{CanPlanAll};
 ghost use Rattle.lr_looks.specs.Reserved.{reserved_by};
-ghost use Rattle.lr_run.specs.Dry.{Follows, measured_by};
+ghost use Rattle.lr_run.specs.Dry.{PlanFollows, measured_by};
 ghost use Rattle.lr_run.specs.Halt.{OfMemory, Halts};
 ghost use Rattle.lr_run.specs.Internal.{plan_if, faults_if};
 ghost use Rattle.lr_run.specs.Ran.{RanSo, run_faults};
@@ -99,7 +99,8 @@ fn plan_dry(
 ) -> Result<Option<Plan>, Memory>
     requires { CanPlanAll rules.now.sets looks.now.sets }
     ensures follows { IfOk result (λ plan. (own : List Fault) × (faults.new.items ≡ faults.old.items ++ own)
-        × Follows rules.now.sets looks.now.sets looks.now.kept table clock.entry.now (asking settings.now.force settings.now.mailer)
+        × PlanFollows rules.now.sets looks.now.sets looks.now.kept table clock.entry.now
+        (asking settings.now.force settings.now.mailer)
         plan own) }
     ensures room { OnOk result (vec_len faults.new + 1 ≤ vec_capacity faults.new) }
 {

@@ -10,7 +10,7 @@ ghost use Rattle.lr_host.specs.Told.{Left, Then, Are, Can, NoneFell, Rose, Where
 ghost use Rattle.lr_host.specs.World.{world};
 ghost use Rattle.lr_host.specs.Counted.{AddsFaults, WentBy};
 ghost use Rattle.lr_plan.specs.Asked.{asking};
-ghost use Rattle.lr_run.specs.Internal.{CameTo, EndsWork, Goes, SomeWork, Stopped};
+ghost use Rattle.lr_run.specs.Internal.{CameTo, EndsWork, Goes, SomeWork, RunStopped};
 
 use crate::answer::RunStop;
 use crate::work::work;
@@ -79,7 +79,7 @@ pub fn begin_to_end<H: Host>(
     ensures told { OnOk result (CameTo (Goes settings.now.state (asking settings.now.force settings.now.mailer) clock.entry.now
         rules.now reached.new progress.old.faults.items progress.new.faults.items) settings.now.state clock.entry.now
         (H.told host.old) (H.told host.new)) }
-    ensures stopped { IfErr result (λ why. Left (Stopped settings.now.state (asking settings.now.force settings.now.mailer)
+    ensures stopped { IfErr result (λ why. Left (RunStopped settings.now.state (asking settings.now.force settings.now.mailer)
         clock.entry.now rules.now why) (H.told host.old) (H.told host.new)) }
     ensures held { result ≡ Err RunStop.Held → Rose (H.counts host.old).held (H.counts host.new).held }
     ensures room { OnOk result (vec_len progress.new.faults + 1 ≤ vec_capacity progress.new.faults) }

@@ -1,13 +1,13 @@
 // The logs of a plan.
 ghost use Rattle.std.specs.Prelude.{◌≡◌, ◌++◌, IfOk, OnOk};
-ghost use Rattle.lr_run.specs.Runs.{logs_of, all_logs_of};
+ghost use Rattle.lr_run.specs.Runs.{logs_rotated, all_logs_of};
 
 use lr_plan::{LogPlan, SetPlan};
 use lr_rules::{Memory, Path};
 use std::alloc::Global;
 
 fn add_logs(alloc: Global, logs: &[LogPlan], paths: &mut Vec<Path>) -> Result<(), Memory>
-    ensures { OnOk result (paths.new.items ≡ paths.old.items ++ logs_of logs.now) }
+    ensures { OnOk result (paths.new.items ≡ paths.old.items ++ logs_rotated logs.now) }
 {
     for log in logs {
         paths.push(log.log.copy(alloc)?)?;

@@ -8,7 +8,7 @@ ghost use Rattle.lr_rules.specs.StatePath.{state_part};
 ghost use Rattle.lr_record.specs.After.{after};
 ghost use Rattle.lr_record.specs.Measured.{measured_text};
 ghost use Rattle.lr_run.specs.Runs.{logs_in};
-ghost use Rattle.lr_run.specs.Internal.{IsReady, MayBeReady};
+ghost use Rattle.lr_run.specs.Internal.{IsRunReady, MayBeReady};
 
 use crate::paths::logs_of_plan;
 use lr_acts::{Progress, take_room};
@@ -89,7 +89,7 @@ fn all_ready(
     progress: &mut Progress,
 ) -> Result<Ready, Memory>
     requires { part ≡ state_part state.now }
-    ensures { IfOk result (λ ready. IsReady state.now stale plan.now table ready progress.old progress.new) }
+    ensures { IfOk result (λ ready. IsRunReady state.now stale plan.now table ready progress.old progress.new) }
 {
     let writing = prepare(alloc, state, part, stale)?;
     let directories = directories_by(alloc, plan.sets.as_slice())?;

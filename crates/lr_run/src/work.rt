@@ -11,7 +11,8 @@ ghost use Rattle.lr_host.specs.Told.{Left, Can, WhereTold};
 ghost use Rattle.lr_host.specs.Counted.{WentBy};
 ghost use Rattle.lr_plan.specs.Asked.{asking};
 ghost use Rattle.lr_plan.specs.Planned.{CanPlanAll};
-ghost use Rattle.lr_run.specs.Internal.{CameTo, Carries, EndsBehindLooks, EndsBehindState, IsBehind, KnownBefore, LooksAndActs};
+ghost use Rattle.lr_run.specs.Internal.{CameTo, Carries, EndsBehindLooks, EndsBehindState, IsKnownBefore};
+ghost use Rattle.lr_run.specs.Internal.{KnownBefore, LooksAndActs};
 ghost use Rattle.lr_run.specs.Internal.{SeenBefore, SomeWork, WorksOn};
 
 use crate::acting::carry_out;
@@ -107,7 +108,7 @@ fn look_and_act<H: Host>(
     requires none { reached.old ≡ None }
     requires part { part ≡ state_part settings.now.state }
     requires known { KnownBefore settings.now.state remembered (H.told host.old) }
-    ensures told { OnOk result (CameTo (LooksAndActs (IsBehind remembered) settings.now.state rules.now.sets clock.entry.now
+    ensures told { OnOk result (CameTo (LooksAndActs (IsKnownBefore remembered) settings.now.state rules.now.sets clock.entry.now
         (asking settings.now.force settings.now.mailer) reached.new progress.old.faults.items progress.new.faults.items)
         settings.now.state clock.entry.now (H.told host.old) (H.told host.new)) }
     ensures some { OnErr result (Left (EndsBehindState settings.now.state rules.now.sets clock.entry.now

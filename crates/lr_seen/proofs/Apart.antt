@@ -15,19 +15,19 @@ use Rattle.lr_host.specs.Lists.{IsIn}
 use Rattle.lr_family.specs.declared.family.Family.{Family}
 use Rattle.lr_kept.specs.declared.choice.Choice.{Choice}
 use Rattle.lr_kept.specs.declared.choice.Choice.TheVariants.{Kept, Again, MemberOf, Reserved, Meets}
-use Rattle.lr_kept.specs.Chosen.{IsKept}
+use Rattle.lr_kept.specs.Chosen.{IsLogKept}
 use Rattle.lr_kept.proofs.Finding.{meet_back}
 use Rattle.lr_plan.specs.declared.looks.LogLook.{LogLook}
 use Rattle.lr_plan.specs.declared.looks.SetLooks.{SetLooks}
 use Rattle.lr_plan.specs.Planned.{is_file_kind, hindrances, where_due}
-use Rattle.lr_looks.specs.Choices.{names_of, found_names, is_wild, IsChoiceAmong, kept_of, where_file}
+use Rattle.lr_looks.specs.Choices.{chosen_names, found_names, is_wild, IsChoiceAmong, kept_of, where_file}
 use Rattle.lr_looks.specs.Families.{FamilySight, Stood, Stopped, LookedLog, looked_at, looked_of}
 use Rattle.lr_looks.specs.Found.{FoundLog}
 use Rattle.lr_looks.specs.Sets.{where_in, of_set, looked_in, HaveLooksFrom}
 use Rattle.lr_looks.specs.Shown.{ShowsLooks}
 use Rattle.lr_laws_targets.specs.Target.{Target}
 use Rattle.lr_weave.specs.Fitting.{NoneMeets, DontMeet}
-use Rattle.lr_weave.specs.Planned.{NoneHas, AreApart}
+use Rattle.lr_weave.specs.Planned.{NoneHas, LogsDiffer}
 use Rattle.lr_seen.specs.Targets.{target_of, where_free, targets_of, all_targets}
 use Rattle.lr_seen.proofs.Elements.{map_at, unmap_at, each_in, in_each, Pairs, pairs_both, pairs_unmap, pairs_flat, pairs_two}
 use Rattle.lr_seen.proofs.Coming.{in_due, in_free, Comes, comes_from, of_look, was_looked, in_where, in_looked, in_file}
@@ -67,13 +67,13 @@ choice_off {reserved} found choices c i k f g lt at_f at_g kept_f kept_g = (
   λ m. met (meet_again m),
 )
   where
-    one : (b : Bor Family) × (slice_get c.logs i ≡ Some b) × (names_of b ≡ found_names f)
-    one = unmap_at names_of c.logs i (found_names f) (ap (λ (xs : List (Path × Naming)). slice_get xs i) c.same ∙ map_at found_names found i f at_f)
+    one : (b : Bor Family) × (slice_get c.logs i ≡ Some b) × (chosen_names b ≡ found_names f)
+    one = unmap_at chosen_names c.logs i (found_names f) (ap (λ (xs : List (Path × Naming)). slice_get xs i) c.same ∙ map_at found_names found i f at_f)
 
-    other : (b : Bor Family) × (slice_get c.logs k ≡ Some b) × (names_of b ≡ found_names g)
-    other = unmap_at names_of c.logs k (found_names g) (ap (λ (xs : List (Path × Naming)). slice_get xs k) c.same ∙ map_at found_names found k g at_g)
+    other : (b : Bor Family) × (slice_get c.logs k ≡ Some b) × (chosen_names b ≡ found_names g)
+    other = unmap_at chosen_names c.logs k (found_names g) (ap (λ (xs : List (Path × Naming)). slice_get xs k) c.same ∙ map_at found_names found k g at_g)
 
-    kept : IsKept c.logs (map is_wild found) reserved choices k
+    kept : IsLogKept c.logs (map is_wild found) reserved choices k
     kept = c.chosen.each k Kept kept_g
 
     met : Meet f.log.path f.log.naming g.log.path g.log.naming → ⊥
@@ -82,12 +82,12 @@ choice_off {reserved} found choices c i k f g lt at_f at_g kept_f kept_g = (
       other = other.0;
       at_one = one.1;
       at_other = other.1;
-      holds = subst (λ (p : Path × Naming). MeetNamed p (names_of other.0)) (sym one.2) (subst (λ (p : Path × Naming). MeetNamed (found_names f) p) (sym other.2) m);
+      holds = subst (λ (p : Path × Naming). MeetNamed p (chosen_names other.0)) (sym one.2) (subst (λ (p : Path × Naming). MeetNamed (found_names f) p) (sym other.2) m);
     })
 
     meet_again : Meet g.log.path g.log.naming f.log.path f.log.naming → Meet f.log.path f.log.naming g.log.path g.log.naming
-    meet_again m = subst (λ (p : Path × Naming). MeetNamed p (found_names g)) one.2 (subst (λ (p : Path × Naming). MeetNamed (names_of one.0) p) other.2
-        (meet_back other.0.now one.0.now (subst (λ (p : Path × Naming). MeetNamed p (names_of one.0)) (sym other.2) (subst (λ (p : Path × Naming). MeetNamed (found_names g) p) (sym one.2) m))))
+    meet_again m = subst (λ (p : Path × Naming). MeetNamed p (found_names g)) one.2 (subst (λ (p : Path × Naming). MeetNamed (chosen_names one.0) p) other.2
+        (meet_back other.0.now one.0.now (subst (λ (p : Path × Naming). MeetNamed p (chosen_names one.0)) (sym other.2) (subst (λ (p : Path × Naming). MeetNamed (found_names g) p) (sym one.2) m))))
 
 -- what holds of each log at a kept place holds of each that is kept
 pub kept_each : (P : FoundLog → Type 0) (fs : List FoundLog) (cs : List Choice) → ((k : ℕ) (g : FoundLog) → slice_get fs k ≡ Some g → slice_get cs k ≡ Some Kept → P g) → AllByRecursion P (kept_of fs cs)
@@ -242,7 +242,7 @@ none_has : (t : Target) (us : List Target) → AllByRecursion (OffTarget t) us �
 none_has t [] h = tt
 none_has t (u ∷ us) h = (λ e. h.0.0 (sym e), none_has t us h.1)
 
-are_apart : (ts : List Target) → Pairs OffTarget ts → AreApart ts
+are_apart : (ts : List Target) → Pairs OffTarget ts → LogsDiffer ts
 are_apart [] p = tt
 are_apart (t ∷ ts) p = (none_has t ts p.0, are_apart ts p.1)
 
@@ -254,7 +254,7 @@ dont_meet : (ts : List Target) → Pairs OffTarget ts → DontMeet ts
 dont_meet [] p = tt
 dont_meet (t ∷ ts) p = (none_meets t ts p.0, dont_meet ts p.1)
 
-pub targets_apart : {reserved : List Path} (rules : List Rule) (sets : List SetLooks) (faults : List Fault) (ts : List Entry) (clock : Clock) (decide : Rule → LogLook → Due) → ShowsLooks reserved rules sets faults ts → AreApart (all_targets clock decide rules sets)
+pub targets_apart : {reserved : List Path} (rules : List Rule) (sets : List SetLooks) (faults : List Fault) (ts : List Entry) (clock : Clock) (decide : Rule → LogLook → Due) → ShowsLooks reserved rules sets faults ts → LogsDiffer (all_targets clock decide rules sets)
 targets_apart rules sets faults ts clock decide s = are_apart (all_targets clock decide rules sets) (all_pairs clock decide s.looked 0 rules sets (looks_pairs rules sets faults ts s) s.by_sets)
 
 pub targets_dont_meet : {reserved : List Path} (rules : List Rule) (sets : List SetLooks) (faults : List Fault) (ts : List Entry) (clock : Clock) (decide : Rule → LogLook → Due) → ShowsLooks reserved rules sets faults ts → DontMeet (all_targets clock decide rules sets)

@@ -23,7 +23,7 @@ use Rattle.lr_plan.specs.declared.looks.LogLook.{LogLook}
 use Rattle.lr_plan.specs.declared.looks.SetLooks.{SetLooks}
 use Rattle.lr_plan.specs.Planned.{is_file_kind, hindrances, where_due}
 use Rattle.lr_looks.specs.declared.standing.Standing.{Standing}
-use Rattle.lr_looks.specs.Asked.{Word, word_of, words_of, words_from, asked_by}
+use Rattle.lr_looks.specs.Asked.{Word, word_of, rule_words, words_from, asked_by}
 use Rattle.lr_looks.specs.Choices.{kept_of, where_file}
 use Rattle.lr_looks.specs.Families.{FamilySight, Stood, Stopped, LookedLog, looked_at, looked_of}
 use Rattle.lr_looks.specs.Found.{FoundLog}
@@ -214,7 +214,7 @@ pub record IsAsked (k : ℕ) (rules : List Rule) (w : Word) : Type 0 where
 
 pub was_asked : (k : ℕ) (rules : List Rule) (w : Word) → IsIn w (words_from k rules) → IsAsked k rules w
 was_asked k [] w h = absurd h
-was_asked k (rule ∷ rules) w h = ⊎_elim own (λ b. further (was_asked (k + 1) rules w b)) (in_append w (words_of k rule) (words_from (k + 1) rules) h)
+was_asked k (rule ∷ rules) w h = ⊎_elim own (λ b. further (was_asked (k + 1) rules w b)) (in_append w (rule_words k rule) (words_from (k + 1) rules) h)
   where
     plus_none : (n : ℕ) → n ≡ n + 0
     plus_none n = omega arith
@@ -222,7 +222,7 @@ was_asked k (rule ∷ rules) w h = ⊎_elim own (λ b. further (was_asked (k + 1
     moved : (a b : ℕ) → a + 1 + b ≡ a + suc b
     moved a b = omega arith
 
-    own : IsIn w (words_of k rule) → IsAsked k (rule ∷ rules) w
+    own : IsIn w (rule_words k rule) → IsAsked k (rule ∷ rules) w
     own a =
         let r = in_unmap (word_of k rule) w rule.words a in
         subst (λ (v : Word). IsAsked k (rule ∷ rules) v) r.2 (record { place = 0; at = refl; has = r.1; set = plus_none k })

@@ -17,7 +17,7 @@ use Rattle.lr_kept.specs.declared.choice.Choice.TheVariants.{Kept}
 use Rattle.lr_plan.specs.declared.looks.LogLook.{LogLook}
 use Rattle.lr_plan.specs.declared.looks.SetLooks.{SetLooks}
 use Rattle.lr_looks.specs.declared.standing.Standing.{Standing}
-use Rattle.lr_looks.specs.Choices.{names_of, found_names, IsChoiceAmong, kept_of}
+use Rattle.lr_looks.specs.Choices.{chosen_names, found_names, IsChoiceAmong, kept_of}
 use Rattle.lr_looks.specs.Families.{LookedLog, looked_at}
 use Rattle.lr_looks.specs.Found.{FoundLog}
 use Rattle.lr_looks.specs.Sets.{looked_in}
@@ -43,7 +43,7 @@ Names path n = IsName n.0 n.1 path
 
 pub kept_free : (reserved : List Path) (found : List FoundLog) (choices : List Choice) → IsChoiceAmong reserved found choices → AllByRecursion (HasNone reserved) (kept_of found choices)
 kept_free reserved found choices c = kept_each (HasNone reserved) found choices (λ k f at kept path i named.
-    let b : (b : Bor Family) × (slice_get c.logs k ≡ Some b) × (names_of b ≡ found_names f) = unmap_at names_of c.logs k (found_names f) (ap (λ (xs : List (Path × Naming)). slice_get xs k) c.same ∙ map_at found_names found k f at) in
+    let b : (b : Bor Family) × (slice_get c.logs k ≡ Some b) × (chosen_names b ≡ found_names f) = unmap_at chosen_names c.logs k (found_names f) (ap (λ (xs : List (Path × Naming)). slice_get xs k) c.same ∙ map_at found_names found k f at) in
     let p = place_in reserved path i in
     (c.chosen.each k Kept kept).free p.0 (record { log = b.0; path = path; at_log = b.1; at_path = p.1; named = subst (Names path) (sym b.2) named }))
 

@@ -31,16 +31,16 @@ use Rattle.lr_glob.specs.Words.{Comes}
 use Rattle.lr_glob.proofs.Seeking.{wildcards_seek, literals_give}
 use Rattle.lr_kept.specs.declared.choice.Choice.{Choice}
 use Rattle.lr_kept.specs.declared.choice.Choice.TheVariants.{Kept}
-use Rattle.lr_kept.specs.Chosen.{IsKept}
+use Rattle.lr_kept.specs.Chosen.{IsLogKept}
 use Rattle.lr_plan.specs.declared.looks.SetLooks.{SetLooks}
 use Rattle.lr_looks.specs.Asked.{Word, asked_by, AreTexts, CanAsk}
-use Rattle.lr_looks.specs.Choices.{names_of, found_names, is_wild, IsChoiceAmong}
+use Rattle.lr_looks.specs.Choices.{chosen_names, found_names, is_wild, IsChoiceAmong}
 use Rattle.lr_looks.specs.Found.{FoundLog}
 use Rattle.lr_looks.specs.Shown.{ShowsLooks}
 use Rattle.lr_looks.specs.Sights.{found_at}
 use Rattle.lr_sought.specs.Finds.{FindsFile}
 use Rattle.lr_sought.proofs.Stood.{stood_is_found}
-use Rattle.lr_laws_targets.specs.Target.{Gives}
+use Rattle.lr_laws_targets.specs.Target.{GivesLog}
 use Rattle.lr_laws_targets.proofs.Given.{Stretch, stretch, still_file}
 use Rattle.lr_seen.proofs.Coming.{IsFoundBy, found_word, IsAsked, was_asked}
 use Rattle.lr_seen.proofs.Elements.{in_list, map_at, unmap_at}
@@ -128,23 +128,23 @@ no_member {reserved} found choices c k f at_f kept wild x first other member = i
   };
 })
   where
-    is_kept : IsKept c.logs (map is_wild found) reserved choices k
+    is_kept : IsLogKept c.logs (map is_wild found) reserved choices k
     is_kept = c.chosen.each k Kept kept
 
     -- the log of the list at a place
-    its_log : (i : ℕ) (g : FoundLog) → slice_get found i ≡ Some g → (b : Bor Family) × (slice_get c.logs i ≡ Some b) × (names_of b ≡ found_names g)
-    its_log i g at = unmap_at names_of c.logs i (found_names g) (ap (λ (xs : List (Path × Naming)). slice_get xs i) c.same ∙ map_at found_names found i g at)
+    its_log : (i : ℕ) (g : FoundLog) → slice_get found i ≡ Some g → (b : Bor Family) × (slice_get c.logs i ≡ Some b) × (chosen_names b ≡ found_names g)
+    its_log i g at = unmap_at chosen_names c.logs i (found_names g) (ap (λ (xs : List (Path × Naming)). slice_get xs i) c.same ∙ map_at found_names found i g at)
 
-    named : (i : ℕ) (b : Bor Family) → slice_get c.logs i ≡ Some b → (g : FoundLog) × (slice_get found i ≡ Some g) × (found_names g ≡ names_of b)
-    named i b at = unmap_at found_names found i (names_of b) (ap (λ (xs : List (Path × Naming)). slice_get xs i) (sym c.same) ∙ map_at names_of c.logs i b at)
+    named : (i : ℕ) (b : Bor Family) → slice_get c.logs i ≡ Some b → (g : FoundLog) × (slice_get found i ≡ Some g) × (found_names g ≡ chosen_names b)
+    named i b at = unmap_at found_names found i (chosen_names b) (ap (λ (xs : List (Path × Naming)). slice_get xs i) (sym c.same) ∙ map_at chosen_names c.logs i b at)
 
     same_log : (i : ℕ) (g : FoundLog) → slice_get found i ≡ Some g → (b : Bor Family) → slice_get c.logs i ≡ Some b → b.now.log ≡ g.log.path
     same_log i g at b at_b = let h = named i b at_b in sym (ap (λ (p : Path × Naming). p.0) h.2) ∙ ap (λ (z : FoundLog). z.log.path) (some_same (slice_get found i) h.0 g h.1 at)
 
-    one : (b : Bor Family) × (slice_get c.logs first.place ≡ Some b) × (names_of b ≡ found_names first.log)
+    one : (b : Bor Family) × (slice_get c.logs first.place ≡ Some b) × (chosen_names b ≡ found_names first.log)
     one = its_log first.place first.log first.at
 
-    it : (b : Bor Family) × (slice_get c.logs k ≡ Some b) × (names_of b ≡ found_names f)
+    it : (b : Bor Family) × (slice_get c.logs k ≡ Some b) × (chosen_names b ≡ found_names f)
     it = its_log k f at_f
 
 -- ---- what the looks tell
@@ -221,7 +221,7 @@ module _ {reserved : List Path} (rules : Rules) (sets : List SetLooks) (faults :
         none : IsMember (naming_of w.word.rule x) f.log.path → ⊥
         none h = no_member s.found s.keeps.choices s.keeps.chosen k f at kept (ap (λ (g : FoundLog). g.log.wild) b.is ∙ wild) x first other (subst (λ (n : Naming). IsMember n f.log.path) (sym naming) h)
 
-    pub gives_kept : Gives rules.sets b.word.rule b.word.text f.log.path s.entries.front
+    pub gives_kept : GivesLog rules.sets b.word.rule b.word.text f.log.path s.entries.front
     gives_kept = record {
       gives = λ p q es m e. word_given p q es m e f b;
       alone = λ p q es m journal e wild x other valid gives file member. kept_alone p q es m journal e wild x other valid gives file;

@@ -21,7 +21,7 @@ use Rattle.lr_family.specs.declared.stand.Stand.{Stand}
 use Rattle.lr_chain.specs.Hindrances.{is_stamp, fault_at, too_high, taken, stamp_hindrances, keeps_all, number_hindrances, name_hindrances, what_hinders}
 use Rattle.lr_chain.specs.Ready.{is_highest, highest_path}
 use Rattle.lr_plan.specs.declared.looks.LogLook.{LogLook}
-use Rattle.lr_plan.specs.Planned.{is_file_kind, is_file, other_thing, or_else, takes_up, aside_by, aside_hinders, stand_for, hindrances, unfinished, faults_of}
+use Rattle.lr_plan.specs.Planned.{is_file_kind, is_file, other_thing, or_else, takes_up, aside_by, aside_hinders, stand_for, hindrances, unfinished, due_faults}
 
 -- the directory is there where nothing hinders
 pub there_of : (n : Naming) (c : Count) (clock : Clock) (stand : Stand) → what_hinders n c clock stand ≡ [] → stand.there ≡ true
@@ -101,7 +101,7 @@ module _ (P : List Fault → Type 0) (log : Path) (none : P []) where
 
 -- so of all faults of a look, where it holds of those by the members
 pub faults_so : (P : List Fault → Type 0) (clock : Clock) (rule : Rule) (look : LogLook) → P [] → ((seen : Seen) → look.tmp ≡ Some seen → P (fault.NotFile (aside_path look.path) ∷ [])) → P (fault.Unfinished look.path ∷ [])
-    → P (what_hinders look.family.naming rule.count clock (stand_for rule look)) → P (faults_of clock rule look)
+    → P (what_hinders look.family.naming rule.count clock (stand_for rule look)) → P (due_faults clock rule look)
 faults_so P clock rule look none other again members =
     or_else_so P (hindrances clock rule look) _
     (or_else_so P (what_hinders look.family.naming rule.count clock (stand_for rule look)) _ members (aside_so P look.path none rule.way look.tmp other))

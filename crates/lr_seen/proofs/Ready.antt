@@ -32,7 +32,7 @@ use Rattle.lr_plan.specs.Planned.{dir_of, stand_for, standing, is_file, first_pa
 use Rattle.lr_looks.specs.Shown.{ShowsLooks}
 use Rattle.lr_chain.specs.DatedRotation.{Ranked}
 use Rattle.lr_chain.specs.DatedReady.{removal_of}
-use Rattle.lr_laws_targets.specs.Target.{Target, IsReadyBy, IsJob, HasJob, StaysBefore, IsSetAside, IsTakenUp, GoesBy, source_by}
+use Rattle.lr_laws_targets.specs.Target.{Target, IsReadyBy, IsJob, TargetHasJob, StaysBefore, IsTargetAside, IsTakenUp, GoesBy, source_by}
 use Rattle.lr_laws_targets.proofs.Way.{has_way}
 use Rattle.lr_weave.specs.Fitting.{ReadsNothing, ReadsThis, ReadThemselves, ReadsOwn, ReadOwn, ReadOnlyOwn}
 use Rattle.lr_weave.specs.Planned.{bare_removal, bare, IsReadyFor, AreReadyFor, HaveLogs}
@@ -136,7 +136,7 @@ by_copy way.RenameCopy look target job is =
     go true e = absurd (cc)
     go false e = (some_same (from_path (aside_path look.path) (copy_job look target false)) job e, refl)
 
-pub target_job : (clock : Clock) (rule : Rule) (look : LogLook) → HasJob (target_of clock rule look)
+pub target_job : (clock : Clock) (rule : Rule) (look : LogLook) → TargetHasJob (target_of clock rule look)
 target_job clock rule look job is =
     let by = by_copy rule.way (standing rule look) (ready_for clock rule look).target job is in
     subst (IsJob (target_of clock rule look)) by.is
@@ -160,7 +160,7 @@ module _ (clock : Clock) (rule : Rule) (look : LogLook) where
   job_is_by : (w : Way) (j : Option Job) → rule.way ≡ w → job_by w (standing rule look) (ready_for clock rule look).target ≡ j → job_by rule.way (standing rule look) (ready_for clock rule look).target ≡ j
   job_is_by w j is e = ap (λ (w : Way). job_by w (standing rule look) (ready_for clock rule look).target) is ∙ e
 
-  aside_or_taken : (b : Bool) → is_file look.tmp ≡ b → rule.way ≡ way.RenameCopy → IsSetAside (target_of clock rule look) ⊎ IsTakenUp (target_of clock rule look)
+  aside_or_taken : (b : Bool) → is_file look.tmp ≡ b → rule.way ≡ way.RenameCopy → IsTargetAside (target_of clock rule look) ⊎ IsTakenUp (target_of clock rule look)
   aside_or_taken false none is = inl (record {
     aside_is = ap (λ (w : Way). aside_by w look.path look.tmp) is ∙ ap (λ (b : Bool). if b then None else Some (aside_path look.path)) none;
     first_is = begins_at clock rule look ∙ (ap (λ (w : Way). first_path w look.path look.tmp) is ∙ ap (λ (b : Bool). if b then aside_path look.path else look.path) none);

@@ -42,12 +42,12 @@ use Rattle.lr_looks.specs.Found.{FoundLog, HasLogPath, HaveLogPaths}
 use Rattle.lr_looks.specs.Sets.{looked_in}
 use Rattle.lr_looks.specs.Shown.{ShowsLooks}
 use Rattle.lr_looks.proofs.Kindred.{kin_of}
-use Rattle.lr_laws_targets.specs.Target.{Target, IsDirSeenBy, IsWaySeen, GoesBy, Gives}
+use Rattle.lr_laws_targets.specs.Target.{Target, IsDirSeenBy, IsWaySeen, GoesBy, GivesLog}
 use Rattle.lr_laws_family.specs.Weave.{Among}
 use Rattle.lr_laws_family.specs.Members.{IsFamily}
 use Rattle.lr_laws_family.specs.Shown.{SawDir, no_dir, Shown}
 use Rattle.lr_laws_family.proofs.DatedNames.{no_member}
-use Rattle.lr_laws_targets.specs.Apart.{HaveNames}
+use Rattle.lr_laws_targets.specs.Apart.{TargetsHaveNames}
 use Rattle.lr_laws_targets.specs.Seen.{IsLogSeen, AreLogsSeen}
 use Rattle.lr_laws_targets.proofs.LogSeen.{have_names}
 use Rattle.lr_seen.specs.Targets.{target_of, all_targets}
@@ -264,7 +264,7 @@ target_seen rules sets faults ts clock t s c = subst (IsLogSeen rules clock ts) 
       part = s.entries.front;
       after = s.entries.back;
       joined = s.entries.joined;
-      is = subst (λ (p : Path). Gives rules.sets o.by_word.word.rule o.by_word.word.text p s.entries.front) o.path_is (gives_kept rules sets faults ts s at.0 o.found at.1 at.2 o.by_word);
+      is = subst (λ (p : Path). GivesLog rules.sets o.by_word.word.rule o.by_word.word.text p s.entries.front) o.path_is (gives_kept rules sets faults ts s at.0 o.found at.1 at.2 o.by_word);
     };
     naming_is = ap (naming_of o.by_word.word.rule) (sym o.path_is) ∙ (by_rule rules sets faults ts x s looked ∙ o.naming_is);
     count_is = ap (λ (r : Rule). r.count) (sym same);
@@ -337,7 +337,7 @@ each_seen rules clock ts (u ∷ us) h = (h u (inl refl), each_seen rules clock t
 pub targets_seen : {reserved : List Path} (rules : Rules) (sets : List SetLooks) (faults : List Fault) (ts : List Entry) (clock : Clock) (decide : Rule → LogLook → Due) → ShowsLooks reserved rules.sets sets faults ts → AreLogsSeen rules clock ts (all_targets clock decide rules.sets sets)
 targets_seen rules sets faults ts clock decide s = each_seen rules clock ts (all_targets clock decide rules.sets sets) (λ t i. target_seen rules sets faults ts clock t s (comes_from clock decide rules.sets sets t i))
 
-pub targets_have_names : {reserved : List Path} (rules : Rules) (sets : List SetLooks) (faults : List Fault) (ts : List Entry) (clock : Clock) (decide : Rule → LogLook → Due) → ShowsLooks reserved rules.sets sets faults ts → HaveNames (all_targets clock decide rules.sets sets)
+pub targets_have_names : {reserved : List Path} (rules : Rules) (sets : List SetLooks) (faults : List Fault) (ts : List Entry) (clock : Clock) (decide : Rule → LogLook → Due) → ShowsLooks reserved rules.sets sets faults ts → TargetsHaveNames (all_targets clock decide rules.sets sets)
 targets_have_names rules sets faults ts clock decide s = have_names rules clock ts (all_targets clock decide rules.sets sets) (targets_seen rules sets faults ts clock decide s)
 
 -- each log of a plan has a path that is one

@@ -14,7 +14,7 @@ ghost use Rattle.lr_plan.specs.declared.looks.SetLooks.{SetLooks};
 ghost use Rattle.lr_looks.specs.Found.{FoundLog};
 ghost use Rattle.lr_looks.specs.Shown.{ShowsLooks};
 ghost use Rattle.lr_laws_targets.specs.Target.{Target};
-ghost use Rattle.lr_laws_targets.specs.Apart.{HaveNames};
+ghost use Rattle.lr_laws_targets.specs.Apart.{TargetsHaveNames};
 ghost use Rattle.lr_laws_targets.specs.Seen.{AreLogsSeen};
 ghost use Rattle.lr_seen.specs.Free.{AreFreeOf};
 ghost use Rattle.lr_seen.specs.Targets.{all_targets};
@@ -28,7 +28,7 @@ pub fn looks_see_targets()
         → ShowsLooks reserved rules.sets sets faults ts → AreLogsSeen rules clock ts (all_targets clock decide rules.sets sets) }
     ensures names { (reserved : List Path) (rules : Rules) (sets : List SetLooks) (faults : List Fault) (ts : List Entry)
         (clock : Clock) (decide : Rule → LogLook → Due)
-        → ShowsLooks reserved rules.sets sets faults ts → HaveNames (all_targets clock decide rules.sets sets) }
+        → ShowsLooks reserved rules.sets sets faults ts → TargetsHaveNames (all_targets clock decide rules.sets sets) }
 {}
 
 /// None of them has a name that the run reserves for itself.

@@ -10,17 +10,17 @@ RunThen P [] = P []
 RunThen P (c ∷ w) = P (c ∷ w) ⊎ ((is_ascii_digit c ≡ true) × RunThen P w)
 
 -- the bytes have the shape
-abbrev pub Fits : List Token → List ℕ → Type 0
-Fits [] [] = Unit {0}
-Fits [] (c ∷ w) = ⊥
-Fits (Byte b ∷ ts) [] = ⊥
-Fits (Byte b ∷ ts) (c ∷ w) = (b ≡ c) × Fits ts w
-Fits (Digit ∷ ts) [] = ⊥
-Fits (Digit ∷ ts) (c ∷ w) = (is_ascii_digit c ≡ true) × Fits ts w
-Fits (Digits ∷ ts) w = RunThen (Fits ts) w
+abbrev pub FitsShape : List Token → List ℕ → Type 0
+FitsShape [] [] = Unit {0}
+FitsShape [] (c ∷ w) = ⊥
+FitsShape (Byte b ∷ ts) [] = ⊥
+FitsShape (Byte b ∷ ts) (c ∷ w) = (b ≡ c) × FitsShape ts w
+FitsShape (Digit ∷ ts) [] = ⊥
+FitsShape (Digit ∷ ts) (c ∷ w) = (is_ascii_digit c ≡ true) × FitsShape ts w
+FitsShape (Digits ∷ ts) w = RunThen (FitsShape ts) w
 
 -- some bytes have both shapes
 pub record HaveCommon (ts us : List Token) : Type 0 where
   pub bytes : List ℕ
-  pub first : Fits ts bytes
-  pub second : Fits us bytes
+  pub first : FitsShape ts bytes
+  pub second : FitsShape us bytes

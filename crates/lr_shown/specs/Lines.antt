@@ -36,12 +36,12 @@ why_not_text why_not.Small = codes "small"
 why_not_text why_not.Early = codes "early"
 
 -- the line of a log: whether it is due, and why
-abbrev pub log_line : Path → Due → List ℕ
-log_line log (due.Yes why) = concat (log ∷ codes ": due, " ∷ why_text why ∷ codes "\n" ∷ [])
-log_line log (due.No why) = concat (log ∷ codes ": not due, " ∷ why_not_text why ∷ codes "\n" ∷ [])
+abbrev pub due_line : Path → Due → List ℕ
+due_line log (due.Yes why) = concat (log ∷ codes ": due, " ∷ why_text why ∷ codes "\n" ∷ [])
+due_line log (due.No why) = concat (log ∷ codes ": not due, " ∷ why_not_text why ∷ codes "\n" ∷ [])
 
 abbrev pub decision_line : Path × Due → List ℕ
-decision_line decision = log_line decision.0 decision.1
+decision_line decision = due_line decision.0 decision.1
 
 -- ---- steps
 

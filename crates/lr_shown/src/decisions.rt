@@ -1,7 +1,7 @@
 // The lines of what was decided.
 ghost use Rattle.std.specs.List.{flat_map};
 ghost use Rattle.lr_due.specs.declared.answer.Due.TheVariants as due;
-ghost use Rattle.lr_shown.specs.Lines.{log_line, decision_line};
+ghost use Rattle.lr_shown.specs.Lines.{due_line, decision_line};
 ghost use Rattle.lr_shown.specs.Puts.{Puts};
 
 use crate::words::{why_name, why_not_name};
@@ -11,21 +11,21 @@ use lr_report::put_four;
 use lr_rules::Path;
 
 fn put_due<K: Sink>(log: &Path, why: Why, out: &mut K) -> Result<(), SinkFault>
-    ensures { Puts (log_line log.now (due.Yes why)) result (K.taken out.old) (K.taken out.new) (K.faults out.old)
+    ensures { Puts (due_line log.now (due.Yes why)) result (K.taken out.old) (K.taken out.new) (K.faults out.old)
         (K.faults out.new) }
 {
     put_four(out, log.bytes(), b": due, ", why_name(why), b"\n")
 }
 
 fn put_not_due<K: Sink>(log: &Path, why: WhyNot, out: &mut K) -> Result<(), SinkFault>
-    ensures { Puts (log_line log.now (due.No why)) result (K.taken out.old) (K.taken out.new) (K.faults out.old)
+    ensures { Puts (due_line log.now (due.No why)) result (K.taken out.old) (K.taken out.new) (K.faults out.old)
         (K.faults out.new) }
 {
     put_four(out, log.bytes(), b": not due, ", why_not_name(why), b"\n")
 }
 
 fn put_decision<K: Sink>(log: &Path, due: Due, out: &mut K) -> Result<(), SinkFault>
-    ensures { Puts (log_line log.now due) result (K.taken out.old) (K.taken out.new) (K.faults out.old) (K.faults out.new) }
+    ensures { Puts (due_line log.now due) result (K.taken out.old) (K.taken out.new) (K.faults out.old) (K.faults out.new) }
 {
     match due {
         Due::Yes(why) => put_due(log, why, out),

@@ -14,10 +14,10 @@ use Rattle.lr_glob.specs.declared.found.Found.{Found}
 use Rattle.lr_glob.specs.declared.found.GlobStop.{GlobStop}
 use Rattle.lr_glob.specs.Gathers.{Gathers}
 use Rattle.lr_glob.specs.Parts.{JoinOf, PickOf, parts_in}
-use Rattle.lr_glob.specs.Visits.{Visit, names_of, visit_entries}
-use Rattle.lr_glob.specs.Rounds.{Round, Went, Asked, round_entries, Picks, FollowsBy, Follows, Leads, there, on, Led}
-use Rattle.lr_glob.specs.Sights.{InOrder, Sight, look_of, file_of, seen_at, is_whole, judged, LookedAt}
-use Rattle.lr_glob.specs.Words.{root, SearchThen, Gave, Comes}
+use Rattle.lr_glob.specs.Visits.{Visit, visit_names, visit_entries}
+use Rattle.lr_glob.specs.Rounds.{Round, Went, Asked, round_entries, Picks, FollowsBy, FollowsPart, Leads, there, on, Led}
+use Rattle.lr_glob.specs.Sights.{InOrder, PathSight, look_of, found_file, seen_at, is_whole, judged, LookedAt}
+use Rattle.lr_glob.specs.Words.{root, SearchThen, WordGave, Comes}
 use Rattle.lr_sought.proofs.OneOrder.{one_order}
 
 -- ---- entries, taken apart from the front
@@ -105,7 +105,7 @@ one_listing true false s d f l m vs ws p e = absurd (true≢false s)
 one_listing false true s d f l m vs ws p e = absurd (true≢false (sym s))
 one_listing false false s d f l m vs ws p e = record { came = refl; left = refl; behind = e }
 
-one_visit : (v w : Visit) (vs ws : List Entry) → v.dir ≡ w.dir → visit_entries v ++ vs ≡ visit_entries w ++ ws → AreOne (List (List ℕ)) (names_of v) (names_of w) (visit_entries v) (visit_entries w) vs ws
+one_visit : (v w : Visit) (vs ws : List Entry) → v.dir ≡ w.dir → visit_entries v ++ vs ≡ visit_entries w ++ ws → AreOne (List (List ℕ)) (visit_names v) (visit_names w) (visit_entries v) (visit_entries w) vs ws
 one_visit v w vs ws d e =
     let one = heads (entry.Look v.dir v.seen) (entry.Look w.dir w.seen) (cond (is_dir v.seen) (entry.List v.dir v.listed ∷ []) [] ++ vs) (cond (is_dir w.seen) (entry.List w.dir w.listed ∷ []) [] ++ ws) e in
     let rest = tails (entry.Look v.dir v.seen) (entry.Look w.dir w.seen) (cond (is_dir v.seen) (entry.List v.dir v.listed ∷ []) [] ++ vs) (cond (is_dir w.seen) (entry.List w.dir w.listed ∷ []) [] ++ ws) e in
@@ -127,7 +127,7 @@ visits_one part (x ∷ xs) (y ∷ ys) a b vs ws m g h e =
     let one = one_visit x y (flat_map visit_entries xs ++ vs) (flat_map visit_entries ys ++ ws) d (sym (append_assoc (visit_entries x) (flat_map visit_entries xs) vs) ∙ (e ∙ append_assoc (visit_entries y) (flat_map visit_entries ys) ws)) in
     let rest = visits_one part xs ys g.1 h.1 vs ws ds g.4 h.4 one.behind in
     record {
-      came = g.2 ∙ (ap (λ t. t ++ g.1) (picks_one part x.dir y.dir (names_of x) (names_of y) g.0 h.0 d one.came g.3 h.3) ∙ (ap (λ t. h.0 ++ t) rest.came ∙ sym h.2));
+      came = g.2 ∙ (ap (λ t. t ++ g.1) (picks_one part x.dir y.dir (visit_names x) (visit_names y) g.0 h.0 d one.came g.3 h.3) ∙ (ap (λ t. h.0 ++ t) rest.came ∙ sym h.2));
       left = ap (λ t. t ++ flat_map visit_entries xs) one.left ∙ ap (λ t. visit_entries y ++ t) rest.left;
       behind = rest.behind;
     }
@@ -145,7 +145,7 @@ round_by false part dirs (Asked xs) s a b vs ws g h e = absurd g
 
 abbrev pub LeadsBy : List (List ℕ) → List Path → List Round → List Path → Type 0
 LeadsBy [] dirs rounds paths = (rounds ≡ []) × (paths ≡ dirs)
-LeadsBy (part ∷ parts) dirs rounds paths = (between : List Path) × (round : Round) × (rest : List Round) × (rounds ≡ round ∷ rest) × Follows part dirs round between × LeadsBy parts between rest paths
+LeadsBy (part ∷ parts) dirs rounds paths = (between : List Path) × (round : Round) × (rest : List Round) × (rounds ≡ round ∷ rest) × FollowsPart part dirs round between × LeadsBy parts between rest paths
 
 pub leads_by : (parts : List (List ℕ)) (dirs : List Path) (rounds : List Round) (paths : List Path) → Leads parts dirs rounds paths → LeadsBy parts dirs rounds paths
 leads_by _ _ _ _ (there dirs) = (refl, refl)
@@ -176,12 +176,12 @@ led_one parts dirs a b ts us vs ws g h e =
 
 -- ---- looks
 
-sight_same : (s t : Sight) → s.path ≡ t.path → s.seen ≡ t.seen → s ≡ t
+sight_same : (s t : PathSight) → s.path ≡ t.path → s.seen ≡ t.seen → s ≡ t
 sight_same s t p q =
-    let made : Path → Option Seen → Sight = λ (x : Path) (y : Option Seen). record { path = x; seen = y } in
+    let made : Path → Option Seen → PathSight = λ (x : Path) (y : Option Seen). record { path = x; seen = y } in
     ap (λ (x : Path). made x s.seen) p ∙ ap (λ (y : Option Seen). made t.path y) q
 
-sights_one : (ss ts : List Sight) (vs ws : List Entry) → map (λ s. s.path) ss ≡ map (λ s. s.path) ts → map look_of ss ++ vs ≡ map look_of ts ++ ws → (ss ≡ ts) × (vs ≡ ws)
+sights_one : (ss ts : List PathSight) (vs ws : List Entry) → map (λ s. s.path) ss ≡ map (λ s. s.path) ts → map look_of ss ++ vs ≡ map look_of ts ++ ws → (ss ≡ ts) × (vs ≡ ws)
 sights_one [] [] vs ws m e = (refl, e)
 sights_one [] (t ∷ ts) vs ws m e = absurd (cc m)
 sights_one (s ∷ ss) [] vs ws m e = absurd (cc m)
@@ -196,8 +196,8 @@ looked_one : (paths others : List Path) (a b : List Found) (ts us vs ws : List E
 looked_one paths others a b ts us vs ws p g h e =
     let one = sights_one g.sights h.sights vs ws (g.each ∙ (p ∙ sym h.each)) (front_same ts us (map look_of g.sights) (map look_of h.sights) vs ws g.looks h.looks e) in
     record {
-      came = g.found_are ∙ (ap (λ (l : List Sight). flat_map file_of l) one.0 ∙ sym h.found_are);
-      left = g.looks ∙ (ap (λ (l : List Sight). map look_of l) one.0 ∙ sym h.looks);
+      came = g.found_are ∙ (ap (λ (l : List PathSight). flat_map found_file l) one.0 ∙ sym h.found_are);
+      left = g.looks ∙ (ap (λ (l : List PathSight). map look_of l) one.0 ∙ sym h.looks);
       behind = one.1;
     }
 
@@ -230,20 +230,20 @@ look_one path a b ts us vs ws g h e =
 nothing_one : (a b : List Found) (ts us vs ws : List Entry) → a ≡ [] → b ≡ [] → ts ≡ [] → us ≡ [] → ts ++ vs ≡ us ++ ws → AreOne (List Found) a b ts us vs ws
 nothing_one a b ts us vs ws p q r s e = record { came = p ∙ sym q; left = r ∙ sym s; behind = front_same ts us [] [] vs ws r s e }
 
-gave_one : (word : List ℕ) (a b : List Found) (ts us vs ws : List Entry) → (is_wildcard word ≡ false → path_fault (literal_path word) ≡ None) → Gave word a ts → Gave word b us → ts ++ vs ≡ us ++ ws → AreOne (List Found) a b ts us vs ws
-gave_one word a b ts us vs ws valid (Gave.literal p g) (Gave.literal q h) e = look_one (literal_path word) a b ts us vs ws g h e
-gave_one word a b ts us vs ws valid (Gave.literal p g) (Gave.no_path q n f r) e = absurd (n (valid p))
-gave_one word a b ts us vs ws valid (Gave.literal p g) (Gave.wildcard q x h) e = absurd (true≢false (sym q ∙ p))
-gave_one word a b ts us vs ws valid (Gave.literal p g) (Gave.relative q x f r) e = absurd (true≢false (sym q ∙ p))
-gave_one word a b ts us vs ws valid (Gave.no_path p n f r) _ e = absurd (n (valid p))
-gave_one word a b ts us vs ws valid (Gave.wildcard p x g) (Gave.literal q h) e = absurd (true≢false (sym p ∙ q))
-gave_one word a b ts us vs ws valid (Gave.wildcard p x g) (Gave.no_path q n f r) e = absurd (n (valid q))
-gave_one word a b ts us vs ws valid (Gave.wildcard p x g) (Gave.wildcard q y h) e = search_one word a b ts us vs ws g h e
-gave_one word a b ts us vs ws valid (Gave.wildcard p x g) (Gave.relative q y f r) e = absurd (true≢false (sym x ∙ y))
-gave_one word a b ts us vs ws valid (Gave.relative p x f r) (Gave.literal q h) e = absurd (true≢false (sym p ∙ q))
-gave_one word a b ts us vs ws valid (Gave.relative p x f r) (Gave.no_path q n g s) e = absurd (n (valid q))
-gave_one word a b ts us vs ws valid (Gave.relative p x f r) (Gave.wildcard q y h) e = absurd (true≢false (sym y ∙ x))
-gave_one word a b ts us vs ws valid (Gave.relative p x f r) (Gave.relative q y g s) e = nothing_one a b ts us vs ws f g r s e
+gave_one : (word : List ℕ) (a b : List Found) (ts us vs ws : List Entry) → (is_wildcard word ≡ false → path_fault (literal_path word) ≡ None) → WordGave word a ts → WordGave word b us → ts ++ vs ≡ us ++ ws → AreOne (List Found) a b ts us vs ws
+gave_one word a b ts us vs ws valid (WordGave.literal p g) (WordGave.literal q h) e = look_one (literal_path word) a b ts us vs ws g h e
+gave_one word a b ts us vs ws valid (WordGave.literal p g) (WordGave.no_path q n f r) e = absurd (n (valid p))
+gave_one word a b ts us vs ws valid (WordGave.literal p g) (WordGave.wildcard q x h) e = absurd (true≢false (sym q ∙ p))
+gave_one word a b ts us vs ws valid (WordGave.literal p g) (WordGave.relative q x f r) e = absurd (true≢false (sym q ∙ p))
+gave_one word a b ts us vs ws valid (WordGave.no_path p n f r) _ e = absurd (n (valid p))
+gave_one word a b ts us vs ws valid (WordGave.wildcard p x g) (WordGave.literal q h) e = absurd (true≢false (sym p ∙ q))
+gave_one word a b ts us vs ws valid (WordGave.wildcard p x g) (WordGave.no_path q n f r) e = absurd (n (valid q))
+gave_one word a b ts us vs ws valid (WordGave.wildcard p x g) (WordGave.wildcard q y h) e = search_one word a b ts us vs ws g h e
+gave_one word a b ts us vs ws valid (WordGave.wildcard p x g) (WordGave.relative q y f r) e = absurd (true≢false (sym x ∙ y))
+gave_one word a b ts us vs ws valid (WordGave.relative p x f r) (WordGave.literal q h) e = absurd (true≢false (sym p ∙ q))
+gave_one word a b ts us vs ws valid (WordGave.relative p x f r) (WordGave.no_path q n g s) e = absurd (n (valid q))
+gave_one word a b ts us vs ws valid (WordGave.relative p x f r) (WordGave.wildcard q y h) e = absurd (true≢false (sym y ∙ x))
+gave_one word a b ts us vs ws valid (WordGave.relative p x f r) (WordGave.relative q y g s) e = nothing_one a b ts us vs ws f g r s e
 
 pub comes_one : (word : List ℕ) (room : ℕ) (one other : Result (List Found) GlobStop) (ts us vs ws : List Entry) → (is_wildcard word ≡ false → path_fault (literal_path word) ≡ None) → Comes word room one ts → Comes word room other us → ts ++ vs ≡ us ++ ws
     → (one ≡ other) × (ts ≡ us) × (vs ≡ ws)

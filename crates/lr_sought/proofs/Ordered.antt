@@ -20,8 +20,8 @@ use Rattle.lr_host.proofs.Each.{each_first}
 use Rattle.lr_host.proofs.Lists.{in_append, in_to, in_unmap}
 use Rattle.lr_glob.specs.declared.found.Found.{Found}
 use Rattle.lr_glob.specs.Parts.{parts_in}
-use Rattle.lr_glob.specs.Sights.{Sight, file_of, file_at, is_file_kind, is_whole, seen_at, LookedAt}
-use Rattle.lr_glob.specs.Words.{Gave, Comes, SearchThen}
+use Rattle.lr_glob.specs.Sights.{PathSight, found_file, file_at, is_file_kind, is_whole, seen_at, LookedAt}
+use Rattle.lr_glob.specs.Words.{WordGave, Comes, SearchThen}
 use Rattle.lr_glob.proofs.ListsOnce.{IsTrue, led_apart, made_true}
 use Rattle.lr_glob.proofs.Seeking.{all_are}
 use Rattle.lr_sought.proofs.OneOrder.{one_at, count, count_cons, itself, IsRising, first_before, behind_first}
@@ -107,25 +107,25 @@ file_path path (Some seen) f i = go (is_file_kind seen.kind) i
     go true (inr j) = absurd j
     go false j = absurd j
 
-in_files : (sights : List Sight) (f : Found) → IsIn f (flat_map file_of sights) → IsIn f.path (map (λ (v : Sight). v.path) sights)
+in_files : (sights : List PathSight) (f : Found) → IsIn f (flat_map found_file sights) → IsIn f.path (map (λ (v : PathSight). v.path) sights)
 in_files [] f i = absurd i
-in_files (s ∷ sights) f i = ⊎_elim (λ (a : IsIn f (file_of s)). inl (sym (file_path s.path s.seen f a))) (λ (b : IsIn f (flat_map file_of sights)). inr (in_files sights f b)) (in_append f (file_of s) (flat_map file_of sights) i)
+in_files (s ∷ sights) f i = ⊎_elim (λ (a : IsIn f (found_file s)). inl (sym (file_path s.path s.seen f a))) (λ (b : IsIn f (flat_map found_file sights)). inr (in_files sights f b)) (in_append f (found_file s) (flat_map found_file sights) i)
 
 abbrev path_of : Found → Path
 path_of f = f.path
 
-files_rise : (sights : List Sight) → Rises (map (λ (v : Sight). v.path) sights) → Rises (map path_of (flat_map file_of sights))
+files_rise : (sights : List PathSight) → Rises (map (λ (v : PathSight). v.path) sights) → Rises (map path_of (flat_map found_file sights))
 files_rise [] r = tt
 files_rise (s ∷ sights) r = by s.seen (files_rise sights r.1)
   where
-    behind : (y : Path) → IsIn y (map path_of (flat_map file_of sights)) → slice_cmp nat_cmp s.path y ≡ Less
-    behind y i = let f = in_unmap path_of y (flat_map file_of sights) i in r.0 y (subst (λ z. IsIn z (map (λ (v : Sight). v.path) sights)) f.2 (in_files sights f.0 f.1))
+    behind : (y : Path) → IsIn y (map path_of (flat_map found_file sights)) → slice_cmp nat_cmp s.path y ≡ Less
+    behind y i = let f = in_unmap path_of y (flat_map found_file sights) i in r.0 y (subst (λ z. IsIn z (map (λ (v : PathSight). v.path) sights)) f.2 (in_files sights f.0 f.1))
 
-    by : (look : Option Seen) → Rises (map path_of (flat_map file_of sights)) → Rises (map path_of (file_at s.path look ++ flat_map file_of sights))
+    by : (look : Option Seen) → Rises (map path_of (flat_map found_file sights)) → Rises (map path_of (file_at s.path look ++ flat_map found_file sights))
     by None rest = rest
     by (Some seen) rest = go (is_file_kind seen.kind)
       where
-        go : (b : Bool) → Rises (map path_of (cond b (record { path = s.path; seen = seen } ∷ []) [] ++ flat_map file_of sights))
+        go : (b : Bool) → Rises (map path_of (cond b (record { path = s.path; seen = seen } ∷ []) [] ++ flat_map found_file sights))
         go true = (behind, rest)
         go false = rest
 
@@ -150,11 +150,11 @@ one_rises : (path : Path) (look : Option Seen) → Rises (map path_of (seen_at p
 one_rises path None = tt
 one_rises path (Some seen) = ((λ y i. absurd i), tt)
 
-gave_rises : (word : List ℕ) (found : List Found) (ts : List Entry) → Each IsTrue ts → Gave word found ts → Rises (map path_of found)
-gave_rises word found ts t (Gave.literal plain s) = subst (λ fs. Rises (map path_of fs)) (sym s.is) (one_rises _ s.seen)
-gave_rises word found ts t (Gave.no_path plain other none e) = none_rises found none
-gave_rises word found ts t (Gave.wildcard wild absolute s) = searched_rises word found ts t s
-gave_rises word found ts t (Gave.relative wild relative none e) = none_rises found none
+gave_rises : (word : List ℕ) (found : List Found) (ts : List Entry) → Each IsTrue ts → WordGave word found ts → Rises (map path_of found)
+gave_rises word found ts t (WordGave.literal plain s) = subst (λ fs. Rises (map path_of fs)) (sym s.is) (one_rises _ s.seen)
+gave_rises word found ts t (WordGave.no_path plain other none e) = none_rises found none
+gave_rises word found ts t (WordGave.wildcard wild absolute s) = searched_rises word found ts t s
+gave_rises word found ts t (WordGave.relative wild relative none e) = none_rises found none
 
 all_less : (x : Path) (ys : List Path) → ((y : Path) → IsIn y ys → slice_cmp nat_cmp x y ≡ Less) → AllByRecursion (λ y. slice_cmp nat_cmp x y ≡ Less) ys
 all_less x [] f = tt

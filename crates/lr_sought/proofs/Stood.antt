@@ -28,9 +28,9 @@ use Rattle.lr_glob.specs.declared.found.Found.{Found}
 use Rattle.lr_glob.specs.Gathers.{Gathers}
 use Rattle.lr_glob.specs.Parts.{JoinOf, PickOf, parts_in}
 use Rattle.lr_glob.specs.Rounds.{Picks, Round, Went, Asked, round_entries, FollowsBy, Led}
-use Rattle.lr_glob.specs.Sights.{Sight, look_of, file_of, file_at, is_file_kind, is_whole, seen_at, LookedAt}
-use Rattle.lr_glob.specs.Visits.{Visit, names_of, visit_entries}
-use Rattle.lr_glob.specs.Words.{root, Gave, Comes, SearchThen}
+use Rattle.lr_glob.specs.Sights.{PathSight, look_of, found_file, file_at, is_file_kind, is_whole, seen_at, LookedAt}
+use Rattle.lr_glob.specs.Visits.{Visit, visit_names, visit_entries}
+use Rattle.lr_glob.specs.Words.{root, WordGave, Comes, SearchThen}
 use Rattle.lr_glob.proofs.Apart.{dir_of}
 use Rattle.lr_glob.proofs.Literals.{one_name, parts_utf8}
 use Rattle.lr_glob.proofs.OnlyLooks.{comes_looks, looks_quiet}
@@ -66,7 +66,7 @@ pick_in part dir name _ path matches (PickOf.other none) = absurd (none matches)
 its_list : (v : Visit) → is_dir v.seen ≡ true → IsIn (entry.List v.dir v.listed) (visit_entries v)
 its_list v h = inr (subst (λ c. IsIn (entry.List v.dir v.listed) (cond c (entry.List v.dir v.listed ∷ []) [])) (sym h) (inl refl))
 
-its_names : (v : Visit) → is_dir v.seen ≡ true → names_of v ≡ v.listed
+its_names : (v : Visit) → is_dir v.seen ≡ true → visit_names v ≡ v.listed
 its_names v h = ap (λ c. cond c v.listed []) h
 
 sees_dir : (w : World) (t : Thing) (look : Option Seen) → t ≡ thing.Directory → Sees w t look → is_dir look ≡ true
@@ -136,7 +136,7 @@ module _ (p q : Past) (es : List Entry) (m : Made p es q) (quiet : AreQuiet (rev
   visited : (part : List ℕ) (dir : Path) (name : List ℕ) (visits : List Visit) (paths : List Path) → Matches true (chars part) (chars name) → IsDirectoryAt (names (world p)) dir → IsPart name → path_fault (joined dir name) ≡ None → names (world p) (joined dir name) ≢ thing.Nothing
       → (v : Visit) → IsIn v visits → v.dir ≡ dir → ((e : Entry) → IsIn e (flat_map visit_entries visits) → IsIn e (reverse es)) → Gathers (Picks part) visits paths → IsIn (joined dir name) paths
   visited part dir name visits paths matches there one path named v i at within g =
-      gather_in (Picks part) visits paths v (joined dir name) g i (λ its k. gather_in (PickOf part v.dir) (names_of v) its name (joined dir name) k listed (λ ones w. of_name ones w))
+      gather_in (Picks part) visits paths v (joined dir name) g i (λ its k. gather_in (PickOf part v.dir) (visit_names v) its name (joined dir name) k listed (λ ones w. of_name ones w))
     where
       look : At p (entry.Look v.dir v.seen)
       look = at_moment p q es m quiet (entry.Look v.dir v.seen) (within (entry.Look v.dir v.seen) (in_flat visit_entries visits v (entry.Look v.dir v.seen) i (inl refl)))
@@ -150,7 +150,7 @@ module _ (p q : Past) (es : List Entry) (m : Made p es q) (quiet : AreQuiet (rev
       still : names (world list.at) (joined v.dir name) ≢ thing.Nothing
       still = not_more (names (world p)) (names (world list.at)) (joined v.dir name) thing.Nothing list.more (λ g h. cc) (subst (λ d. names (world p) (joined d name) ≢ thing.Nothing) (sym at) named)
 
-      listed : IsIn name (names_of v)
+      listed : IsIn name (visit_names v)
       listed = subst (IsIn name) (sym (its_names v seen)) (in_from name v.listed ((list.fits.1.all name).1 (one, still)))
 
       of_name : (ones : List Path) → PickOf part v.dir name ones → IsIn (joined dir name) ones
@@ -186,7 +186,7 @@ module _ (p q : Past) (es : List Entry) (m : Made p es q) (quiet : AreQuiet (rev
         (λ e j. within e (subst (IsIn e) (sym l.entries) j))
 
     -- the look at it saw a file
-    saw : (s : Sight) → s.path ≡ x → IsIn (look_of s) (reverse es) → FindsFile x (file_of s)
+    saw : (s : PathSight) → s.path ≡ x → IsIn (look_of s) (reverse es) → FindsFile x (found_file s)
     saw s is i =
         let t = at_moment p q es m quiet (look_of s) i in
         let still = file_more (names (world p)) (names (world t.at)) x t.more file in
@@ -194,7 +194,7 @@ module _ (p q : Past) (es : List Entry) (m : Made p es q) (quiet : AreQuiet (rev
         (record { path = s.path; seen = z.0 }, subst (λ look. IsIn (record { path = s.path; seen = z.0 }) (file_at s.path look)) (sym z.1) (file_there s.path z.0 z.2), is, z.2)
 
     searched : (word : List ℕ) (found : List Found) → IsUtf8 word → is_wildcard word ≡ true → PathMatches word x → (EndsWith x part_end → ⊥) → SearchThen word (λ ordered us. LookedAt ordered found us) (reverse es) → FindsFile x found
-    searched word found text wild matches whole s = (g.0, subst (IsIn g.0) (sym l.found_are) (in_flat file_of l.sights sight.0 g.0 sight.1 g.1), g.2, g.3)
+    searched word found text wild matches whole s = (g.0, subst (IsIn g.0) (sym l.found_are) (in_flat found_file l.sights sight.0 g.0 sight.1 g.1), g.2, g.3)
       where
         l : LookedAt s.ordered found s.entries.back
         l = s.entries.second
@@ -205,10 +205,10 @@ module _ (p q : Past) (es : List Entry) (m : Made p es q) (quiet : AreQuiet (rev
         ordered : IsIn x s.ordered
         ordered = in_from x s.ordered (Contains-permutation (filter is_whole s.paths) s.ordered x s.order.same (in_to x (filter is_whole s.paths) (stays_in s.paths x there (is_whole_path x whole))))
 
-        sight : (v : Sight) × IsIn v l.sights × (v.path ≡ x)
-        sight = in_unmap (λ (v : Sight). v.path) x l.sights (subst (IsIn x) (sym l.each) ordered)
+        sight : (v : PathSight) × IsIn v l.sights × (v.path ≡ x)
+        sight = in_unmap (λ (v : PathSight). v.path) x l.sights (subst (IsIn x) (sym l.each) ordered)
 
-        g : FindsFile x (file_of sight.0)
+        g : FindsFile x (found_file sight.0)
         g = saw sight.0 sight.2 (subst (IsIn (look_of sight.0)) (sym s.entries.joined) (in_back (look_of sight.0) s.entries.front s.entries.back (subst (IsIn (look_of sight.0)) (sym l.looks) (in_map look_of sight.0 l.sights sight.1))))
 
   -- ---- a literal word
@@ -225,32 +225,32 @@ module _ (p q : Past) (es : List Entry) (m : Made p es q) (quiet : AreQuiet (rev
       let still = file_more (names (world p)) (names (world t.at)) (literal_path word) t.more file in
       sees_file (world t.at) (names (world t.at) (literal_path word)) look still.0 still.1 t.fits
 
-  literal_any : (word : List ℕ) (found : List Found) → is_wildcard word ≡ false → path_fault (literal_path word) ≡ None → names (world p) (literal_path word) ≢ thing.Nothing → Gave word found (reverse es) → (f : Found) × (found ≡ f ∷ []) × (f.path ≡ literal_path word)
-  literal_any word found plain path named (Gave.literal is s) =
+  literal_any : (word : List ℕ) (found : List Found) → is_wildcard word ≡ false → path_fault (literal_path word) ≡ None → names (world p) (literal_path word) ≢ thing.Nothing → WordGave word found (reverse es) → (f : Found) × (found ≡ f ∷ []) × (f.path ≡ literal_path word)
+  literal_any word found plain path named (WordGave.literal is s) =
       let z = at_path word s.seen (subst (IsIn (entry.Look (literal_path word) s.seen)) (sym s.look) (inl refl)) named in
       (record { path = literal_path word; seen = z.0 }, s.is ∙ ap (seen_at (literal_path word)) z.1, refl)
-  literal_any word found plain path named (Gave.no_path is other none e) = absurd (other path)
-  literal_any word found plain path named (Gave.wildcard wild absolute s) = absurd (let t = sym wild ∙ plain in cc)
-  literal_any word found plain path named (Gave.relative wild relative none e) = absurd (let t = sym wild ∙ plain in cc)
+  literal_any word found plain path named (WordGave.no_path is other none e) = absurd (other path)
+  literal_any word found plain path named (WordGave.wildcard wild absolute s) = absurd (let t = sym wild ∙ plain in cc)
+  literal_any word found plain path named (WordGave.relative wild relative none e) = absurd (let t = sym wild ∙ plain in cc)
 
-  literal_file : (word : List ℕ) (found : List Found) → is_wildcard word ≡ false → path_fault (literal_path word) ≡ None → IsFileAt (names (world p)) (literal_path word) → Gave word found (reverse es) → FindsFile (literal_path word) found
-  literal_file word found plain path file (Gave.literal is s) =
+  literal_file : (word : List ℕ) (found : List Found) → is_wildcard word ≡ false → path_fault (literal_path word) ≡ None → IsFileAt (names (world p)) (literal_path word) → WordGave word found (reverse es) → FindsFile (literal_path word) found
+  literal_file word found plain path file (WordGave.literal is s) =
       let z = file_at_path word s.seen (subst (IsIn (entry.Look (literal_path word) s.seen)) (sym s.look) (inl refl)) file in
       (record { path = literal_path word; seen = z.0 }, subst (IsIn (record { path = literal_path word; seen = z.0 })) (sym (s.is ∙ ap (seen_at (literal_path word)) z.1)) (inl refl), refl, z.2)
-  literal_file word found plain path file (Gave.no_path is other none e) = absurd (other path)
-  literal_file word found plain path file (Gave.wildcard wild absolute s) = absurd (let t = sym wild ∙ plain in cc)
-  literal_file word found plain path file (Gave.relative wild relative none e) = absurd (let t = sym wild ∙ plain in cc)
+  literal_file word found plain path file (WordGave.no_path is other none e) = absurd (other path)
+  literal_file word found plain path file (WordGave.wildcard wild absolute s) = absurd (let t = sym wild ∙ plain in cc)
+  literal_file word found plain path file (WordGave.relative wild relative none e) = absurd (let t = sym wild ∙ plain in cc)
 
   -- ---- a word
 
-  wildcard_file : (word : List ℕ) (found : List Found) (x : Path) → IsUtf8 word → is_wildcard word ≡ true → PathMatches word x → (EndsWith x part_end → ⊥) → IsFileAt (names (world p)) x → Way (names (world p)) x root (parts_in x) → Gave word found (reverse es) → FindsFile x found
-  wildcard_file word found x text wild matches whole file way (Gave.literal plain s) = absurd (let t = sym wild ∙ plain in cc)
-  wildcard_file word found x text wild matches whole file way (Gave.no_path plain other none e) = absurd (let t = sym wild ∙ plain in cc)
-  wildcard_file word found x text wild matches whole file way (Gave.wildcard is absolute s) = searched x file way word found text wild matches whole s
-  wildcard_file word found x text wild matches whole file way (Gave.relative is relative none e) = absurd (let t = sym (matches_absolute word x wild matches) ∙ relative in cc)
+  wildcard_file : (word : List ℕ) (found : List Found) (x : Path) → IsUtf8 word → is_wildcard word ≡ true → PathMatches word x → (EndsWith x part_end → ⊥) → IsFileAt (names (world p)) x → Way (names (world p)) x root (parts_in x) → WordGave word found (reverse es) → FindsFile x found
+  wildcard_file word found x text wild matches whole file way (WordGave.literal plain s) = absurd (let t = sym wild ∙ plain in cc)
+  wildcard_file word found x text wild matches whole file way (WordGave.no_path plain other none e) = absurd (let t = sym wild ∙ plain in cc)
+  wildcard_file word found x text wild matches whole file way (WordGave.wildcard is absolute s) = searched x file way word found text wild matches whole s
+  wildcard_file word found x text wild matches whole file way (WordGave.relative is relative none e) = absurd (let t = sym (matches_absolute word x wild matches) ∙ relative in cc)
 
   -- by a way to it
-  word_file : (word : List ℕ) (found : List Found) (x : Path) → IsUtf8 word → WordGives word x → path_fault x ≡ None → IsFileAt (names (world p)) x → (is_wildcard word ≡ true → Way (names (world p)) x root (parts_in x)) → Gave word found (reverse es) → FindsFile x found
+  word_file : (word : List ℕ) (found : List Found) (x : Path) → IsUtf8 word → WordGives word x → path_fault x ≡ None → IsFileAt (names (world p)) x → (is_wildcard word ≡ true → Way (names (world p)) x root (parts_in x)) → WordGave word found (reverse es) → FindsFile x found
   word_file word found x text (literal plain is) path file way g = subst (λ y. FindsFile y found) (sym is) (literal_file word found plain (subst (λ y. path_fault y ≡ None) is path) (subst (IsFileAt (names (world p))) is file) g)
   word_file word found x text (wildcard wild matches whole) path file way g = wildcard_file word found x text wild matches whole file (way wild) g
 

@@ -27,9 +27,9 @@ use Rattle.lr_plan.specs.Outcomes.{Fails, badly, not_run, maybe_run, bytes_fault
 use Rattle.lr_synced.specs.Synced.{made_of, to_make_of, all_to_make_of}
 use Rattle.lr_laws_family.proofs.Weaving.{each_in}
 use Rattle.lr_laws_targets.specs.AllTurns.{IsStatePath, IsOfState, IsItsDir, IsOf, IsOfSome}
-use Rattle.lr_laws_targets.specs.Target.{Target, HasDir, rotation_of}
+use Rattle.lr_laws_targets.specs.Target.{Target, HasDir, target_entries}
 use Rattle.lr_laws_targets.specs.Own.{ChangesOwn}
-use Rattle.lr_laws_targets.specs.Apart.{HasNames, HaveNames}
+use Rattle.lr_laws_targets.specs.Apart.{HasNames, TargetsHaveNames}
 use Rattle.lr_weave.specs.Fitting.{DontMeet}
 use Rattle.lr_weave.specs.Planned.{IsReadyFor, AreReadyFor}
 use Rattle.lr_laws_targets.proofs.Own.{own_paths}
@@ -78,14 +78,14 @@ dir_apart (v ∷ ts) d u t dir (inr i) (inr j) h its own = dir_apart ts d.1 u t 
 module _ (x : Path) where
   -- to a log that doesn't have the path
   one_gives : (t : Target) → HasNames t → HasMembers t → (IsOwnName t.log t.naming x → ⊥) → (e : Entry) → IsOf t e → GivesNoFile x e
-  one_gives t h members none (entry.Renames from to) (inl i) = λ same. none (subst (IsOwnName t.log t.naming) same (each_in (ChangesOwn t.log t.naming) (rotation_of t) (entry.Renames from to) (own_paths t h) i to (inr (inl refl))))
+  one_gives t h members none (entry.Renames from to) (inl i) = λ same. none (subst (IsOwnName t.log t.naming) same (each_in (ChangesOwn t.log t.naming) (target_entries t) (entry.Renames from to) (own_paths t h) i to (inr (inl refl))))
   one_gives t h members none (entry.Renames from to) (inr nothing) = absurd nothing
-  one_gives t h members none (entry.Makes y mode) (inl i) = λ same. none (subst (IsOwnName t.log t.naming) same (each_in (ChangesOwn t.log t.naming) (rotation_of t) (entry.Makes y mode) (own_paths t h) i y (inl refl)))
+  one_gives t h members none (entry.Makes y mode) (inl i) = λ same. none (subst (IsOwnName t.log t.naming) same (each_in (ChangesOwn t.log t.naming) (target_entries t) (entry.Makes y mode) (own_paths t h) i y (inl refl)))
   one_gives t h members none (entry.Makes y mode) (inr (inl is)) = λ same. none (the_log (sym same ∙ is))
   one_gives t h members none (entry.Makes y mode) (inr (inr p)) = λ same. none (subst (IsOwnName t.log t.naming) (sym p.2 ∙ same) (part_own t members p.0 p.1))
   one_gives t h members none _ i = tt
 
-  pub some_give : (ts : List Target) → HaveNames ts → HaveMembers ts → ((t : Target) → IsIn t ts → IsOwnName t.log t.naming x → ⊥) → (e : Entry) → IsOfSome ts e → GivesNoFile x e
+  pub some_give : (ts : List Target) → TargetsHaveNames ts → HaveMembers ts → ((t : Target) → IsIn t ts → IsOwnName t.log t.naming x → ⊥) → (e : Entry) → IsOfSome ts e → GivesNoFile x e
   some_give [] h members none e i = absurd i
   some_give (t ∷ ts) h members none e (inl i) = one_gives t h.0 (members t (inl refl)) (none t (inl refl)) e i
   some_give (t ∷ ts) h members none e (inr i) = some_give ts h.1 (λ u j. members u (inr j)) (λ u j. none u (inr j)) e i

@@ -8,7 +8,7 @@ use Rattle.lr_host.specs.declared.entry.Entry.{Entry}
 use Rattle.lr_host.specs.declared.entry.Entry.TheVariants.{Reads}
 use Rattle.lr_host.specs.declared.thing.Thing.{Thing}
 use Rattle.lr_host.specs.declared.thing.Thing.TheVariants as thing
-use Rattle.lr_host.specs.Fits.{Fits, Gives, IsPiece}
+use Rattle.lr_host.specs.Fits.{Fits, GivesPiece, IsPiece}
 use Rattle.lr_host.specs.Lists.{IsIn}
 use Rattle.lr_host.specs.Told.{Made, at_first, by_writer, by_tool}
 use Rattle.lr_host.specs.World.{Past, World, world, names}
@@ -161,7 +161,7 @@ record IsLong (w : World) (t : Thing) (count : ℕ) : Type 0 where
   is : t ≡ thing.File file
   long : count ≤ length (w.files file).bytes
 
-long_file : (w : World) (t : Thing) (place : ℕ) (piece : List ℕ) → piece ≢ [] → Gives w t place piece → IsLong w t (place + length piece)
+long_file : (w : World) (t : Thing) (place : ℕ) (piece : List ℕ) → piece ≢ [] → GivesPiece w t place piece → IsLong w t (place + length piece)
 long_file w (thing.File g) place piece some p = record { file = g; is = refl; long = piece_within (w.files g).bytes place piece some p }
 long_file w thing.Nothing place piece some p = absurd p
 long_file w thing.Directory place piece some p = absurd p

@@ -52,7 +52,7 @@ use Rattle.lr_plan.specs.Planned.{decision}
 use Rattle.lr_plan.specs.Steps.{steps_of_plan, steps_of_set, state_steps}
 use Rattle.lr_acts.specs.Making.{all_of_sets}
 use Rattle.lr_acts.specs.Taken.{LastTaken, OneTakes, WasTaken}
-use Rattle.lr_reading.specs.Sights.{entries_of}
+use Rattle.lr_reading.specs.Sights.{state_entries}
 use Rattle.lr_reading.proofs.Quiet.{state_quiet}
 use Rattle.lr_laws_targets.specs.AllTurns.{IsOfSome, IsOfState}
 use Rattle.lr_laws_targets.specs.Target.{Target, IsMissingDir, IsDirSeenBy}
@@ -258,7 +258,7 @@ module _ (state : Path) (asked : Asked) (clock : Clock) (rules : Rules) (own : L
   state_stale : (names (world p) (state_part state) ≡ thing.Nothing) ⊎ (l.remembered.stale ≡ true)
   state_stale = ⊎_elim (λ stale. inr stale) (λ none. inl (nothing none)) (part_known state l.remembered l.sights l.known)
     where
-      nothing : IsIn (entry.Look (state_part state) None) (entries_of state l.sights) → names (world p) (state_part state) ≡ thing.Nothing
+      nothing : IsIn (entry.Look (state_part state) None) (state_entries state l.sights) → names (world p) (state_part state) ≡ thing.Nothing
       nothing h = none_at_first (state_part state) state_spared (in_front (entry.Look (state_part state) None) l.reads l.looks (subst (IsIn (entry.Look (state_part state) None)) (sym l.read.entries) h))
 
   -- ---- all entries

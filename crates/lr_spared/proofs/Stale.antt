@@ -28,9 +28,9 @@ use Rattle.lr_looks.specs.Shown.{ShowsLooks}
 use Rattle.lr_looks.specs.Sights.{WordSight}
 use Rattle.lr_reading.specs.declared.look.LookStop.{LookStop}
 use Rattle.lr_reading.specs.declared.remembered.Remembered.{Remembered}
-use Rattle.lr_reading.specs.Answers.{IsKnown, IsKnownBy, IsKnownBehind, IsKnownOf, known_of, text_of}
+use Rattle.lr_reading.specs.Answers.{IsKnown, IsKnownBy, IsKnownBehind, IsKnownOf, known_of, text_read}
 use Rattle.lr_reading.specs.Pieces.{Reading}
-use Rattle.lr_reading.specs.Sights.{Sight, Failed, Nothing, Saw, StateSights, found, found_kind, look_of, behind_state, entries_of}
+use Rattle.lr_reading.specs.Sights.{StateSight, Failed, Nothing, Saw, StateSights, found, found_kind, state_look, behind_state, state_entries}
 use Rattle.lr_laws_targets.specs.Target.{Target}
 use Rattle.lr_seen.proofs.Coming.{Comes, was_looked}
 use Rattle.lr_seen.proofs.Elements.{in_list}
@@ -105,17 +105,17 @@ module _ (state : Path) (r : Remembered) where
       go (Err bad) e = absurd (cc)
 
   by_kind : (k : Kind) (there : Bool) (reading : Reading) → IsKnownBehind state there (found_kind k) reading (Ok r) → r.stale ≡ true
-  by_kind kind.File there reading known = by_text true (text_of state there reading) known
+  by_kind kind.File there reading known = by_text true (text_read state there reading) known
   by_kind kind.Dir there reading known = absurd (cc)
   by_kind kind.Other there reading known = absurd (cc)
 
-  by_part : (there : Bool) (part : Sight) (reading : Reading) → IsKnownBehind state there (found part) reading (Ok r) → (r.stale ≡ true) ⊎ IsIn (entry.Look (state_part state) None) (behind_state state (Ok there) part reading)
+  by_part : (there : Bool) (part : StateSight) (reading : Reading) → IsKnownBehind state there (found part) reading (Ok r) → (r.stale ≡ true) ⊎ IsIn (entry.Look (state_part state) None) (behind_state state (Ok there) part reading)
   by_part there Failed reading known = absurd (cc)
   by_part there Nothing reading known = inr (inl refl)
   by_part there (Saw seen) reading known = inl (by_kind seen.kind there reading known)
 
-  pub part_known : (s : StateSights) → IsKnown state s (Ok r) → (r.stale ≡ true) ⊎ IsIn (entry.Look (state_part state) None) (entries_of state s)
-  part_known s known = ⊎_elim (λ seen. inl seen) (λ none. inr (in_back (entry.Look (state_part state) None) (look_of state s.state) _ none)) (by (found s.state) known)
+  pub part_known : (s : StateSights) → IsKnown state s (Ok r) → (r.stale ≡ true) ⊎ IsIn (entry.Look (state_part state) None) (state_entries state s)
+  part_known s known = ⊎_elim (λ seen. inl seen) (λ none. inr (in_back (entry.Look (state_part state) None) (state_look state s.state) _ none)) (by (found s.state) known)
     where
       by : (f : Result Bool LookStop) → IsKnownOf state f (found s.part) s.reading (Ok r) → (r.stale ≡ true) ⊎ IsIn (entry.Look (state_part state) None) (behind_state state f s.part s.reading)
       by (Ok there) k = by_part there s.part s.reading k

@@ -11,7 +11,7 @@ use Rattle.lr_host.specs.World.{past, world, names}
 use Rattle.lr_host.proofs.Lists.{in_append}
 use Rattle.lr_host.proofs.Made.{made_on}
 use Rattle.lr_host.proofs.Quiet.{since_before}
-use Rattle.lr_acts.specs.Taken.{Spares, WasTaken, at_last}
+use Rattle.lr_acts.specs.Taken.{SparesPath, WasTaken, at_last}
 use Rattle.lr_laws_family.proofs.Weaving.{each_in}
 use Rattle.lr_spared.proofs.Naming.{Avoids, Spared, made_same, still_nothing, still_gone}
 use Rattle.lr_weave.proofs.Planning.{each_end}
@@ -19,7 +19,7 @@ use Rattle.lr_weave.proofs.Planning.{each_end}
 pub never_taken : (x : Path) (j k : Journal) (es : List Entry) → Made (past j) es (past k) → Spared x (past j) (past k) → Each (Avoids x) es → (names (world (past j)) x ≡ thing.Nothing) ⊎ IsIn (Unlinks x) es → WasTaken x (Some j) (Some k) → ⊥
 never_taken x j k es m s a start (at_last {es = olds} {fs = news} p first named rest spared) = named (⊎_elim
     (λ none. still_nothing x (past j) p olds first before avoided none)
-    (λ gone. ⊎_elim (λ late. absurd (each_in (Spares x) news (Unlinks x) spared late refl)) (λ early. still_gone x (past j) p olds first before avoided early) (in_append (Unlinks x) news olds (subst (IsIn (Unlinks x)) same gone)))
+    (λ gone. ⊎_elim (λ late. absurd (each_in (SparesPath x) news (Unlinks x) spared late refl)) (λ early. still_gone x (past j) p olds first before avoided early) (in_append (Unlinks x) news olds (subst (IsIn (Unlinks x)) same gone)))
     start)
   where
     same : es ≡ news ++ olds

@@ -23,7 +23,7 @@ use Rattle.lr_rules.specs.declared.stamp_parts.StampParts.{StampParts}
 use Rattle.lr_rules.specs.StampParts.{part, least}
 use Rattle.lr_rules.specs.Stamps.{bound, field_text, stamp_text, same_field, is_in}
 use Rattle.lr_rules.specs.Moments.{AreOfMoment, seconds_by, IsStamp}
-use Rattle.lr_stamps.specs.Clocks.{moment_by, parts_of, kept_part, kept_parts, stamp_of}
+use Rattle.lr_stamps.specs.Clocks.{moment_by, parts_of, kept_part, kept_fields, stamp_of}
 use Rattle.lr_rules.specs.Dated.{serial_text, IsSerial, IsDatedAt}
 use Rattle.lr_stamps.specs.Dated.{clock_seconds}
 use Rattle.lr_stamps.proofs.Fields.{itself}
@@ -32,7 +32,7 @@ use Rattle.lr_stamps.proofs.MomentLemmas.{small_parts}
 
 -- ---- what is kept of the parts
 
-kept_is : (pieces : List Piece) (p : StampParts) (f : Field) → part (kept_parts pieces p) f ≡ kept_part pieces p f
+kept_is : (pieces : List Piece) (p : StampParts) (f : Field) → part (kept_fields pieces p) f ≡ kept_part pieces p f
 kept_is pieces p field.Year = refl
 kept_is pieces p field.Month = refl
 kept_is pieces p field.Day = refl
@@ -41,10 +41,10 @@ kept_is pieces p field.Minute = refl
 kept_is pieces p field.Second = refl
 kept_is pieces p field.Epoch = refl
 
-kept_in : (pieces : List Piece) (p : StampParts) (f : Field) → is_in f pieces ≡ true → part (kept_parts pieces p) f ≡ part p f
+kept_in : (pieces : List Piece) (p : StampParts) (f : Field) → is_in f pieces ≡ true → part (kept_fields pieces p) f ≡ part p f
 kept_in pieces p f e = kept_is pieces p f ∙ ap (λ b. cond b (part p f) (part least f)) e
 
-kept_out : (pieces : List Piece) (p : StampParts) (f : Field) → is_in f pieces ≡ false → part (kept_parts pieces p) f ≡ part least f
+kept_out : (pieces : List Piece) (p : StampParts) (f : Field) → is_in f pieces ≡ false → part (kept_fields pieces p) f ≡ part least f
 kept_out pieces p f e = kept_is pieces p f ∙ ap (λ b. cond b (part p f) (part least f)) e
 
 here : (a b : Bool) → a ≡ true → (a || b) ≡ true
@@ -115,11 +115,11 @@ abs_small (pos n) h = omega (arith, ints, h.1)
 abs_small (negsuc n) h = absurd (omega (arith, ints, h.0))
 
 -- the parts of a moment that stand in a format are a stamp
-parts_stamp : (f : Format) (p : StampParts) → is_format f ≡ true → AreOfMoment p → p.epoch < 1000000000000 → IsStamp f.pieces (seconds_by f.pieces (kept_parts f.pieces p)) (stamp_text p f.pieces)
+parts_stamp : (f : Format) (p : StampParts) → is_format f ≡ true → AreOfMoment p → p.epoch < 1000000000000 → IsStamp f.pieces (seconds_by f.pieces (kept_fields f.pieces p)) (stamp_text p f.pieces)
 parts_stamp f p e a low = record {
-  parts = kept_parts f.pieces p;
+  parts = kept_fields f.pieces p;
   reading = record {
-    text = text_same p (kept_parts f.pieces p) f.pieces (kept_in f.pieces p);
+    text = text_same p (kept_fields f.pieces p) f.pieces (kept_in f.pieces p);
     small = λ g i. subst (λ (n : ℕ). n < bound g) (sym (kept_in f.pieces p g i)) (small_parts p a low g);
     rest = kept_out f.pieces p;
   };

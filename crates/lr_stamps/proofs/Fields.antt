@@ -9,7 +9,7 @@ use Rattle.lr_rules.specs.Limits.{rank}
 use Rattle.lr_rules.specs.declared.stamp_parts.StampParts.{StampParts}
 use Rattle.lr_rules.specs.StampParts.{part, with_part}
 use Rattle.lr_rules.specs.Stamps.{two, field_text, bound, same_field}
-use Rattle.lr_stamps.specs.Asked.{IsLeft}
+use Rattle.lr_stamps.specs.Asked.{HasLeft}
 
 -- ---- one field and another
 
@@ -115,7 +115,7 @@ front_same (a ∷ us) (b ∷ bs) xs ys l e =
     let others : us ≡ bs = r.0 in
     (cc, r.1)
 
-pub text_split : (f : Field) (a b k : ℕ) (xs ys : List ℕ) → a < bound f → b < bound f → IsLeft f k xs → IsLeft f k ys → field_text f a ++ xs ≡ field_text f b ++ ys → IsSplit a b xs ys
+pub text_split : (f : Field) (a b k : ℕ) (xs ys : List ℕ) → a < bound f → b < bound f → HasLeft f k xs → HasLeft f k ys → field_text f a ++ xs ≡ field_text f b ++ ys → IsSplit a b xs ys
 text_split field.Year a b k xs ys i j l m e = four_split a b xs ys e
 text_split field.Epoch a b k xs ys i j l m e =
     let r = front_same (decimal a) (decimal b) xs ys (l ∙ sym m) e in

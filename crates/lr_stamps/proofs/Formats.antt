@@ -12,7 +12,7 @@ use Rattle.lr_rules.specs.declared.rule.Piece.TheVariants as piece
 use Rattle.lr_rules.specs.Limits.{rank, is_rank, times, is_plain_piece, written, are_first, is_epoch_alone, is_format}
 use Rattle.lr_rules.specs.Stamps.{is_in}
 use Rattle.lr_rules.proofs.Bools.{both}
-use Rattle.lr_stamps.specs.Asked.{are_bytes, AreApart}
+use Rattle.lr_stamps.specs.Asked.{are_bytes, FieldsDiffer}
 
 -- ---- counting fields
 
@@ -47,7 +47,7 @@ counts f (piece.Field g ∷ ps) = go (rank f == rank g) (counts f ps)
 
 -- ---- formats of a date
 
-apart_date : (ps : List Piece) → ((f : Field) → times (rank f) ps ≤ 1) → times 6 ps ≡ 0 → AreApart ps
+apart_date : (ps : List Piece) → ((f : Field) → times (rank f) ps ≤ 1) → times 6 ps ≡ 0 → FieldsDiffer ps
 apart_date [] h z = tt
 apart_date (piece.Byte b ∷ ps) h z = apart_date ps h z
 apart_date (piece.Field f ∷ ps) h z = here f (one f) (h f) (apart_date ps (λ g. let i : times (rank g) ps ≤ times (rank g) (piece.Field f ∷ ps) = count_more (rank g) (piece.Field f) ps in let j : times (rank g) (piece.Field f ∷ ps) ≤ 1 = h g in omega arith) (let i : times 6 ps ≤ times 6 (piece.Field f ∷ ps) = count_more 6 (piece.Field f) ps in omega arith)) z
@@ -58,7 +58,7 @@ apart_date (piece.Field f ∷ ps) h z = here f (one f) (h f) (apart_date ps (λ 
     out : (g : Field) → times (rank g) (piece.Field g ∷ ps) ≡ 1 + times (rank g) ps → times (rank g) (piece.Field g ∷ ps) ≤ 1 → is_in g ps ≡ false
     out g e i = let n : times (rank g) ps ≡ 0 = omega arith in (counts g ps).0 n
 
-    here : (g : Field) → times (rank g) (piece.Field g ∷ ps) ≡ 1 + times (rank g) ps → times (rank g) (piece.Field g ∷ ps) ≤ 1 → AreApart ps → times 6 (piece.Field g ∷ ps) ≡ 0 → AreApart (piece.Field g ∷ ps)
+    here : (g : Field) → times (rank g) (piece.Field g ∷ ps) ≡ 1 + times (rank g) ps → times (rank g) (piece.Field g ∷ ps) ≤ 1 → FieldsDiffer ps → times 6 (piece.Field g ∷ ps) ≡ 0 → FieldsDiffer (piece.Field g ∷ ps)
     here field.Year e i a z = (out field.Year e i, a)
     here field.Month e i a z = (out field.Month e i, a)
     here field.Day e i a z = (out field.Day e i, a)
@@ -74,7 +74,7 @@ none_stand [] h = refl
 none_stand (piece.Byte b ∷ ps) h = none_stand ps h
 none_stand (piece.Field f ∷ ps) h = absurd (let e : times (rank f) (piece.Field f ∷ ps) ≡ 1 + times (rank f) ps = count_here f ps in let z : times (rank f) (piece.Field f ∷ ps) ≡ 0 = h f in omega arith)
 
-apart_epoch : (ps : List Piece) → ((f : Field) → rank f < 6 → times (rank f) ps ≡ 0) → times 6 ps ≡ 1 → AreApart ps
+apart_epoch : (ps : List Piece) → ((f : Field) → rank f < 6 → times (rank f) ps ≡ 0) → times 6 ps ≡ 1 → FieldsDiffer ps
 apart_epoch [] h o = tt
 apart_epoch (piece.Byte b ∷ ps) h o = apart_epoch ps h o
 apart_epoch (piece.Field f ∷ ps) h o = here f (count_here f ps) h o
@@ -95,7 +95,7 @@ apart_epoch (piece.Field f ∷ ps) h o = here f (count_here f ps) h o
     never : (g : Field) → rank g < 6 → times (rank g) (piece.Field g ∷ ps) ≡ 1 + times (rank g) ps → ((f : Field) → rank f < 6 → times (rank f) (piece.Field g ∷ ps) ≡ 0) → ⊥
     never g i e h = let z : times (rank g) (piece.Field g ∷ ps) ≡ 0 = h g i in omega arith
 
-    here : (g : Field) → times (rank g) (piece.Field g ∷ ps) ≡ 1 + times (rank g) ps → ((f : Field) → rank f < 6 → times (rank f) (piece.Field g ∷ ps) ≡ 0) → times 6 (piece.Field g ∷ ps) ≡ 1 → AreApart (piece.Field g ∷ ps)
+    here : (g : Field) → times (rank g) (piece.Field g ∷ ps) ≡ 1 + times (rank g) ps → ((f : Field) → rank f < 6 → times (rank f) (piece.Field g ∷ ps) ≡ 0) → times 6 (piece.Field g ∷ ps) ≡ 1 → FieldsDiffer (piece.Field g ∷ ps)
     here field.Epoch e h o = none_stand ps (λ g. rest field.Epoch h (omega arith) g (ranks g))
     here field.Year e h o = absurd (never field.Year (omega arith) e h)
     here field.Month e h o = absurd (never field.Month (omega arith) e h)
@@ -175,7 +175,7 @@ kind_of f e =
     let b = both (nat_le (length (written f.pieces)) 64) (are_first f.pieces || is_epoch_alone f.pieces) u.1 in
     ⊎_elim (λ t. inl (date_of f.pieces t)) (λ t. inr (epoch_of f.pieces t)) (either (are_first f.pieces) (is_epoch_alone f.pieces) b.1)
 
-date_apart : (ps : List Piece) → IsDate ps → AreApart ps
+date_apart : (ps : List Piece) → IsDate ps → FieldsDiffer ps
 date_apart ps d = apart_date ps most d.epoch
   where
     most : (f : Field) → times (rank f) ps ≤ 1
@@ -187,7 +187,7 @@ date_apart ps d = apart_date ps most d.epoch
     most field.Second = omega (arith, d.year, d.month, d.day, d.hour, d.minute, d.second)
     most field.Epoch = omega (arith, d.epoch)
 
-epoch_apart : (ps : List Piece) → IsEpoch ps → AreApart ps
+epoch_apart : (ps : List Piece) → IsEpoch ps → FieldsDiffer ps
 epoch_apart ps d = apart_epoch ps none d.epoch
   where
     none : (f : Field) → rank f < 6 → times (rank f) ps ≡ 0
@@ -200,7 +200,7 @@ epoch_apart ps d = apart_epoch ps none d.epoch
     none field.Epoch i = absurd (omega arith)
 
 -- each field stands once, and behind the seconds since 1970 stands no other
-pub format_apart : (f : Format) → is_format f ≡ true → AreApart f.pieces
+pub format_apart : (f : Format) → is_format f ≡ true → FieldsDiffer f.pieces
 format_apart f e = ⊎_elim (λ d. date_apart f.pieces d) (λ d. epoch_apart f.pieces d) (kind_of f e)
 
 -- where the day stands, the month and the year do; where the month stands, the year does

@@ -4,11 +4,11 @@ use Rattle.std.specs.Prelude.{◌↔◌}
 use Rattle.lr_rules.specs.declared.rule.Piece.{Piece}
 use Rattle.lr_rules.specs.declared.stamp_parts.StampParts.{StampParts}
 use Rattle.lr_rules.specs.StampParts.{least}
-use Rattle.lr_rules.specs.Stamps.{IsReading}
+use Rattle.lr_rules.specs.Stamps.{IsStampReading}
 use Rattle.lr_rules.specs.Moments.{AreOfMoment, seconds_by, IsStamp}
 
 abbrev Reads : Option StampParts → List Piece → List ℕ → Type 0
-Reads res pieces bytes = (p : StampParts) → (res ≡ Some p) ↔ IsReading pieces least p bytes
+Reads res pieces bytes = (p : StampParts) → (res ≡ Some p) ↔ IsStampReading pieces least p bytes
 
 some_same : {A : Type 0} (a b : A) → Some a ≡ Some b → a ≡ b
 some_same a b e = cc

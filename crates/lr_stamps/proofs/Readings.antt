@@ -7,8 +7,8 @@ use Rattle.lr_rules.specs.declared.rule.Piece.{Piece}
 use Rattle.lr_rules.specs.declared.rule.Piece.TheVariants as piece
 use Rattle.lr_rules.specs.declared.stamp_parts.StampParts.{StampParts}
 use Rattle.lr_rules.specs.StampParts.{part, with_part}
-use Rattle.lr_rules.specs.Stamps.{field_text, bound, stamp_text, same_field, is_in, IsReading}
-use Rattle.lr_stamps.specs.Asked.{are_bytes, AreApart, IsLeft}
+use Rattle.lr_rules.specs.Stamps.{field_text, bound, stamp_text, same_field, is_in, IsStampReading}
+use Rattle.lr_stamps.specs.Asked.{are_bytes, FieldsDiffer, HasLeft}
 use Rattle.lr_stamps.proofs.Fields.{is_same, itself, with_same, with_other, parts_same, IsSplit, text_split}
 
 -- ---- what stands behind a field
@@ -23,7 +23,7 @@ bytes_long p [] e = refl
 bytes_long p (piece.Byte b ∷ ps) e = let n : length (stamp_text p ps) ≡ length ps = bytes_long p ps e in omega arith
 bytes_long p (piece.Field g ∷ ps) e = absurd (cc)
 
-pub once : (f : Field) (ps : List Piece) → AreApart (piece.Field f ∷ ps) → is_in f ps ≡ false
+pub once : (f : Field) (ps : List Piece) → FieldsDiffer (piece.Field f ∷ ps) → is_in f ps ≡ false
 once field.Year ps a = a.0
 once field.Month ps a = a.0
 once field.Day ps a = a.0
@@ -32,12 +32,12 @@ once field.Minute ps a = a.0
 once field.Second ps a = a.0
 once field.Epoch ps a = bytes_in field.Epoch ps a
 
-bytes_apart : (ps : List Piece) → are_bytes ps ≡ true → AreApart ps
+bytes_apart : (ps : List Piece) → are_bytes ps ≡ true → FieldsDiffer ps
 bytes_apart [] e = tt
 bytes_apart (piece.Byte b ∷ ps) e = bytes_apart ps e
 bytes_apart (piece.Field f ∷ ps) e = absurd (cc)
 
-pub apart_rest : (f : Field) (ps : List Piece) → AreApart (piece.Field f ∷ ps) → AreApart ps
+pub apart_rest : (f : Field) (ps : List Piece) → FieldsDiffer (piece.Field f ∷ ps) → FieldsDiffer ps
 apart_rest field.Year ps a = a.1
 apart_rest field.Month ps a = a.1
 apart_rest field.Day ps a = a.1
@@ -47,7 +47,7 @@ apart_rest field.Second ps a = a.1
 apart_rest field.Epoch ps a = bytes_apart ps a
 
 -- so many bytes are left
-pub left_text : (f : Field) (ps : List Piece) (p : StampParts) → AreApart (piece.Field f ∷ ps) → IsLeft f (length ps) (stamp_text p ps)
+pub left_text : (f : Field) (ps : List Piece) (p : StampParts) → FieldsDiffer (piece.Field f ∷ ps) → HasLeft f (length ps) (stamp_text p ps)
 left_text field.Epoch ps p a = bytes_long p ps a
 left_text field.Year ps p a = tt
 left_text field.Month ps p a = tt
@@ -58,34 +58,34 @@ left_text field.Second ps p a = tt
 
 -- ---- no piece
 
-pub none_read : (before p : StampParts) (ps : List Piece) (w : List ℕ) → ps ≡ [] → w ≡ [] → (Some before ≡ Some p) ↔ IsReading ps before p w
+pub none_read : (before p : StampParts) (ps : List Piece) (w : List ℕ) → ps ≡ [] → w ≡ [] → (Some before ≡ Some p) ↔ IsStampReading ps before p w
 none_read before p ps w e f = (
-  λ s. let same : before ≡ p = cc in subst (λ (qs : List Piece). IsReading qs before p w) (sym e) (record { text = f; small = λ g i. absurd (cc); rest = λ g i. ap (λ (q : StampParts). part q g) (sym same) }),
-  λ (r : IsReading ps before p w). let r' : IsReading [] before p w = subst (λ (qs : List Piece). IsReading qs before p w) e r in ap Some (sym (parts_same p before (λ g. r'.rest g refl))),
+  λ s. let same : before ≡ p = cc in subst (λ (qs : List Piece). IsStampReading qs before p w) (sym e) (record { text = f; small = λ g i. absurd (cc); rest = λ g i. ap (λ (q : StampParts). part q g) (sym same) }),
+  λ (r : IsStampReading ps before p w). let r' : IsStampReading [] before p w = subst (λ (qs : List Piece). IsStampReading qs before p w) e r in ap Some (sym (parts_same p before (λ g. r'.rest g refl))),
 )
 
-pub none_left : (before p : StampParts) (ps : List Piece) (c : ℕ) (w v : List ℕ) → ps ≡ [] → w ≡ c ∷ v → IsReading ps before p w → ⊥
-none_left before p ps c w v e f r = let t : w ≡ [] = (subst (λ (qs : List Piece). IsReading qs before p w) e r).text in cc
+pub none_left : (before p : StampParts) (ps : List Piece) (c : ℕ) (w v : List ℕ) → ps ≡ [] → w ≡ c ∷ v → IsStampReading ps before p w → ⊥
+none_left before p ps c w v e f r = let t : w ≡ [] = (subst (λ (qs : List Piece). IsStampReading qs before p w) e r).text in cc
 
 -- ---- a byte
 
-pub byte_read : (before p : StampParts) (b : ℕ) (ps qs : List Piece) (w v : List ℕ) → qs ≡ piece.Byte b ∷ ps → w ≡ b ∷ v → IsReading ps before p v ↔ IsReading qs before p w
+pub byte_read : (before p : StampParts) (b : ℕ) (ps qs : List Piece) (w v : List ℕ) → qs ≡ piece.Byte b ∷ ps → w ≡ b ∷ v → IsStampReading ps before p v ↔ IsStampReading qs before p w
 byte_read before p b ps qs w v e f = (
-  λ r. subst (λ (os : List Piece). IsReading os before p w) (sym e) (record { text = f ∙ ap (λ u. b ∷ u) r.text; small = r.small; rest = r.rest }),
-  λ (r : IsReading qs before p w). let r' : IsReading (piece.Byte b ∷ ps) before p w = subst (λ (os : List Piece). IsReading os before p w) e r in record { text = behind b b v (stamp_text p ps) (sym f ∙ r'.text); small = r'.small; rest = r'.rest },
+  λ r. subst (λ (os : List Piece). IsStampReading os before p w) (sym e) (record { text = f ∙ ap (λ u. b ∷ u) r.text; small = r.small; rest = r.rest }),
+  λ (r : IsStampReading qs before p w). let r' : IsStampReading (piece.Byte b ∷ ps) before p w = subst (λ (os : List Piece). IsStampReading os before p w) e r in record { text = behind b b v (stamp_text p ps) (sym f ∙ r'.text); small = r'.small; rest = r'.rest },
 )
   where
     behind : (x y : ℕ) (xs ys : List ℕ) → x ∷ xs ≡ y ∷ ys → xs ≡ ys
     behind x y xs ys e = cc
 
-pub other_byte : (before p : StampParts) (b c : ℕ) (ps qs : List Piece) (w v : List ℕ) → qs ≡ piece.Byte b ∷ ps → w ≡ c ∷ v → b ≢ c → IsReading qs before p w → ⊥
-other_byte before p b c ps qs w v e f n r = n (front b c (stamp_text p ps) v (sym (subst (λ (os : List Piece). IsReading os before p w) e r).text ∙ f))
+pub other_byte : (before p : StampParts) (b c : ℕ) (ps qs : List Piece) (w v : List ℕ) → qs ≡ piece.Byte b ∷ ps → w ≡ c ∷ v → b ≢ c → IsStampReading qs before p w → ⊥
+other_byte before p b c ps qs w v e f n r = n (front b c (stamp_text p ps) v (sym (subst (λ (os : List Piece). IsStampReading os before p w) e r).text ∙ f))
   where
     front : (x y : ℕ) (xs ys : List ℕ) → x ∷ xs ≡ y ∷ ys → x ≡ y
     front x y xs ys e = cc
 
-pub no_byte : (before p : StampParts) (b : ℕ) (ps qs : List Piece) (w : List ℕ) → qs ≡ piece.Byte b ∷ ps → w ≡ [] → IsReading qs before p w → ⊥
-no_byte before p b ps qs w e f r = let t : w ≡ b ∷ stamp_text p ps = (subst (λ (os : List Piece). IsReading os before p w) e r).text in cc
+pub no_byte : (before p : StampParts) (b : ℕ) (ps qs : List Piece) (w : List ℕ) → qs ≡ piece.Byte b ∷ ps → w ≡ [] → IsStampReading qs before p w → ⊥
+no_byte before p b ps qs w e f r = let t : w ≡ b ∷ stamp_text p ps = (subst (λ (os : List Piece). IsStampReading os before p w) e r).text in cc
 
 -- ---- a field
 
@@ -107,7 +107,7 @@ there : (a b : Bool) → b ≡ true → (a || b) ≡ true
 there true b p = refl
 there false b p = p
 
-field_to : (before p : StampParts) (f : Field) (v : ℕ) (ps : List Piece) (w more : List ℕ) → AreApart (piece.Field f ∷ ps) → v < bound f → w ≡ field_text f v ++ more → IsReading ps (with_part before f v) p more → IsReading (piece.Field f ∷ ps) before p w
+field_to : (before p : StampParts) (f : Field) (v : ℕ) (ps : List Piece) (w more : List ℕ) → FieldsDiffer (piece.Field f ∷ ps) → v < bound f → w ≡ field_text f v ++ more → IsStampReading ps (with_part before f v) p more → IsStampReading (piece.Field f ∷ ps) before p w
 field_to before p f v ps w more a low e r = record { text = text; small = small; rest = rest }
   where
     value : part p f ≡ v
@@ -122,7 +122,7 @@ field_to before p f v ps w more a low e r = record { text = text; small = small;
     rest : (g : Field) → is_in g (piece.Field f ∷ ps) ≡ false → part p g ≡ part before g
     rest g i = let n = neither (same_field g f) (is_in g ps) i in r.rest g n.1 ∙ with_other before f v g n.0
 
-pub field_from : (before p : StampParts) (f : Field) (v : ℕ) (ps : List Piece) (w more : List ℕ) → AreApart (piece.Field f ∷ ps) → v < bound f → w ≡ field_text f v ++ more → IsLeft f (length ps) more → IsReading (piece.Field f ∷ ps) before p w → IsReading ps (with_part before f v) p more
+pub field_from : (before p : StampParts) (f : Field) (v : ℕ) (ps : List Piece) (w more : List ℕ) → FieldsDiffer (piece.Field f ∷ ps) → v < bound f → w ≡ field_text f v ++ more → HasLeft f (length ps) more → IsStampReading (piece.Field f ∷ ps) before p w → IsStampReading ps (with_part before f v) p more
 field_from before p f v ps w more a low e left r = record { text = sym split.rest; small = λ g i. r.small g (there (same_field g f) (is_in g ps) i); rest = rest }
   where
     split : IsSplit (part p f) v (stamp_text p ps) more
@@ -135,17 +135,17 @@ field_from before p f v ps w more a low e left r = record { text = sym split.res
     rest : (g : Field) → is_in g ps ≡ false → part p g ≡ part (with_part before f v) g
     rest g i = by g (same_field g f) refl i
 
-pub field_read : (before p : StampParts) (f : Field) (v : ℕ) (ps qs : List Piece) (w more : List ℕ) → qs ≡ piece.Field f ∷ ps → AreApart qs → (v < bound f) × (w ≡ field_text f v ++ more) × IsLeft f (length ps) more
-    → IsReading ps (with_part before f v) p more ↔ IsReading qs before p w
+pub field_read : (before p : StampParts) (f : Field) (v : ℕ) (ps qs : List Piece) (w more : List ℕ) → qs ≡ piece.Field f ∷ ps → FieldsDiffer qs → (v < bound f) × (w ≡ field_text f v ++ more) × HasLeft f (length ps) more
+    → IsStampReading ps (with_part before f v) p more ↔ IsStampReading qs before p w
 field_read before p f v ps qs w more e a h = (
-  λ r. subst (λ (os : List Piece). IsReading os before p w) (sym e) (field_to before p f v ps w more (subst AreApart e a) h.0 h.1 r),
-  λ r. field_from before p f v ps w more (subst AreApart e a) h.0 h.1 h.2 (subst (λ (os : List Piece). IsReading os before p w) e r),
+  λ r. subst (λ (os : List Piece). IsStampReading os before p w) (sym e) (field_to before p f v ps w more (subst FieldsDiffer e a) h.0 h.1 r),
+  λ r. field_from before p f v ps w more (subst FieldsDiffer e a) h.0 h.1 h.2 (subst (λ (os : List Piece). IsStampReading os before p w) e r),
 )
 
-pub no_field : (before p : StampParts) (f : Field) (ps qs : List Piece) (w : List ℕ) → qs ≡ piece.Field f ∷ ps → AreApart qs → ((n : ℕ) (rest : List ℕ) → n < bound f → IsLeft f (length ps) rest → w ≢ field_text f n ++ rest) → IsReading qs before p w → ⊥
+pub no_field : (before p : StampParts) (f : Field) (ps qs : List Piece) (w : List ℕ) → qs ≡ piece.Field f ∷ ps → FieldsDiffer qs → ((n : ℕ) (rest : List ℕ) → n < bound f → HasLeft f (length ps) rest → w ≢ field_text f n ++ rest) → IsStampReading qs before p w → ⊥
 no_field before p f ps qs w e a none r =
-    let r' : IsReading (piece.Field f ∷ ps) before p w = subst (λ (os : List Piece). IsReading os before p w) e r in
-    none (part p f) (stamp_text p ps) (r'.small f (here (same_field f f) (is_in f ps) (itself f))) (left_text f ps p (subst AreApart e a)) r'.text
+    let r' : IsStampReading (piece.Field f ∷ ps) before p w = subst (λ (os : List Piece). IsStampReading os before p w) e r in
+    none (part p f) (stamp_text p ps) (r'.small f (here (same_field f f) (is_in f ps) (itself f))) (left_text f ps p (subst FieldsDiffer e a)) r'.text
 
 pub empty_is : (w : List ℕ) → true ≡ (length w == 0) → w ≡ []
 empty_is [] e = refl
@@ -153,7 +153,7 @@ empty_is (x ∷ w) e = absurd (let h : length (x ∷ w) ≡ 0 = eqb-true (length
 
 -- ---- bytes have one reading
 
-pub one_reading : (before p q : StampParts) (ps : List Piece) (w : List ℕ) → AreApart ps → IsReading ps before p w → IsReading ps before q w → p ≡ q
+pub one_reading : (before p q : StampParts) (ps : List Piece) (w : List ℕ) → FieldsDiffer ps → IsStampReading ps before p w → IsStampReading ps before q w → p ≡ q
 one_reading before p q [] w a r s = parts_same p before (λ g. r.rest g refl) ∙ sym (parts_same q before (λ g. s.rest g refl))
 one_reading before p q (piece.Byte b ∷ ps) w a r s =
     one_reading before p q ps (stamp_text p ps) a

@@ -13,7 +13,7 @@ use Rattle.lr_rules.specs.declared.stamp_parts.StampParts.{StampParts}
 use Rattle.lr_rules.specs.Names.{AreDigits}
 use Rattle.lr_rules.specs.StampParts.{least}
 use Rattle.lr_rules.specs.Stamps.{stamp_text, is_in}
-use Rattle.lr_stamps.specs.Asked.{are_bytes, AreApart}
+use Rattle.lr_stamps.specs.Asked.{are_bytes, FieldsDiffer}
 use Rattle.lr_rules.specs.Moments.{IsStamp, seconds_by}
 use Rattle.lr_rules.specs.Dated.{serial_text, IsSerial, IsNumberedStamp}
 use Rattle.lr_rules.proofs.Digits.{decimal_run}
@@ -96,7 +96,7 @@ four_off : (a b c d e f g h : ℕ) (xs ys : List ℕ) → a ∷ b ∷ c ∷ d �
 four_off a b c d e f g h xs ys i = cc
 
 -- The same pieces with other values, and a dot behind them: never the same bytes.
-texts_apart : (p q : StampParts) (ps : List Piece) (more : List ℕ) → AreApart ps → (is_in field.Epoch ps ≡ true → p.epoch < 1000000000000) → stamp_text p ps ≡ stamp_text q ps ++ 46 ∷ more → ⊥
+texts_apart : (p q : StampParts) (ps : List Piece) (more : List ℕ) → FieldsDiffer ps → (is_in field.Epoch ps ≡ true → p.epoch < 1000000000000) → stamp_text p ps ≡ stamp_text q ps ++ 46 ∷ more → ⊥
 texts_apart p q [] more a s e = absurd (cc)
 texts_apart p q (piece.Byte b ∷ ps) more a s e = texts_apart p q ps more a s (tails b b (stamp_text p ps) (stamp_text q ps ++ 46 ∷ more) e)
 texts_apart p q (piece.Field field.Year ∷ ps) more a s e = texts_apart p q ps more a.1 s (four_off _ _ _ _ _ _ _ _ (stamp_text p ps) (stamp_text q ps ++ 46 ∷ more) e)
@@ -109,16 +109,16 @@ texts_apart p q (piece.Field field.Epoch ∷ ps) more a s e =
     numbers_apart (decimal p.epoch) (decimal q.epoch) (stamp_text q ps) more (decimal_run p.epoch (omega (arith, s refl))).1
     (ap (λ (t : List ℕ). decimal p.epoch ++ t) (bytes_same q p ps a) ∙ (e ∙ append_assoc (decimal q.epoch) (stamp_text q ps) (46 ∷ more)))
 
-pub not_both : (ps : List Piece) (t u : ℤ) (k : ℕ) (bytes : List ℕ) → AreApart ps → IsStamp ps t bytes → IsCounted ps u k bytes → ⊥
+pub not_both : (ps : List Piece) (t u : ℤ) (k : ℕ) (bytes : List ℕ) → FieldsDiffer ps → IsStamp ps t bytes → IsCounted ps u k bytes → ⊥
 not_both ps t u k bytes a s c = texts_apart s.parts c.is.parts ps (decimal k) a (λ i. s.reading.small field.Epoch i)
     (sym s.reading.text ∙ (c.text ∙ ap (λ (b : List ℕ). b ++ 46 ∷ decimal k) c.is.reading.text))
 
 -- ---- bytes have one stamp and one serial number
 
-pub one_stamp : (ps : List Piece) (t u : ℤ) (w : List ℕ) → AreApart ps → IsStamp ps t w → IsStamp ps u w → t ≡ u
+pub one_stamp : (ps : List Piece) (t u : ℤ) (w : List ℕ) → FieldsDiffer ps → IsStamp ps t w → IsStamp ps u w → t ≡ u
 one_stamp ps t u w a r s = r.is ∙ (ap (seconds_by ps) (one_reading least r.parts s.parts ps w a r.reading s.reading) ∙ sym s.is)
 
-pub one_counted : (ps : List Piece) (t u : ℤ) (k l : ℕ) (w : List ℕ) → AreApart ps → IsCounted ps t k w → IsCounted ps u l w → (t ≡ u) × (k ≡ l)
+pub one_counted : (ps : List Piece) (t u : ℤ) (k l : ℕ) (w : List ℕ) → FieldsDiffer ps → IsCounted ps t k w → IsCounted ps u l w → (t ≡ u) × (k ≡ l)
 one_counted ps t u k l w a r s = (
   one_stamp ps t u r.stamp a r.is (subst (IsStamp ps u) (sym split.fronts) s.is),
   decimal_injective k l (omega (arith, r.within)) (omega (arith, s.within)) split.ends,
@@ -150,7 +150,7 @@ pub of_counted : (f : Format) (t : ℤ) (k : ℕ) (w : List ℕ) → f.serial �
 of_counted f t zero w s c = absurd (omega (arith, c.above))
 of_counted f t (suc k) w s c = record { stamp = c.stamp; is = c.is; numbered = inr (s, c.within); text = c.text }
 
-pub one_numbered : (f : Format) (t u : ℤ) (k l : ℕ) (w : List ℕ) → AreApart f.pieces → IsNumberedStamp f t k w → IsNumberedStamp f u l w → (t ≡ u) × (k ≡ l)
+pub one_numbered : (f : Format) (t u : ℤ) (k l : ℕ) (w : List ℕ) → FieldsDiffer f.pieces → IsNumberedStamp f t k w → IsNumberedStamp f u l w → (t ≡ u) × (k ≡ l)
 one_numbered f t u k l w a x y = go (numbered_or f t k w x) (numbered_or f u l w y)
   where
     go : ((k ≡ 0) × IsStamp f.pieces t w) ⊎ ((f.serial ≡ true) × IsCounted f.pieces t k w) → ((l ≡ 0) × IsStamp f.pieces u w) ⊎ ((f.serial ≡ true) × IsCounted f.pieces u l w) → (t ≡ u) × (k ≡ l)
@@ -202,7 +202,7 @@ other_stamp ps w a b r h reads none u l = (
 )
 
 -- both
-pub both_counted : (ps : List Piece) (w a b : List ℕ) (k : ℕ) (t s : ℤ) (r : Option ℤ) → AreApart ps → (w ≡ a ++ 46 ∷ b) × (list_any is_dot b ≡ false) → (0 < k) × (k ≤ 4294967295) × (b ≡ decimal k) → ((t : ℤ) → (r ≡ Some t) ↔ IsStamp ps t a) → r ≡ Some t → s ≡ t
+pub both_counted : (ps : List Piece) (w a b : List ℕ) (k : ℕ) (t s : ℤ) (r : Option ℤ) → FieldsDiffer ps → (w ≡ a ++ 46 ∷ b) × (list_any is_dot b ≡ false) → (0 < k) × (k ≤ 4294967295) × (b ≡ decimal k) → ((t : ℤ) → (r ≡ Some t) ↔ IsStamp ps t a) → r ≡ Some t → s ≡ t
     → (u : ℤ) (l : ℕ) → Same (Some (s, k)) u l ↔ IsCounted ps u l w
 both_counted ps w a b k t s r apart h d reads is same u l = (
   λ e. let p = some_pair s u k l e in subst (λ (v : ℤ). IsCounted ps v l w) (sym same ∙ p.0) (subst (λ (j : ℕ). IsCounted ps t j w) p.1 counted),
@@ -213,7 +213,7 @@ both_counted ps w a b k t s r apart h d reads is same u l = (
     counted = record { stamp = a; is = (reads t).0 is; above = d.0; within = d.1; text = h.0 ∙ ap (λ (e : List ℕ). a ++ 46 ∷ e) d.2 }
 
 -- a stamp without a serial number
-pub reads_plain : (f : Format) (w : List ℕ) (t s : ℤ) (r : Option ℤ) → AreApart f.pieces → ((t : ℤ) → (r ≡ Some t) ↔ IsStamp f.pieces t w) → r ≡ Some t → s ≡ t → (u : ℤ) (l : ℕ) → Same (Some (s, 0)) u l ↔ IsNumberedStamp f u l w
+pub reads_plain : (f : Format) (w : List ℕ) (t s : ℤ) (r : Option ℤ) → FieldsDiffer f.pieces → ((t : ℤ) → (r ≡ Some t) ↔ IsStamp f.pieces t w) → r ≡ Some t → s ≡ t → (u : ℤ) (l : ℕ) → Same (Some (s, 0)) u l ↔ IsNumberedStamp f u l w
 reads_plain f w t s r a reads is same u l = (
   λ e. let p = some_pair s u 0 l e in subst (λ (v : ℤ). IsNumberedStamp f v l w) (sym same ∙ p.0) (subst (λ (j : ℕ). IsNumberedStamp f t j w) p.1 plain),
   λ d. let p = one_numbered f t u 0 l w a plain d in pair_some s u 0 l (same ∙ p.0) p.1,

@@ -15,16 +15,16 @@ are_bytes (piece.Byte b ∷ pieces) = are_bytes pieces
 are_bytes (piece.Field f ∷ pieces) = false
 
 -- each field stands once, and behind the seconds since 1970 stands no other
-abbrev pub AreApart : List Piece → Type 0
-AreApart [] = Unit {0}
-AreApart (piece.Byte b ∷ pieces) = AreApart pieces
-AreApart (piece.Field field.Epoch ∷ pieces) = are_bytes pieces ≡ true
-AreApart (piece.Field f ∷ pieces) = (is_in f pieces ≡ false) × AreApart pieces
+abbrev pub FieldsDiffer : List Piece → Type 0
+FieldsDiffer [] = Unit {0}
+FieldsDiffer (piece.Byte b ∷ pieces) = FieldsDiffer pieces
+FieldsDiffer (piece.Field field.Epoch ∷ pieces) = are_bytes pieces ≡ true
+FieldsDiffer (piece.Field f ∷ pieces) = (is_in f pieces ≡ false) × FieldsDiffer pieces
 
 -- behind the seconds since 1970 so many bytes are left
-abbrev pub IsLeft : Field → ℕ → List ℕ → Type 0
-IsLeft field.Epoch after rest = length rest ≡ after
-IsLeft _ after rest = Unit {0}
+abbrev pub HasLeft : Field → ℕ → List ℕ → Type 0
+HasLeft field.Epoch after rest = length rest ≡ after
+HasLeft _ after rest = Unit {0}
 
 -- the first byte is a digit, and no zero but where it stands alone
 abbrev pub is_plain : List ℕ → Bool

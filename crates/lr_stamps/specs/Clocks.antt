@@ -36,8 +36,8 @@ abbrev pub kept_part : List Piece → StampParts → Field → ℕ
 kept_part pieces p f = if is_in f pieces then part p f else part least f
 
 -- the parts that stand among the pieces
-abbrev pub kept_parts : List Piece → StampParts → StampParts
-kept_parts pieces p = record {
+abbrev pub kept_fields : List Piece → StampParts → StampParts
+kept_fields pieces p = record {
   year = kept_part pieces p field.Year;
   month = kept_part pieces p field.Month;
   day = kept_part pieces p field.Day;
@@ -53,4 +53,4 @@ stamp_of format clock = stamp_text (parts_of (moment_by format.back clock)) form
 
 -- and the seconds that it tells
 abbrev pub stamp_seconds : Format → Clock → ℤ
-stamp_seconds format clock = seconds_by format.pieces (kept_parts format.pieces (parts_of (moment_by format.back clock)))
+stamp_seconds format clock = seconds_by format.pieces (kept_fields format.pieces (parts_of (moment_by format.back clock)))

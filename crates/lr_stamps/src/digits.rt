@@ -2,7 +2,7 @@
 ghost use Rattle.std.specs.Prelude.{◌≡◌, ◌≢◌, ◌↔◌, ◌<◌, ◌≤◌, ◌+◌, ◌++◌, ℕ, List, true, decimal, length, IfSome, IfNone};
 ghost use Rattle.lr_rules.specs.declared.rule.Field.TheVariants as field;
 ghost use Rattle.lr_rules.specs.Stamps.{two, field_text, bound};
-ghost use Rattle.lr_stamps.specs.Asked.{IsLeft, is_plain};
+ghost use Rattle.lr_stamps.specs.Asked.{HasLeft, is_plain};
 
 use lr_rules::Field;
 
@@ -91,8 +91,8 @@ fn epoch_digits(bytes: &[u8], after: usize) -> Option<(u64, &[u8])>
 /// bytes.
 pub fn read_field(field: Field, after: usize, bytes: &[u8]) -> Option<(u64, &[u8])>
     ensures some { IfSome result (λ r. (r.0 < bound field) × (bytes.now ≡ field_text field r.0 ++ r.1.now)
-        × IsLeft field after r.1.now) }
-    ensures none { IfNone result ((n : ℕ) (rest : List ℕ) → n < bound field → IsLeft field after rest
+        × HasLeft field after r.1.now) }
+    ensures none { IfNone result ((n : ℕ) (rest : List ℕ) → n < bound field → HasLeft field after rest
         → bytes.now ≢ field_text field n ++ rest) }
 {
     match field {

@@ -3,7 +3,7 @@ ghost use Rattle.std.specs.Prelude.{◌≡◌, ◌↔◌, ◌<◌, ℤ, IsSome, 
 ghost use Rattle.lr_rules.specs.declared.rule.Field.TheVariants as field;
 ghost use Rattle.lr_rules.specs.Civil.{moment_seconds};
 ghost use Rattle.lr_rules.specs.Stamps.{is_in};
-ghost use Rattle.lr_stamps.specs.Asked.{AreApart};
+ghost use Rattle.lr_stamps.specs.Asked.{FieldsDiffer};
 ghost use Rattle.lr_rules.specs.Moments.{AreOfMoment, civil_seconds, seconds_by, IsStamp};
 
 use crate::front::first_piece;
@@ -76,7 +76,7 @@ fn seconds_by(pieces: &[Piece], parts: &StampParts, civil: &Civil) -> i64
 /// The seconds of the moment whose stamp these bytes are; None exactly where they are no stamp of these pieces. It takes
 /// no memory.
 pub fn moment_of(pieces: &[Piece], bytes: &[u8]) -> Option<i64>
-    requires { AreApart pieces.now }
+    requires { FieldsDiffer pieces.now }
     ensures { (t : ℤ) → (result ≡ Some t) ↔ IsStamp pieces.now t bytes.now }
 {
     let Some(parts) = read(pieces, bytes, &LEAST) else {

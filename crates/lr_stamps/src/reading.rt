@@ -2,8 +2,8 @@
 ghost use Rattle.std.specs.Prelude.{◌≡◌, ◌↔◌, Some};
 ghost use Rattle.lr_rules.specs.declared.stamp_parts.StampParts.{StampParts};
 ghost use Rattle.lr_rules.specs.StampParts.{with_part};
-ghost use Rattle.lr_rules.specs.Stamps.{IsReading};
-ghost use Rattle.lr_stamps.specs.Asked.{AreApart};
+ghost use Rattle.lr_rules.specs.Stamps.{IsStampReading};
+ghost use Rattle.lr_stamps.specs.Asked.{FieldsDiffer};
 
 use crate::digits::read_field;
 use crate::front::{first_byte, first_piece};
@@ -46,8 +46,8 @@ fn with_value(parts: &StampParts, field: Field, value: u64) -> StampParts
 
 /// The values of the fields of which these bytes are the text; None exactly where they are the text of none.
 pub fn read(pieces: &[Piece], bytes: &[u8], before: &StampParts) -> Option<StampParts>
-    requires { AreApart pieces.now }
-    ensures { (p : StampParts) → (result ≡ Some p) ↔ IsReading pieces.now before.now p bytes.now }
+    requires { FieldsDiffer pieces.now }
+    ensures { (p : StampParts) → (result ≡ Some p) ↔ IsStampReading pieces.now before.now p bytes.now }
 {
     let Some((piece, rest)) = first_piece(pieces) else {
         return if bytes.is_empty() {

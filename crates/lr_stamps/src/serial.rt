@@ -3,7 +3,7 @@ ghost use Rattle.std.specs.Prelude.{◌≡◌, ◌≢◌, ◌↔◌, ◌<◌, �
 ghost use Rattle.std.specs.Prelude.{MatchOption};
 ghost use Rattle.std.specs.List.{list_any};
 ghost use Rattle.lr_rules.specs.Limits.{is_format};
-ghost use Rattle.lr_stamps.specs.Asked.{AreApart};
+ghost use Rattle.lr_stamps.specs.Asked.{FieldsDiffer};
 ghost use Rattle.lr_rules.specs.Dated.{IsNumberedStamp};
 ghost use Rattle.lr_stamps.specs.Serials.{is_dot, IsCounted};
 
@@ -41,7 +41,7 @@ fn serial_of(digits: &[u8]) -> Option<u32>
 
 // The seconds of a stamp and the serial number behind it, where there is one.
 fn counted(pieces: &[Piece], bytes: &[u8]) -> Option<(i64, u32)>
-    requires { AreApart pieces.now }
+    requires { FieldsDiffer pieces.now }
     ensures { (t : ℤ) (k : ℕ) → (result ≡ Some (t, k)) ↔ IsCounted pieces.now t k bytes.now }
 {
     let Some((stamp, digits)) = split_last(bytes) else {

@@ -3,7 +3,7 @@ use Rattle.std.proofs.Common.{◌≡◌, ◌∙◌, ap, sym, subst, refl, ℕ, �
 use Rattle.std.specs.List.{list_all}
 use Rattle.std.proofs.lemmas.Bool.{and_parts, and_from, eqb-true, cond-true, leb-true}
 use Rattle.lr_rules.specs.declared.civil.Civil.{Civil}
-use Rattle.lr_state.specs.Grammar.{is_blank, is_other, is_digit, IsNumber, IsClockTime, IsTime, IsDated}
+use Rattle.lr_state.specs.Grammar.{is_blank, is_other, is_digit, IsNumber, IsClockTime, IsTime, HasDate}
 use Rattle.lr_state.specs.Reading.{Clock, Parts, HasParts, before, from_first, past_gap, behind, two_in, four_in, clock_in, time_in, parts_in, ◌>>=◌}
 use Rattle.lr_state.proofs.Names.{starts, cut-complete, cut-sound}
 use Rattle.lr_state.proofs.Numbers.{no_digit, two-sound, two-complete, four-sound, four-complete}
@@ -112,7 +112,7 @@ abbrev pub parts_of : Civil → ℕ → Parts
 parts_of at year = (year, at.month, at.day, at.hour, at.minute, at.second)
 
 -- what is a moment behind a name the reader takes for its parts
-pub parts-complete : (rest : List ℕ) (at : Civil) (t : IsDated rest at) → parts_in rest ≡ Some (parts_of at t.year)
+pub parts-complete : (rest : List ℕ) (at : Civil) (t : HasDate rest at) → parts_in rest ≡ Some (parts_of at t.year)
 unfolding parts_in behind
 parts-complete rest at t =
     let tail = t.time ++ t.behind in
@@ -168,7 +168,7 @@ time-sound text c e = by (list_all is_blank text) refl e
     by false is same = clock-sound text c same
 
 -- and the parts that the reader takes are a moment behind a name
-pub parts-sound : (rest : List ℕ) (p : Parts) (at : Civil) → parts_in rest ≡ Some p → HasParts at p → IsDated rest at
+pub parts-sound : (rest : List ℕ) (p : Parts) (at : Civil) → parts_in rest ≡ Some p → HasParts at p → HasDate rest at
 unfolding parts_in
 parts-sound rest p at e has =
     let a = bind-some (past_gap rest) _ p e in

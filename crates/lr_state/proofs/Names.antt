@@ -2,9 +2,9 @@
 use Rattle.std.proofs.Common.{◌≡◌, ◌∙◌, ap, sym, subst, refl, ℕ, Bool, true, false, not, ◌||◌, ◌==◌, cond, List, [], ◌∷◌, ◌++◌, take, map, Option, Some, None, append_assoc, ◌⊎◌, inl, inr}
 use Rattle.std.specs.List.{list_all, flat_map}
 use Rattle.std.proofs.lemmas.Bool.{and_parts, and_from, or_parts, not-true, eqb-true, cond-true, cond-false}
-use Rattle.lr_state.specs.Grammar.{Sign, spelling, is_sign, byte_of, is_blank, is_other, is_end, IsQuoted, IsBare, IsNamed}
+use Rattle.lr_state.specs.Grammar.{Sign, spelling, is_escaped, byte_of, is_blank, is_other, ends_word, IsQuoted, IsBare, BeginsWithName}
 use Rattle.lr_state.specs.Table.{is_name}
-use Rattle.lr_state.specs.Reading.{Named, with_byte, with_front, quoted, before, from_first, name_in, checked}
+use Rattle.lr_state.specs.Reading.{NameAndRest, with_byte, with_front, quoted, before, from_first, name_in, checked}
 
 -- the list is empty, or its first byte passes
 abbrev pub starts : (ℕ → Bool) → List ℕ → Bool
@@ -18,11 +18,11 @@ pub record IsCut (p : ℕ → Bool) (xs front back : List ℕ) : Type 0 where
   pub stops : starts p back ≡ true
 
 -- the name so far stands in front of what is still to be read
-pub front-byte : (xs : List ℕ) (b : ℕ) (o : Option Named) → with_front (xs ++ b ∷ []) o ≡ with_front xs (with_byte b o)
+pub front-byte : (xs : List ℕ) (b : ℕ) (o : Option NameAndRest) → with_front (xs ++ b ∷ []) o ≡ with_front xs (with_byte b o)
 front-byte xs b None = refl
 front-byte xs b (Some x) = ap (λ n. Some (n, x.1)) (append_assoc xs (b ∷ []) x.0)
 
-pub front-none : (o : Option Named) → with_front [] o ≡ o
+pub front-none : (o : Option NameAndRest) → with_front [] o ≡ o
 front-none None = refl
 front-none (Some x) = refl
 
@@ -47,23 +47,23 @@ cut-sound p [] = record { whole = refl; clear = refl; stops = refl }
 cut-sound p (x ∷ xs) = cut_by p x xs (p x) refl (cut-sound p xs)
 
 -- what stands between quotes
-pub record IsSpelled (text : List ℕ) (x : Named) : Type 0 where
+pub record IsSpelled (text : List ℕ) (x : NameAndRest) : Type 0 where
   pub signs : List Sign
-  pub each : list_all is_sign signs ≡ true
+  pub each : list_all is_escaped signs ≡ true
   pub text_is : text ≡ flat_map spelling signs ++ 34 ∷ x.1
   pub name_is : x.0 ≡ map byte_of signs
 
-with_byte-some : (b : ℕ) (o : Option Named) (x : Named) → with_byte b o ≡ Some x → (y : Named) × (o ≡ Some y) × (x.0 ≡ b ∷ y.0) × (x.1 ≡ y.1)
+with_byte-some : (b : ℕ) (o : Option NameAndRest) (x : NameAndRest) → with_byte b o ≡ Some x → (y : NameAndRest) × (o ≡ Some y) × (x.0 ≡ b ∷ y.0) × (x.1 ≡ y.1)
 with_byte-some b None x e = absurd (cc e)
 with_byte-some b (Some y) x e =
     let same : (b ∷ y.0, y.1) ≡ x = cc e in
-    (y, refl, sym (ap (λ (z : Named). z.0) same), sym (ap (λ (z : Named). z.1) same))
+    (y, refl, sym (ap (λ (z : NameAndRest). z.0) same), sym (ap (λ (z : NameAndRest). z.1) same))
 
 abbrev opened : Bool → List ℕ → List ℕ
 opened true bs = 92 ∷ bs
 opened false bs = bs
 
-one_more : (s : Sign) (bs : List ℕ) (x y : Named) → is_sign s ≡ true → x.0 ≡ s.1 ∷ y.0 → x.1 ≡ y.1 → IsSpelled bs y → IsSpelled (spelling s ++ bs) x
+one_more : (s : Sign) (bs : List ℕ) (x y : NameAndRest) → is_escaped s ≡ true → x.0 ≡ s.1 ∷ y.0 → x.1 ≡ y.1 → IsSpelled bs y → IsSpelled (spelling s ++ bs) x
 one_more s bs x y sign name rest h = record {
   signs = s ∷ h.signs;
   each = and_from _ _ sign h.each;
@@ -71,25 +71,25 @@ one_more s bs x y sign name rest h = record {
   name_is = name ∙ ap (λ t. s.1 ∷ t) h.name_is;
 }
 
-spelled_by : (b : ℕ) (bs : List ℕ) (x : Named) (c d : Bool) → (b == 34) ≡ c → (b == 92) ≡ d
+spelled_by : (b : ℕ) (bs : List ℕ) (x : NameAndRest) (c d : Bool) → (b == 34) ≡ c → (b == 92) ≡ d
     → cond c (Some ([], bs)) (cond d (quoted true bs) (with_byte b (quoted false bs))) ≡ Some x
     → (quoted true bs ≡ Some x → IsSpelled (92 ∷ bs) x)
-    → ((y : Named) → quoted false bs ≡ Some y → IsSpelled bs y) → IsSpelled (b ∷ bs) x
+    → ((y : NameAndRest) → quoted false bs ≡ Some y → IsSpelled bs y) → IsSpelled (b ∷ bs) x
 spelled_by b bs x true d quote slash e escape plain =
     let same : ([], bs) ≡ x = cc e in
     record {
       signs = [];
       each = refl;
-      text_is = ap (λ n. n ∷ bs) (eqb-true b 34 quote) ∙ ap (λ (z : Named). 34 ∷ z.1) same;
-      name_is = sym (ap (λ (z : Named). z.0) same);
+      text_is = ap (λ n. n ∷ bs) (eqb-true b 34 quote) ∙ ap (λ (z : NameAndRest). 34 ∷ z.1) same;
+      name_is = sym (ap (λ (z : NameAndRest). z.0) same);
     }
 spelled_by b bs x false true quote slash e escape plain = subst (λ n. IsSpelled (n ∷ bs) x) (sym (eqb-true b 92 slash)) (escape e)
 spelled_by b bs x false false quote slash e escape plain =
     let y = with_byte-some b (quoted false bs) x e in
-    let sign : is_sign (false, b) ≡ true = ap not (ap (λ c. c || (b == 92)) quote ∙ slash) in
+    let sign : is_escaped (false, b) ≡ true = ap not (ap (λ c. c || (b == 92)) quote ∙ slash) in
     one_more (false, b) bs x y.0 sign y.2 y.3 (plain y.0 y.1)
 
-pub quoted-sound : (f : Bool) (bs : List ℕ) (x : Named) → quoted f bs ≡ Some x → IsSpelled (opened f bs) x
+pub quoted-sound : (f : Bool) (bs : List ℕ) (x : NameAndRest) → quoted f bs ≡ Some x → IsSpelled (opened f bs) x
 unfolding quoted
 quoted-sound true [] x e = absurd (cc e)
 quoted-sound false [] x e = absurd (cc e)
@@ -98,31 +98,31 @@ quoted-sound true (b ∷ bs) x e =
     one_more (true, b) bs x y.0 refl y.2 y.3 (quoted-sound false bs y.0 y.1)
 quoted-sound false (b ∷ bs) x e = spelled_by b bs x (b == 34) (b == 92) refl refl e (quoted-sound true bs x) (λ y. quoted-sound false bs y)
 
-pub quoted-complete : (signs : List Sign) (rest : List ℕ) → list_all is_sign signs ≡ true → quoted false (flat_map spelling signs ++ 34 ∷ rest) ≡ Some (map byte_of signs, rest)
+pub quoted-complete : (signs : List Sign) (rest : List ℕ) → list_all is_escaped signs ≡ true → quoted false (flat_map spelling signs ++ 34 ∷ rest) ≡ Some (map byte_of signs, rest)
 unfolding quoted
 quoted-complete [] rest each = refl
 quoted-complete ((true, b) ∷ signs) rest each = ap (with_byte b) (quoted-complete signs rest each)
 quoted-complete ((false, b) ∷ signs) rest each =
-    let parts = and_parts (not ((b == 34) || (b == 92))) (list_all is_sign signs) each in
+    let parts = and_parts (not ((b == 34) || (b == 92))) (list_all is_escaped signs) each in
     let none = or_parts (b == 34) (b == 92) (not-true _ parts.0) in
     cond-false _ _ _ none.0 ∙ cond-false _ _ _ none.1 ∙ ap (with_byte b) (quoted-complete signs rest parts.1)
 
-checked-some : (o : Option Named) (x : Named) → checked o ≡ Some x → (o ≡ Some x) × (is_name x.0 ≡ true)
+checked-some : (o : Option NameAndRest) (x : NameAndRest) → checked o ≡ Some x → (o ≡ Some x) × (is_name x.0 ≡ true)
 checked-some None x e = absurd (cc e)
 checked-some (Some y) x e = by (is_name y.0) refl e
   where
     by : (c : Bool) → is_name y.0 ≡ c → cond c (Some y) None ≡ Some x → (Some y ≡ Some x) × (is_name x.0 ≡ true)
-    by true good same = let is : y ≡ x = cc same in (same, subst (λ (z : Named). is_name z.0 ≡ true) is good)
+    by true good same = let is : y ≡ x = cc same in (same, subst (λ (z : NameAndRest). is_name z.0 ≡ true) is good)
     by false bad same = absurd (cc same)
 
-checked-good : (x : Named) → is_name x.0 ≡ true → checked (Some x) ≡ Some x
+checked-good : (x : NameAndRest) → is_name x.0 ≡ true → checked (Some x) ≡ Some x
 checked-good x good = cond-true _ _ _ good
 
-starts-end : (xs : List ℕ) → starts is_blank xs ≡ true → is_end xs ≡ true
+starts-end : (xs : List ℕ) → starts is_blank xs ≡ true → ends_word xs ≡ true
 starts-end [] e = refl
 starts-end (b ∷ bs) e = e
 
-end-starts : (xs : List ℕ) → is_end xs ≡ true → starts is_blank xs ≡ true
+end-starts : (xs : List ℕ) → ends_word xs ≡ true → starts is_blank xs ≡ true
 end-starts [] e = refl
 end-starts (b ∷ bs) e = e
 
@@ -138,7 +138,7 @@ bare-sound b bs is =
       ends = starts-end (from_first is_blank (b ∷ bs)) cut.stops;
     }
 
-named_by : (b : ℕ) (bs : List ℕ) (x : Named) (c d : Bool) → (b == 34) ≡ c → (b == 47) ≡ d
+named_by : (b : ℕ) (bs : List ℕ) (x : NameAndRest) (c d : Bool) → (b == 34) ≡ c → (b == 47) ≡ d
     → cond c (quoted false bs) (cond d (Some (before is_blank (b ∷ bs), from_first is_blank (b ∷ bs))) None) ≡ Some x
     → IsQuoted (b ∷ bs) x.0 x.1 ⊎ IsBare (b ∷ bs) x.0 x.1
 named_by b bs x true d quote slash e =
@@ -151,18 +151,18 @@ named_by b bs x true d quote slash e =
     })
 named_by b bs x false true quote slash e =
     let same : (before is_blank (b ∷ bs), from_first is_blank (b ∷ bs)) ≡ x = cc e in
-    inr (subst (λ (z : Named). IsBare (b ∷ bs) z.0 z.1) same (bare-sound b bs (eqb-true b 47 slash)))
+    inr (subst (λ (z : NameAndRest). IsBare (b ∷ bs) z.0 z.1) same (bare-sound b bs (eqb-true b 47 slash)))
 named_by b bs x false false quote slash e = absurd (cc e)
 
 -- what the reader takes for a name of a log is one
-pub named-sound : (line : List ℕ) (x : Named) → checked (name_in line) ≡ Some x → IsNamed line x.0 x.1
+pub named-sound : (line : List ℕ) (x : NameAndRest) → checked (name_in line) ≡ Some x → BeginsWithName line x.0 x.1
 unfolding name_in
 named-sound [] x e = absurd (cc e)
 named-sound (b ∷ bs) x e =
     let c = checked-some _ x e in
     (named_by b bs x (b == 34) (b == 47) refl refl c.0, c.1)
 
-bare-complete : (name rest : List ℕ) → take 1 name ≡ 47 ∷ [] → list_all is_other name ≡ true → is_end rest ≡ true → name_in (name ++ rest) ≡ Some (name, rest)
+bare-complete : (name rest : List ℕ) → take 1 name ≡ 47 ∷ [] → list_all is_other name ≡ true → ends_word rest ≡ true → name_in (name ++ rest) ≡ Some (name, rest)
 unfolding name_in
 bare-complete [] rest slash no_blank ends = absurd (cc slash)
 bare-complete (a ∷ name) rest slash no_blank ends =
@@ -172,7 +172,7 @@ bare-complete (a ∷ name) rest slash no_blank ends =
     ∙ ap (λ n. Some (n, from_first is_blank (a ∷ (name ++ rest)))) cut.0 ∙ ap (λ r. Some (a ∷ name, r)) cut.1
 
 -- and what is one the reader takes
-pub named-complete : (line name rest : List ℕ) → IsNamed line name rest → checked (name_in line) ≡ Some (name, rest)
+pub named-complete : (line name rest : List ℕ) → BeginsWithName line name rest → checked (name_in line) ≡ Some (name, rest)
 unfolding name_in
 named-complete line name rest (inl q, good) =
     ap (λ l. checked (name_in l)) q.line_is ∙ ap checked (quoted-complete q.signs rest q.each)

@@ -8,11 +8,11 @@ use Rattle.std.proofs.lemmas.List.Folds.{list_all-append}
 use Rattle.std.proofs.lemmas.List.Splits.{slice_split-cons_no}
 use Rattle.jiff_core.proofs.CalendarLemmas.{days_in_month_bounds}
 use Rattle.jiff_core.proofs.SignedLemmas.{signed_arith}
-use Rattle.lr_rules.specs.Path.{is_bad, has_bad_byte}
+use Rattle.lr_rules.specs.Path.{is_bad_byte, has_bad_byte}
 use Rattle.lr_rules.specs.declared.civil.Civil.{Civil}
-use Rattle.lr_state.specs.Grammar.{Sign, spelling, is_sign, byte_of, is_newline, IsNumber, IsNamed, IsDated, LinesSay, TextSays}
+use Rattle.lr_state.specs.Grammar.{Sign, spelling, is_escaped, byte_of, is_newline, IsNumber, BeginsWithName, HasDate, LinesSay, TextSays}
 use Rattle.lr_state.specs.Table.{Entry, moment_of, is_name, is_table}
-use Rattle.lr_state.specs.Written.{escaped, decimal, moment_text, line_text, line_of, text_of}
+use Rattle.lr_state.specs.Written.{escaped, decimal, moment_text, line_text, entry_line, text_of}
 use Rattle.lr_state.proofs.Views.{bytes_swapped}
 use Rattle.lr_state.proofs.Decimals.{decimal-two, decimal-four, digits-line}
 
@@ -30,7 +30,7 @@ split-line (x ∷ xs) ys all =
 abbrev sign_of : ℕ → Sign
 sign_of b = ((b == 34) || (b == 92), b)
 
-signs-good : (name : List ℕ) → list_all is_sign (map sign_of name) ≡ true
+signs-good : (name : List ℕ) → list_all is_escaped (map sign_of name) ≡ true
 signs-good [] = refl
 signs-good (b ∷ bs) = and_from _ _ (by ((b == 34) || (b == 92))) (signs-good bs)
   where
@@ -46,7 +46,7 @@ signs-name : (name : List ℕ) → name ≡ map byte_of (map sign_of name)
 signs-name [] = refl
 signs-name (b ∷ bs) = ap (λ t. b ∷ t) (signs-name bs)
 
-named : (e : Entry) → is_name e.0 ≡ true → IsNamed (line_text e) e.0 (32 ∷ moment_text e.1)
+named : (e : Entry) → is_name e.0 ≡ true → BeginsWithName (line_text e) e.0 (32 ∷ moment_text e.1)
 unfolding line_text
 named e good = (
   inl (record {
@@ -75,7 +75,7 @@ month-number at = let month = at.valid.1.1 in decimal-two at.month (omega arith)
 day-number : (at : Civil) → IsNumber 2 (decimal at.day) at.day
 day-number at = let day = at.valid.1.2 in decimal-two at.day (omega (arith, days_in_month_bounds at.year at.month))
 
-dated : (at : Civil) → IsDated (32 ∷ moment_text at) at
+dated : (at : Civil) → HasDate (32 ∷ moment_text at) at
 unfolding moment_text
 dated at =
     let valid = at.valid in
@@ -108,10 +108,10 @@ dated at =
     }
 
 -- a written line holds no newline
-escaped-inner : (name : List ℕ) → list_any is_bad name ≡ false → list_all is_inner (flat_map escaped name) ≡ true
+escaped-inner : (name : List ℕ) → list_any is_bad_byte name ≡ false → list_all is_inner (flat_map escaped name) ≡ true
 escaped-inner [] clear = refl
 escaped-inner (b ∷ bs) clear =
-    let p = or_parts (is_bad b) (list_any is_bad bs) clear in
+    let p = or_parts (is_bad_byte b) (list_any is_bad_byte bs) clear in
     list_all-append is_inner (escaped b) (flat_map escaped bs)
     ∙ and_from _ _ (by ((b == 34) || (b == 92)) (inner b p.0)) (escaped-inner bs p.1)
   where
@@ -119,7 +119,7 @@ escaped-inner (b ∷ bs) clear =
     or_parts true y e = absurd (cc e)
     or_parts false y e = (refl, e)
 
-    inner : (n : ℕ) → is_bad n ≡ false → is_inner n ≡ true
+    inner : (n : ℕ) → is_bad_byte n ≡ false → is_inner n ≡ true
     inner n e = ap not (or_parts (n == 10) (n == 0) e).0
 
     by : (c : Bool) → is_inner b ≡ true → list_all is_inner (cond c (92 ∷ b ∷ []) (b ∷ [])) ≡ true
@@ -177,17 +177,17 @@ none_from None e = refl
 none_from (Some at) e = absurd (cc e)
 
 -- the written lines say their entries
-lines-say : (number : ℕ) (before es : List Entry) → is_table es ≡ true → Apart before es → LinesSay number before (slice_split is_newline (flat_map line_of es)) (Ok (before ++ es))
+lines-say : (number : ℕ) (before es : List Entry) → is_table es ≡ true → Apart before es → LinesSay number before (slice_split is_newline (flat_map entry_line es)) (Ok (before ++ es))
 unfolding is_table
 lines-say number before [] table apart = inr (before, inl (refl, refl), ap (λ (t : List Entry). Ok t) (append-nil before))
 lines-say number before (e ∷ es) table apart =
     let parts = and_parts (is_name e.0 && not (is_some (moment_of es e.0))) (is_table es) table in
     let own = and_parts (is_name e.0) (not (is_some (moment_of es e.0))) parts.0 in
     let p = and_parts (not (is_some (moment_of before e.0))) (list_all (λ y. not (is_some (moment_of before y.0))) es) apart in
-    let lines : slice_split is_newline (flat_map line_of (e ∷ es)) ≡ line_text e ∷ slice_split is_newline (flat_map line_of es) =
-    ap (slice_split is_newline) (append_assoc (line_text e) (10 ∷ []) (flat_map line_of es)) ∙ split-line (line_text e) (flat_map line_of es) (line-inner e own.0) in
-    let next : LinesSay (number + 1) (before ++ e ∷ []) (slice_split is_newline (flat_map line_of es)) (Ok (before ++ (e ∷ es))) =
-    subst (λ (t : List Entry). LinesSay (number + 1) (before ++ e ∷ []) (slice_split is_newline (flat_map line_of es)) (Ok t)) (append_assoc before (e ∷ []) es)
+    let lines : slice_split is_newline (flat_map entry_line (e ∷ es)) ≡ line_text e ∷ slice_split is_newline (flat_map entry_line es) =
+    ap (slice_split is_newline) (append_assoc (line_text e) (10 ∷ []) (flat_map entry_line es)) ∙ split-line (line_text e) (flat_map entry_line es) (line-inner e own.0) in
+    let next : LinesSay (number + 1) (before ++ e ∷ []) (slice_split is_newline (flat_map entry_line es)) (Ok (before ++ (e ∷ es))) =
+    subst (λ (t : List Entry). LinesSay (number + 1) (before ++ e ∷ []) (slice_split is_newline (flat_map entry_line es)) (Ok t)) (append_assoc before (e ∷ []) es)
     (lines-say (number + 1) (before ++ e ∷ []) es parts.1 (apart-next before e es p.1 (not-true _ own.1))) in
     subst (λ (ls : List (List ℕ)). LinesSay number before ls (Ok (before ++ (e ∷ es)))) (sym lines)
     (inr (before ++ e ∷ [], inr (e.0, 32 ∷ moment_text e.1, e.1, named e own.0, dated e.1, none_from _ (not-true _ p.0), refl), next))

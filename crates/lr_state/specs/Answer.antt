@@ -5,13 +5,13 @@ use Rattle.lr_state.specs.declared.line.LineStop.{LineStop}
 use Rattle.lr_state.specs.declared.line.LineStop.TheVariants as stop
 use Rattle.lr_state.specs.declared.text.StateStop.{StateStop}
 use Rattle.lr_state.specs.declared.text.StateStop.TheVariants as whole
-use Rattle.lr_state.specs.Grammar.{Adds, HasFault, Said}
+use Rattle.lr_state.specs.Grammar.{AddsLine, IsFirstFault, Said}
 use Rattle.lr_state.specs.Table.{Entry}
 
 -- what a line says behind the entries of the lines before it: the entries with its own, or its fault
 abbrev pub LineSays : List Entry → List ℕ → Result (List Entry) StateKind → Type 0
-LineSays before line (Ok after) = Adds before line after
-LineSays before line (Err kind) = HasFault before line kind
+LineSays before line (Ok after) = AddsLine before line after
+LineSays before line (Err kind) = IsFirstFault before line kind
 
 -- a line says this and nothing else
 abbrev pub LineSaysOnly : List Entry → List ℕ → Result (List Entry) StateKind → Type 0
@@ -25,10 +25,10 @@ IsLineAnswer before line (Err (stop.Fault kind)) after = LineSaysOnly before lin
 IsLineAnswer before line (Err stop.Memory) after = Unit {0}
 
 -- the answer of a reader is what is said, unless there is no memory
-abbrev pub Gives : Result (List Entry) StateStop → Said → Type 0
-Gives (Ok table) said = said ≡ Ok table
-Gives (Err (whole.Bad line kind)) said = said ≡ Err (line, kind)
-Gives (Err whole.Memory) said = Unit {0}
+abbrev pub ReaderGives : Result (List Entry) StateStop → Said → Type 0
+ReaderGives (Ok table) said = said ≡ Ok table
+ReaderGives (Err (whole.Bad line kind)) said = said ≡ Err (line, kind)
+ReaderGives (Err whole.Memory) said = Unit {0}
 
 -- what a reader answers is said, want of memory aside
 abbrev pub IsSaidBy : (Said → Type 0) → Result (List Entry) StateStop → Type 0

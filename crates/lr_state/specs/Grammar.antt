@@ -23,9 +23,9 @@ abbrev pub is_newline : ℕ → Bool
 is_newline b = b == 10
 
 -- the end, or a blank
-abbrev pub is_end : List ℕ → Bool
-is_end [] = true
-is_end (b ∷ bs) = is_blank b
+abbrev pub ends_word : List ℕ → Bool
+ends_word [] = true
+ends_word (b ∷ bs) = is_blank b
 
 -- the lines behind a newline, where there is one
 abbrev pub lines_behind : Option (List ℕ) → List (List ℕ)
@@ -40,8 +40,8 @@ abbrev pub spelling : Sign → List ℕ
 spelling s = if s.0 then 92 ∷ s.1 ∷ [] else s.1 ∷ []
 
 -- a quote and a backslash have a backslash in front
-abbrev pub is_sign : Sign → Bool
-is_sign s = s.0 || not ((s.1 == 34) || (s.1 == 92))
+abbrev pub is_escaped : Sign → Bool
+is_escaped s = s.0 || not ((s.1 == 34) || (s.1 == 92))
 
 abbrev pub byte_of : Sign → ℕ
 byte_of s = s.1
@@ -49,7 +49,7 @@ byte_of s = s.1
 -- the line begins with the name between quotes, and the rest is behind them
 pub record IsQuoted (line name rest : List ℕ) : Type 0 where
   pub signs : List Sign
-  pub each : list_all is_sign signs ≡ true
+  pub each : list_all is_escaped signs ≡ true
   pub line_is : line ≡ 34 ∷ (flat_map spelling signs ++ 34 ∷ rest)
   pub name_is : name ≡ map byte_of signs
 
@@ -58,11 +58,11 @@ pub record IsBare (line name rest : List ℕ) : Type 0 where
   pub slash : take 1 name ≡ 47 ∷ []
   pub no_blank : list_all is_other name ≡ true
   pub line_is : line ≡ name ++ rest
-  pub ends : is_end rest ≡ true
+  pub ends : ends_word rest ≡ true
 
 -- the line begins with a name of a log, and the rest is behind it
-abbrev pub IsNamed : List ℕ → List ℕ → List ℕ → Type 0
-IsNamed line name rest = (IsQuoted line name rest ⊎ IsBare line name rest) × (is_name name ≡ true)
+abbrev pub BeginsWithName : List ℕ → List ℕ → List ℕ → Type 0
+BeginsWithName line name rest = (IsQuoted line name rest ⊎ IsBare line name rest) × (is_name name ≡ true)
 
 -- the value of digits behind a number
 abbrev pub value_from : ℕ → List ℕ → ℕ
@@ -92,7 +92,7 @@ IsTime text hour minute second =
     ((text ≡ []) × (hour ≡ 0) × (minute ≡ 0) × (second ≡ 0)) ⊎ IsClockTime text hour minute second
 
 -- behind a name stand blanks, a date with a time or without, and maybe blanks
-pub record IsDated (rest : List ℕ) (at : Civil) : Type 0 where
+pub record HasDate (rest : List ℕ) (at : Civil) : Type 0 where
   pub gap : List ℕ
   pub y : List ℕ
   pub m : List ℕ
@@ -111,21 +111,21 @@ pub record IsDated (rest : List ℕ) (at : Civil) : Type 0 where
   pub time_is : IsTime time at.hour at.minute at.second
 
 -- behind the entries of the lines before it, a line leaves them, where it is empty, or adds its own
-abbrev pub Adds : List Entry → List ℕ → List Entry → Type 0
-Adds before line after =
+abbrev pub AddsLine : List Entry → List ℕ → List Entry → Type 0
+AddsLine before line after =
     ((line ≡ []) × (after ≡ before))
-    ⊎ ((name : List ℕ) × (rest : List ℕ) × (at : Civil) × IsNamed line name rest × IsDated rest at
+    ⊎ ((name : List ℕ) × (rest : List ℕ) × (at : Civil) × BeginsWithName line name rest × HasDate rest at
     × (moment_of before name ≡ None) × (after ≡ before ++ (name, at) ∷ []))
 
 -- the first fault of a line, behind the entries of the lines before it
-abbrev pub HasFault : List Entry → List ℕ → StateKind → Type 0
-HasFault before line TooBig = ⊥
-HasFault before line BadTop = ⊥
-HasFault before line BadName = (line ≢ []) × ((name rest : List ℕ) → IsNamed line name rest → ⊥)
-HasFault before line BadDate =
-    (name : List ℕ) × (rest : List ℕ) × IsNamed line name rest × ((at : Civil) → IsDated rest at → ⊥)
-HasFault before line Twice =
-    (name : List ℕ) × (rest : List ℕ) × (at : Civil) × IsNamed line name rest × IsDated rest at
+abbrev pub IsFirstFault : List Entry → List ℕ → StateKind → Type 0
+IsFirstFault before line TooBig = ⊥
+IsFirstFault before line BadTop = ⊥
+IsFirstFault before line BadName = (line ≢ []) × ((name rest : List ℕ) → BeginsWithName line name rest → ⊥)
+IsFirstFault before line BadDate =
+    (name : List ℕ) × (rest : List ℕ) × BeginsWithName line name rest × ((at : Civil) → HasDate rest at → ⊥)
+IsFirstFault before line Twice =
+    (name : List ℕ) × (rest : List ℕ) × (at : Civil) × BeginsWithName line name rest × HasDate rest at
     × IsSome (moment_of before name)
 
 -- what a text says: a table, or its first fault and the line of it
@@ -136,8 +136,8 @@ Said = Result (List Entry) (ℕ × StateKind)
 abbrev pub LinesSay : ℕ → List Entry → List (List ℕ) → Said → Type 0
 LinesSay number before [] said = said ≡ Ok before
 LinesSay number before (line ∷ lines) said =
-    ((kind : StateKind) × HasFault before line kind × (said ≡ Err (number, kind)))
-    ⊎ ((after : List Entry) × Adds before line after × LinesSay (number + 1) after lines said)
+    ((kind : StateKind) × IsFirstFault before line kind × (said ≡ Err (number, kind)))
+    ⊎ ((after : List Entry) × AddsLine before line after × LinesSay (number + 1) after lines said)
 
 abbrev pub top_2 : List ℕ
 top_2 = codes "logrotate state -- version 2"

@@ -11,28 +11,28 @@ use Rattle.lr_rules.specs.Civil.{IsMoment}
 use Rattle.lr_state.specs.Grammar.{is_blank, is_other, is_digit}
 use Rattle.lr_state.specs.Table.{Entry, moment_of, is_name}
 
-abbrev pub Named : Type 0
-Named = List ℕ × List ℕ
+abbrev pub NameAndRest : Type 0
+NameAndRest = List ℕ × List ℕ
 
 -- what a reader's values hold
 abbrev pub seen : Bor (List ℕ) → List ℕ
 seen rest = rest.now
 
-abbrev pub seen_name : Vec ℕ Global × Bor (List ℕ) → Named
+abbrev pub seen_name : Vec ℕ Global × Bor (List ℕ) → NameAndRest
 seen_name x = (x.0.items, x.1.now)
 
 -- a byte in front of the name
-abbrev pub with_byte : ℕ → Option Named → Option Named
+abbrev pub with_byte : ℕ → Option NameAndRest → Option NameAndRest
 with_byte b None = None
 with_byte b (Some x) = Some (b ∷ x.0, x.1)
 
 -- bytes in front of the name
-abbrev pub with_front : List ℕ → Option Named → Option Named
+abbrev pub with_front : List ℕ → Option NameAndRest → Option NameAndRest
 with_front front None = None
 with_front front (Some x) = Some (front ++ x.0, x.1)
 
 -- the name up to the closing quote, and what is behind it; the flag says that a backslash came before
-unfoldable pub quoted : Bool → List ℕ → Option Named
+unfoldable pub quoted : Bool → List ℕ → Option NameAndRest
 quoted escape [] = None
 quoted true (b ∷ bs) = with_byte b (quoted false bs)
 quoted false (b ∷ bs) =
@@ -49,16 +49,16 @@ unfoldable pub from_first : (ℕ → Bool) → List ℕ → List ℕ
 from_first p [] = []
 from_first p (b ∷ bs) = if p b then b ∷ bs else from_first p bs
 
-abbrev pub bare : List ℕ → Named
+abbrev pub bare : List ℕ → NameAndRest
 bare line = (before is_blank line, from_first is_blank line)
 
 -- the name in front, whatever its bytes
-unfoldable pub name_in : List ℕ → Option Named
+unfoldable pub name_in : List ℕ → Option NameAndRest
 name_in [] = None
 name_in (b ∷ bs) = if b == 34 then quoted false bs else if b == 47 then Some (bare (b ∷ bs)) else None
 
 -- where it is a name of a log
-abbrev pub checked : Option Named → Option Named
+abbrev pub checked : Option NameAndRest → Option NameAndRest
 checked None = None
 checked (Some x) = if is_name x.0 then Some x else None
 
@@ -159,13 +159,13 @@ IsMomentOf (Some p) None = IsMoment (pos p.0) p.1 p.2 p.3 p.4 p.5 → ⊥
 IsMomentOf (Some p) (Some at) = HasParts at p
 
 -- the answer for a line, where the moment behind its name is read
-abbrev pub named_answer : List Entry → Option Named → Option Civil → Result (List Entry) StateKind
+abbrev pub named_answer : List Entry → Option NameAndRest → Option Civil → Result (List Entry) StateKind
 named_answer before None at = Err BadName
 named_answer before (Some x) None = Err BadDate
 named_answer before (Some x) (Some at) =
     if is_some (moment_of before x.0) then Err Twice else Ok (before ++ (x.0, at) ∷ [])
 
 -- the parts behind a name
-abbrev pub parts_behind : Option Named → Option Parts
+abbrev pub parts_behind : Option NameAndRest → Option Parts
 parts_behind None = None
 parts_behind (Some x) = parts_in x.1

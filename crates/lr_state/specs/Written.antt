@@ -28,9 +28,9 @@ unfoldable pub line_text : Entry → List ℕ
 line_text e = 34 ∷ (flat_map escaped e.0 ++ 34 ∷ (32 ∷ moment_text e.1))
 
 -- the line of an entry
-abbrev pub line_of : Entry → List ℕ
-line_of e = line_text e ++ 10 ∷ []
+abbrev pub entry_line : Entry → List ℕ
+entry_line e = line_text e ++ 10 ∷ []
 
 -- the text of a table
 abbrev pub text_of : List Entry → List ℕ
-text_of t = (top_2 ++ 10 ∷ []) ++ flat_map line_of t
+text_of t = (top_2 ++ 10 ∷ []) ++ flat_map entry_line t

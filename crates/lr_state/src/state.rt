@@ -3,7 +3,7 @@ ghost use Rattle.std.specs.Prelude.{◌≡◌, ◌<◌, ◌≤◌, ◌^◌, ◌-
 ghost use Rattle.std.specs.Prelude.{IsSome, IsOk, IsTrue, Some, Ok, length, take, min, slice_get};
 ghost use Rattle.lr_state.specs.Grammar.{TextSays};
 ghost use Rattle.lr_state.specs.Table.{Entry, moment_of, put, is_name, is_old, is_table, IsNameTest};
-ghost use Rattle.lr_state.specs.Written.{line_of, text_of};
+ghost use Rattle.lr_state.specs.Written.{entry_line, text_of};
 
 use crate::write::put_line;
 use indexmap::IndexMap;
@@ -119,8 +119,8 @@ impl State {
     pub fn line(&self, k: usize, into: &mut [u8]) -> usize
         requires in_range { k < length self.now }
         requires room { 8448 ≤ length into.old }
-        ensures line { (e : Entry) → slice_get self.now k ≡ Some e → take result into.new ≡ line_of e }
-        ensures len { (e : Entry) → slice_get self.now k ≡ Some e → result ≡ length (line_of e) }
+        ensures line { (e : Entry) → slice_get self.now k ≡ Some e → take result into.new ≡ entry_line e }
+        ensures len { (e : Entry) → slice_get self.now k ≡ Some e → result ≡ length (entry_line e) }
         ensures bound { result ≤ 8448 }
     {
         let (name, at) = self.entry(k);

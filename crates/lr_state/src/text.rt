@@ -1,7 +1,7 @@
 // State texts: reading, and what is written before the lines.
 ghost use Rattle.std.specs.Prelude.{◌≡◌, ◌<◌, ◌≤◌, ◌++◌, ◌∷◌, [], ℕ, List, Ok, length, IfSome, option_map};
 ghost use Rattle.std.specs.List.{position_or_len, slice_split};
-ghost use Rattle.lr_state.specs.Answer.{Gives, IsSaidBy};
+ghost use Rattle.lr_state.specs.Answer.{ReaderGives, IsSaidBy};
 ghost use Rattle.lr_state.specs.Grammar.{Said, is_newline, is_top, top_2, lines_behind, LinesSay, TextSays};
 ghost use Rattle.lr_state.specs.Reading.{seen};
 
@@ -61,7 +61,7 @@ fn names_version(line: &[u8]) -> bool
 fn read_lines(alloc: Global, text: Option<&[u8]>) -> Result<State, StateStop>
     requires { IfSome text (λ s. length s.now ≤ 67_108_864) }
     ensures says { IsSaidBy (LinesSay 2 [] (lines_behind (option_map seen text.entry))) result }
-    ensures only { (said : Said) → LinesSay 2 [] (lines_behind (option_map seen text.entry)) said → Gives result said }
+    ensures only { (said : Said) → LinesSay 2 [] (lines_behind (option_map seen text.entry)) said → ReaderGives result said }
 {
     let mut state = State::new(alloc);
     let mut left = text;
@@ -88,7 +88,7 @@ impl State {
         // What comes is what the text says, its table or its first fault.
         ensures says { IsSaidBy (TextSays bytes.now) result }
         // What the text says comes, unless there is no memory.
-        ensures only { (said : Said) → TextSays bytes.now said → Gives result said }
+        ensures only { (said : Said) → TextSays bytes.now said → ReaderGives result said }
     {
         if bytes.is_empty() {
             return Ok(State::new(alloc));

@@ -1,14 +1,14 @@
 // Pieces of a line, written to a buffer from a place on.
 ghost use Rattle.std.specs.Prelude.{◌≡◌, ◌<◌, ◌≤◌, ◌+◌, ◌*◌, ◌∷◌, [], length, unsigned_abs};
 ghost use Rattle.std.specs.List.{flat_map};
-ghost use Rattle.lr_state.specs.Written.{escaped, decimal, moment_text, line_of};
-ghost use Rattle.lr_state.specs.Piece.{Writes};
+ghost use Rattle.lr_state.specs.Written.{escaped, decimal, moment_text, entry_line};
+ghost use Rattle.lr_state.specs.Piece.{WritesPiece};
 
 use lr_rules::Civil;
 
 fn put_byte(into: &mut [u8], at: usize, byte: u8) -> usize
     requires { at < length into.old }
-    ensures { Writes into.old at into.new result (byte ∷ []) }
+    ensures { WritesPiece into.old at into.new result (byte ∷ []) }
 {
     into[at] = byte;
     at + 1
@@ -17,7 +17,7 @@ fn put_byte(into: &mut [u8], at: usize, byte: u8) -> usize
 /// A byte of a name, with a backslash in front of a quote and of a backslash.
 fn put_escaped(into: &mut [u8], at: usize, byte: u8) -> usize
     requires { at + 2 ≤ length into.old }
-    ensures written { Writes into.old at into.new result (escaped byte) }
+    ensures written { WritesPiece into.old at into.new result (escaped byte) }
     ensures bound { result ≤ at + 2 }
 {
     if byte == b'"' || byte == b'\\' {
@@ -29,7 +29,7 @@ fn put_escaped(into: &mut [u8], at: usize, byte: u8) -> usize
 
 fn put_name(into: &mut [u8], at: usize, name: &[u8]) -> usize
     requires { at + 2 * length name.now ≤ length into.old }
-    ensures written { Writes into.old at into.new result (flat_map escaped name.now) }
+    ensures written { WritesPiece into.old at into.new result (flat_map escaped name.now) }
     ensures bound { result ≤ at + 2 * length name.now }
 {
     let mut end = at;
@@ -42,7 +42,7 @@ fn put_name(into: &mut [u8], at: usize, name: &[u8]) -> usize
 fn put_digit(into: &mut [u8], at: usize, digit: u16) -> usize
     requires place { at < length into.old }
     requires digit { digit < 10 }
-    ensures { Writes into.old at into.new result ((48 + digit) ∷ []) }
+    ensures { WritesPiece into.old at into.new result ((48 + digit) ∷ []) }
 {
     put_byte(into, at, b'0' + digit as u8)
 }
@@ -52,7 +52,7 @@ fn put_digit(into: &mut [u8], at: usize, digit: u16) -> usize
 fn put_number(into: &mut [u8], at: usize, number: u16) -> usize
     requires room { at + 4 ≤ length into.old }
     requires small { number < 10_000 }
-    ensures written { Writes into.old at into.new result (decimal number) }
+    ensures written { WritesPiece into.old at into.new result (decimal number) }
     ensures bound { result ≤ at + 4 }
 {
     if number < 10 {
@@ -75,7 +75,7 @@ fn put_number(into: &mut [u8], at: usize, number: u16) -> usize
 
 fn put_part(into: &mut [u8], at: usize, part: u8) -> usize
     requires { at + 4 ≤ length into.old }
-    ensures written { Writes into.old at into.new result (decimal part) }
+    ensures written { WritesPiece into.old at into.new result (decimal part) }
     ensures bound { result ≤ at + 4 }
 {
     put_number(into, at, u16::from(part))
@@ -83,7 +83,7 @@ fn put_part(into: &mut [u8], at: usize, part: u8) -> usize
 
 fn put_year(into: &mut [u8], at: usize, moment: &Civil) -> usize
     requires { at + 4 ≤ length into.old }
-    ensures written { Writes into.old at into.new result (decimal (unsigned_abs moment.now.year)) }
+    ensures written { WritesPiece into.old at into.new result (decimal (unsigned_abs moment.now.year)) }
     ensures bound { result ≤ at + 4 }
 {
     put_number(into, at, moment.year.unsigned_abs())
@@ -92,7 +92,7 @@ fn put_year(into: &mut [u8], at: usize, moment: &Civil) -> usize
 /// A moment, as 2024-1-13-0:0:0.
 fn put_moment(into: &mut [u8], at: usize, moment: &Civil) -> usize
     requires { at + 29 ≤ length into.old }
-    ensures written { Writes into.old at into.new result (moment_text moment.now) }
+    ensures written { WritesPiece into.old at into.new result (moment_text moment.now) }
     ensures bound { result ≤ at + 29 }
 {
     let year = put_year(into, at, moment);
@@ -112,7 +112,7 @@ fn put_moment(into: &mut [u8], at: usize, moment: &Civil) -> usize
 pub(crate) fn put_line(into: &mut [u8], name: &[u8], at: &Civil) -> usize
     requires room { 8448 ≤ length into.old }
     requires short { length name.now ≤ 4096 }
-    ensures written { Writes into.old 0 into.new result (line_of (name.now, at.now)) }
+    ensures written { WritesPiece into.old 0 into.new result (entry_line (name.now, at.now)) }
     ensures bound { result ≤ 8448 }
 {
     let quote = put_byte(into, 0, b'"');

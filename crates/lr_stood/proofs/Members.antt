@@ -14,7 +14,7 @@ use Rattle.lr_host.proofs.Lists.{in_to}
 use Rattle.lr_family.specs.declared.stand.Member.{Member}
 use Rattle.lr_family.specs.Parts.{part_of, IsMember, IsMembersPart}
 use Rattle.lr_laws_family.specs.Shown.{Shown, SawFile, WasSeen, IsUnseen}
-use Rattle.lr_laws_family.specs.Members.{IsFamily, HasNone}
+use Rattle.lr_laws_family.specs.Members.{IsFamily, NoMemberHas}
 use Rattle.lr_laws_family.proofs.Directory.{IsNameIn, member_in}
 
 -- ---- names
@@ -37,7 +37,7 @@ part_in log n x family (member, is, part) =
 -- Each of the members was seen, a regular file; any other isn't in a list of the directory, or a look at it saw nothing, or one at the directory.
 pub record WereSeen (n : Naming) (members : List Member) (all : List Entry) : Type 0 where
   pub files : (m : Member) → IsIn m members → SawFile m.path all
-  pub others : (x : Path) → IsMember n x → HasNone members x → IsUnseen n.dir x all
+  pub others : (x : Path) → IsMember n x → NoMemberHas members x → IsUnseen n.dir x all
 
 pub members_seen : (n : Naming) (members : List Member) (all : List Entry) → Shown n members all → WereSeen n members all
 members_seen n members all s = record { files = files; others = s.others }

@@ -13,9 +13,9 @@ use Rattle.lr_lex.specs.declared.said.Said.{Said}
 use Rattle.lr_lex.specs.declared.said.Said.TheVariants as says
 use Rattle.lr_lex.specs.Signs.{line_signs}
 use Rattle.lr_lex.specs.Words.{closes, opens, before_open, is_brace, line_words}
-use Rattle.lr_lex.specs.Lines.{Line, line_at, lines, line_of, after_line}
+use Rattle.lr_lex.specs.Lines.{NumberedLine, line_at, lines, line_of, after_line}
 use Rattle.lr_lex.specs.Pieces.{has_line}
-use Rattle.lr_lex.specs.Items.{Told, said, items_of, items_from, body, ended, is_end, script_text, told, taken, script, is_text, by_first, by_words, by_signs, by_sign, is_sign, begins_script, is_name_sign, line_of_words, fault}
+use Rattle.lr_lex.specs.Items.{Told, said, items_of, items_from, body, ended, is_end, script_text, told, taken, script, is_text, by_first, by_words, by_signs, by_sign, is_no_blank, begins_script, is_name_sign, line_of_words, fault}
 use Rattle.lr_lex.proofs.First.{lines-are}
 use Rattle.lr_stream.specs.Whole.{IsPlainSaid, IsScriptBegun}
 
@@ -86,17 +86,17 @@ module _ (P : ℕ → Said → Type 0) (nothing : (n : ℕ) → P n says.Nothing
         either (P n) (closes ss) (says.Item (item.Close n)) (by_words n names (opens ss) (list_any is_brace (before_open ss)) ws)
         (close n) (words_so n names (opens ss) (list_any is_brace (before_open ss)) ws (slice_get ws 0))
 
-    sign_so : (l : Line) (b : Option ℕ) → P l.number (by_sign l b)
+    sign_so : (l : NumberedLine) (b : Option ℕ) → P l.number (by_sign l b)
     sign_so l None = nothing l.number
     sign_so l (Some b) = either (P l.number) (b == 35) says.Nothing (by_signs l.number l.at (is_name_sign b) (line_signs (is_name_sign b) l.bytes)) (nothing l.number) (signs_so l.number l.at (is_name_sign b) (line_signs (is_name_sign b) l.bytes))
 
-    said_so : (l : Line) → P l.number (said l)
+    said_so : (l : NumberedLine) → P l.number (said l)
     unfolding said
     said_so l =
-        either (P l.number) (nat_lt 8192 (length l.bytes)) (fault l.number kind.LineTooLong) (cond (not (is_text l.bytes)) (fault l.number kind.NotUtf8) (by_sign l (find is_sign l.bytes))) (long l.number)
-        (either (P l.number) (not (is_text l.bytes)) (fault l.number kind.NotUtf8) (by_sign l (find is_sign l.bytes)) (no_text l.number) (sign_so l (find is_sign l.bytes)))
+        either (P l.number) (nat_lt 8192 (length l.bytes)) (fault l.number kind.LineTooLong) (cond (not (is_text l.bytes)) (fault l.number kind.NotUtf8) (by_sign l (find is_no_blank l.bytes))) (long l.number)
+        (either (P l.number) (not (is_text l.bytes)) (fault l.number kind.NotUtf8) (by_sign l (find is_no_blank l.bytes)) (no_text l.number) (sign_so l (find is_no_blank l.bytes)))
 
-ends_said : (l : Line) → SaysNoEnd (said l)
+ends_said : (l : NumberedLine) → SaysNoEnd (said l)
 ends_said l = said_so (λ n s. SaysNoEnd s) (λ n. tt) (λ n e. cc) (λ n e. cc) (λ n e. cc) (λ n. tt) (λ n ws names brace stray. tt) (λ n w brace stray. tt) l
 
 -- the line of what is told
@@ -111,7 +111,7 @@ SaysAt n (says.Item i) = line_told (Ok i) ≡ n
 SaysAt n (says.Fault f) = f.line ≡ n
 SaysAt n other = Unit {0}
 
-pub at_said : (l : Line) → SaysAt l.number (said l)
+pub at_said : (l : NumberedLine) → SaysAt l.number (said l)
 at_said l = said_so SaysAt (λ n. tt) (λ n. refl) (λ n. refl) (λ n. refl) (λ n. refl) (λ n ws names brace stray. refl) (λ n w brace stray. tt) l
 
 -- ---- one line
@@ -138,7 +138,7 @@ silent n (says.Fault f) e = tt
 silent n (says.Script w brace stray) e = absurd (cc e)
 
 -- one that tells that a script doesn't end begins one
-pub begun_by : (l : Line) (t : Told) (f : LexFault) (us : List Told) → told l.number (said l) [] ≡ t ∷ us → t ≡ Err f → f.kind ≡ kind.NoEndscript → (w : Word) × (brace : Bool) × (stray : Bool) × (said l ≡ says.Script w brace stray)
+pub begun_by : (l : NumberedLine) (t : Told) (f : LexFault) (us : List Told) → told l.number (said l) [] ≡ t ∷ us → t ≡ Err f → f.kind ≡ kind.NoEndscript → (w : Word) × (brace : Bool) × (stray : Bool) × (said l ≡ says.Script w brace stray)
 begun_by l t f us e is k = by (said l) refl (ends_said l) e
   where
     by : (s : Said) → said l ≡ s → SaysNoEnd s → told l.number s [] ≡ t ∷ us → (w : Word) × (brace : Bool) × (stray : Bool) × (said l ≡ says.Script w brace stray)
@@ -150,7 +150,7 @@ begun_by l t f us e is k = by (said l) refl (ends_said l) e
 -- ---- a script
 
 -- of a script's lines, of which at most the last ends it, none is left behind it
-none_left : (others tail : List Line) → list_any is_end others ≡ false → length tail ≤ 1 → items_of (suc (length (body (others ++ tail)))) (others ++ tail) ≡ []
+none_left : (others tail : List NumberedLine) → list_any is_end others ≡ false → length tail ≤ 1 → items_of (suc (length (body (others ++ tail)))) (others ++ tail) ≡ []
 none_left [] [] h le = refl
 none_left [] (e ∷ []) h le = by (is_end e)
   where
@@ -166,7 +166,7 @@ none_left (l ∷ others) tail h le = by (is_end l) h (λ k. none_left others tai
 
 few_alone : (n at : ℕ) (x : List ℕ) → has_line x ≡ false → length (lines n at x) ≤ 1
 few_alone n at [] h = omega arith
-few_alone n at (b ∷ x) h = let e = ap (λ (ls : List Line). length ls) (one_alone n at b x h) in omega (arith, e)
+few_alone n at (b ∷ x) h = let e = ap (λ (ls : List NumberedLine). length ls) (one_alone n at b x h) in omega (arith, e)
 
 -- what a script that has begun tells with a line behind it, whether that ends it or not
 abbrev pub script_alone : (n at : ℕ) (p : List ℕ) (count : ℕ) (x : List ℕ) → IsScriptBegun n at p count → Told
@@ -180,7 +180,7 @@ script_once n at p count x b h =
     ∙ (ap (λ s. told b.first.number s rest ++ items_of (taken s rest) rest) b.begins
     ∙ ap (λ ts. script_alone n at p count x b ∷ ts) (none_left b.others (lines (n + length (b.first ∷ b.others)) (at + length p) x) b.unended (few_alone (n + length (b.first ∷ b.others)) (at + length p) x h)))
   where
-    rest : List Line
+    rest : List NumberedLine
     rest = b.others ++ lines (n + length (b.first ∷ b.others)) (at + length p) x
 
 -- the line of a script's fault or item is that of its word

@@ -11,17 +11,17 @@ use Rattle.lr_lex.specs.declared.said.Said.TheVariants as says
 use Rattle.lr_lex.specs.declared.sign.Sign.TheVariants.{Blank}
 use Rattle.lr_lex.specs.Signs.{line_signs}
 use Rattle.lr_lex.specs.Words.{is_gap, goes_on, one, onto, words, parted, line_words, is_equals, closes, opens, before_open, is_brace}
-use Rattle.lr_lex.specs.Lines.{Line, line_at, longer, lines}
-use Rattle.lr_lex.specs.Items.{Told, said, items_of, items_from, body, ended, is_end, script_text, by_first, by_words, by_signs, by_sign, is_sign, begins_script, is_name_sign, line_of_words, fault, is_text, told, taken, script}
+use Rattle.lr_lex.specs.Lines.{NumberedLine, line_at, longer, lines}
+use Rattle.lr_lex.specs.Items.{Told, said, items_of, items_from, body, ended, is_end, script_text, by_first, by_words, by_signs, by_sign, is_no_blank, begins_script, is_name_sign, line_of_words, fault, is_text, told, taken, script}
 use Rattle.lr_stream.specs.Moved.{moved_word, moved}
 
 module _ (down by : ℕ) where
   -- ---- lines
 
-  abbrev pub moved_line : Line → Line
+  abbrev pub moved_line : NumberedLine → NumberedLine
   moved_line l = record { number = l.number + down; at = l.at + by; bytes = l.bytes }
 
-  longer_moved : (n at b : ℕ) (ls : List Line) → longer (n + down) (at + by) b (map moved_line ls) ≡ map moved_line (longer n at b ls)
+  longer_moved : (n at b : ℕ) (ls : List NumberedLine) → longer (n + down) (at + by) b (map moved_line ls) ≡ map moved_line (longer n at b ls)
   longer_moved n at b [] = refl
   longer_moved n at b (l ∷ ls) = refl
 
@@ -103,29 +103,29 @@ module _ (down by : ℕ) where
       refl
       (ap (by_words (n + down) names (opens ss) (list_any is_brace (before_open ss))) (line_words_moved names at (before_open ss)) ∙ by_words_moved n names (opens ss) (list_any is_brace (before_open ss)) (line_words names at (before_open ss)))
 
-  sign_moved : (l : Line) (b : Option ℕ) → by_sign (moved_line l) b ≡ moved_said (by_sign l b)
+  sign_moved : (l : NumberedLine) (b : Option ℕ) → by_sign (moved_line l) b ≡ moved_said (by_sign l b)
   sign_moved l None = refl
   sign_moved l (Some b) =
       either (b == 35) says.Nothing (by_signs (l.number + down) (l.at + by) (is_name_sign b) (line_signs (is_name_sign b) l.bytes))
       says.Nothing (by_signs l.number l.at (is_name_sign b) (line_signs (is_name_sign b) l.bytes))
       refl (signs_moved l.number l.at (is_name_sign b) (line_signs (is_name_sign b) l.bytes))
 
-  pub said_moved : (l : Line) → said (moved_line l) ≡ moved_said (said l)
+  pub said_moved : (l : NumberedLine) → said (moved_line l) ≡ moved_said (said l)
   unfolding said
   said_moved l =
-      either (nat_lt 8192 (length l.bytes)) (fault (l.number + down) kind.LineTooLong) (cond (not (is_text l.bytes)) (fault (l.number + down) kind.NotUtf8) (by_sign (moved_line l) (find is_sign l.bytes)))
-      (fault l.number kind.LineTooLong) (cond (not (is_text l.bytes)) (fault l.number kind.NotUtf8) (by_sign l (find is_sign l.bytes)))
+      either (nat_lt 8192 (length l.bytes)) (fault (l.number + down) kind.LineTooLong) (cond (not (is_text l.bytes)) (fault (l.number + down) kind.NotUtf8) (by_sign (moved_line l) (find is_no_blank l.bytes)))
+      (fault l.number kind.LineTooLong) (cond (not (is_text l.bytes)) (fault l.number kind.NotUtf8) (by_sign l (find is_no_blank l.bytes)))
       refl
-      (either (not (is_text l.bytes)) (fault (l.number + down) kind.NotUtf8) (by_sign (moved_line l) (find is_sign l.bytes))
-      (fault l.number kind.NotUtf8) (by_sign l (find is_sign l.bytes)) refl (sign_moved l (find is_sign l.bytes)))
+      (either (not (is_text l.bytes)) (fault (l.number + down) kind.NotUtf8) (by_sign (moved_line l) (find is_no_blank l.bytes))
+      (fault l.number kind.NotUtf8) (by_sign l (find is_no_blank l.bytes)) refl (sign_moved l (find is_no_blank l.bytes)))
 
   -- ---- scripts
 
-  end_moved : (l : Line) → is_end (moved_line l) ≡ is_end l
+  end_moved : (l : NumberedLine) → is_end (moved_line l) ≡ is_end l
   unfolding is_end
   end_moved l = refl
 
-  body_moved : (ls : List Line) → body (map moved_line ls) ≡ map moved_line (body ls)
+  body_moved : (ls : List NumberedLine) → body (map moved_line ls) ≡ map moved_line (body ls)
   body_moved [] = refl
   body_moved (l ∷ ls) = ap (λ t. cond t [] (moved_line l ∷ body (map moved_line ls))) (end_moved l) ∙ by_end (is_end l) (body_moved ls)
     where
@@ -133,15 +133,15 @@ module _ (down by : ℕ) where
       by_end true e = refl
       by_end false e = ap (λ xs. moved_line l ∷ xs) e
 
-  ended_moved : (ls : List Line) → ended (map moved_line ls) ≡ ended ls
+  ended_moved : (ls : List NumberedLine) → ended (map moved_line ls) ≡ ended ls
   ended_moved [] = refl
   ended_moved (l ∷ ls) = ap (λ t. t || ended (map moved_line ls)) (end_moved l) ∙ ap (λ t. is_end l || t) (ended_moved ls)
 
-  text_moved : (ls : List Line) → script_text (map moved_line ls) ≡ script_text ls
+  text_moved : (ls : List NumberedLine) → script_text (map moved_line ls) ≡ script_text ls
   text_moved [] = refl
   text_moved (l ∷ ls) = ap (λ t. (l.bytes ++ 10 ∷ []) ++ t) (text_moved ls)
 
-  lines_as_many : (ls : List Line) → length (map moved_line ls) ≡ length ls
+  lines_as_many : (ls : List NumberedLine) → length (map moved_line ls) ≡ length ls
   lines_as_many [] = refl
   lines_as_many (l ∷ ls) = ap suc (lines_as_many ls)
 
@@ -156,24 +156,24 @@ module _ (down by : ℕ) where
       refl
       (told_either end (Ok (item.Script (moved_word by w) text brace stray (n + down))) (Err (record { line = n + down; kind = kind.NoEndscript })) (Ok (item.Script w text brace stray n)) (Err (record { line = n; kind = kind.NoEndscript })) refl refl)
 
-  told_moved : (n : ℕ) (s : Said) (ls : List Line) → told (n + down) (moved_said s) (map moved_line ls) ≡ map (moved down by) (told n s ls)
+  told_moved : (n : ℕ) (s : Said) (ls : List NumberedLine) → told (n + down) (moved_said s) (map moved_line ls) ≡ map (moved down by) (told n s ls)
   told_moved n says.Nothing ls = refl
   told_moved n (says.Item (item.Line ws names brace stray line)) ls = refl
   told_moved n (says.Item (item.Close line)) ls = refl
   told_moved n (says.Item (item.Script w text brace stray line)) ls = refl
   told_moved n (says.Fault f) ls = refl
   told_moved n (says.Script w brace stray) ls =
-      ap (λ t. script (n + down) (moved_word by w) brace stray t (ended (map moved_line ls)) ∷ []) (ap (λ (xs : List Line). script_text xs) (body_moved ls) ∙ text_moved (body ls))
+      ap (λ t. script (n + down) (moved_word by w) brace stray t (ended (map moved_line ls)) ∷ []) (ap (λ (xs : List NumberedLine). script_text xs) (body_moved ls) ∙ text_moved (body ls))
       ∙ (ap (λ t. script (n + down) (moved_word by w) brace stray (script_text (body ls)) t ∷ []) (ended_moved ls)
       ∙ ap (λ t. t ∷ []) (script_moved n w brace stray (script_text (body ls)) (ended ls)))
 
-  taken_moved : (s : Said) (ls : List Line) → taken (moved_said s) (map moved_line ls) ≡ taken s ls
+  taken_moved : (s : Said) (ls : List NumberedLine) → taken (moved_said s) (map moved_line ls) ≡ taken s ls
   taken_moved says.Nothing ls = refl
   taken_moved (says.Item (item.Line ws names brace stray line)) ls = refl
   taken_moved (says.Item (item.Close line)) ls = refl
   taken_moved (says.Item (item.Script w text brace stray line)) ls = refl
   taken_moved (says.Fault f) ls = refl
-  taken_moved (says.Script w brace stray) ls = ap suc (ap (λ (xs : List Line). length xs) (body_moved ls) ∙ lines_as_many (body ls))
+  taken_moved (says.Script w brace stray) ls = ap suc (ap (λ (xs : List NumberedLine). length xs) (body_moved ls) ∙ lines_as_many (body ls))
 
   -- ---- items
 
@@ -181,7 +181,7 @@ module _ (down by : ℕ) where
   map_both [] ys = refl
   map_both (x ∷ xs) ys = ap (λ zs. moved down by x ∷ zs) (map_both xs ys)
 
-  items_of_moved : (skipped : ℕ) (ls : List Line) → items_of skipped (map moved_line ls) ≡ map (moved down by) (items_of skipped ls)
+  items_of_moved : (skipped : ℕ) (ls : List NumberedLine) → items_of skipped (map moved_line ls) ≡ map (moved down by) (items_of skipped ls)
   items_of_moved skipped [] = refl
   items_of_moved (suc skipped) (l ∷ ls) = items_of_moved skipped ls
   items_of_moved zero (l ∷ ls) =

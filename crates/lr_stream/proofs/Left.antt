@@ -9,7 +9,7 @@ use Rattle.lr_lex.specs.Items.{Told, said, items, items_from, told, script_text,
 use Rattle.lr_stream.specs.declared.held.Held.{Held}
 use Rattle.lr_stream.specs.Moved.{moved}
 use Rattle.lr_stream.specs.Whole.{IsScriptBegun}
-use Rattle.lr_stream.specs.Holding.{IsHeld, Drops, rest_of, text_of, coming}
+use Rattle.lr_stream.specs.Holding.{IsHeld, Drops, rest_of, held_text, coming}
 use Rattle.lr_stream.proofs.Alone.{alone_tells, script_alone, script_once, at_said, line_told, script_line}
 use Rattle.lr_stream.proofs.Stepping.{moved_all, told_line, number_first}
 
@@ -53,7 +53,7 @@ module _ (h : Held) (is : IsHeld h) where
   module _ (over : rest_of h ≡ []) where
     pub left_all : coming h [] ≡ map (moved h.down h.at) (items h.bytes.items)
     left_all =
-        ap (λ l. items_from (1 + h.down) h.at l) (append-nil (text_of h) ∙ (ap (λ l. h.bytes.items ++ l) over ∙ append-nil h.bytes.items))
+        ap (λ l. items_from (1 + h.down) h.at l) (append-nil (held_text h) ∙ (ap (λ l. h.bytes.items ++ l) over ∙ append-nil h.bytes.items))
         ∙ sym (moved_all h.down h.at h.bytes.items)
 
     pub left_one : (t : Told) (us : List Told) → items h.bytes.items ≡ t ∷ us → OneLeft (1 + h.down) (moved h.down h.at t) (map (moved h.down h.at) us)
@@ -63,7 +63,7 @@ module _ (h : Held) (is : IsHeld h) where
     left_small t us e = let s = some_left h.bytes.items t us e in let a = is.down_few in let b = is.few in (omega (arith, s, a, b), omega (arith, b))
 
     pub left_none : (n : Held) → Drops h n → coming n [] ≡ []
-    left_none n d = ap (λ l. items_from (1 + n.down) n.at l) (append-nil (text_of n) ∙ (ap (λ (l : List ℕ). l ++ rest_of n) d.bytes ∙ rest_none))
+    left_none n d = ap (λ l. items_from (1 + n.down) n.at l) (append-nil (held_text n) ∙ (ap (λ (l : List ℕ). l ++ rest_of n) d.bytes ∙ rest_none))
       where
         rest_none : rest_of n ≡ []
         rest_none = ap (λ (l : List ℕ). drop n.from l) d.rest ∙ (ap (λ f. drop f h.rest.items) d.from ∙ over)

@@ -3,7 +3,7 @@ use Rattle.std.proofs.Common.{◌≡◌, ◌∙◌, sym, ap, subst, refl, inl, i
 use Rattle.std.proofs.lemmas.List.{drop-drop, append-nil}
 use Rattle.lr_lex.specs.Items.{Told, items_from}
 use Rattle.lr_stream.specs.declared.held.Held.{Held}
-use Rattle.lr_stream.specs.Holding.{IsHeld, BeginsLine, Filled, Passes, HasPushed, Drops, IsSame, rest_of, text_of, coming, size_of}
+use Rattle.lr_stream.specs.Holding.{IsHeld, BeginsLine, Filled, StreamPasses, HasPushed, Drops, IsSameToCome, rest_of, held_text, coming, size_of}
 use Rattle.lr_stream.specs.Whole.{IsScriptBegun, Tell}
 
 -- behind the newline
@@ -13,7 +13,7 @@ behind_next h next = sym (drop-drop 1 h.from h.rest.items) ∙ ap (λ l. drop 1 
 ahead_one : (h : Held) → (next : BeginsLine true (rest_of h)) → h.from + 1 ≤ length h.rest.items
 ahead_one h next = let e = length-drop h.from h.rest.items in let f = ap (λ (l : List ℕ). length l) next.1 in omega (arith, e, f)
 
-module _ (h n : Held) (is : IsHeld h) (lines : ℕ) (p : Passes h n lines) (next : BeginsLine true (rest_of h)) (few : lines ≤ h.lines + 1) where
+module _ (h n : Held) (is : IsHeld h) (lines : ℕ) (p : StreamPasses h n lines) (next : BeginsLine true (rest_of h)) (few : lines ≤ h.lines + 1) where
   begun_in : length is.script ≤ length h.bytes.items
   begun_in = let e = ap (λ (l : List ℕ). length l) is.bytes_are in let f = length-append is.script is.line in omega (arith, e, f)
 
@@ -40,7 +40,7 @@ module _ (h n : Held) (is : IsHeld h) (lines : ℕ) (p : Passes h n lines) (next
   pub passed_less : length (rest_of n) < length (rest_of h)
   passed_less = let a = ap (λ (l : List ℕ). length l) rest_is in let b = ap (λ (l : List ℕ). length l) next.1 in omega (arith, a, b)
 
-  text_is : (more : List ℕ) → text_of h ++ more ≡ (h.bytes.items ++ 10 ∷ []) ++ (rest_of n ++ more)
+  text_is : (more : List ℕ) → held_text h ++ more ≡ (h.bytes.items ++ 10 ∷ []) ++ (rest_of n ++ more)
   text_is more =
       ap (λ l. (h.bytes.items ++ l) ++ more) (next.1 ∙ ap (λ l. 10 ∷ l) (sym rest_is))
       ∙ (append_assoc h.bytes.items (10 ∷ rest_of n) more
@@ -80,17 +80,17 @@ module _ (h n : Held) (is : IsHeld h) (p : HasPushed h n) (next : BeginsLine tru
   pub pushed_less : length (rest_of n) < length (rest_of h)
   pushed_less = let a = ap (λ (l : List ℕ). length l) pushed_rest in let b = ap (λ (l : List ℕ). length l) next.1 in omega (arith, a, b)
 
-  pub pushed_same : IsSame h n
+  pub pushed_same : IsSameToCome h n
   pushed_same more =
       ap (λ l. items_from (1 + h.down) h.at (l ++ more))
       (ap (λ l. h.bytes.items ++ l) (next.1 ∙ ap (λ l. 10 ∷ l) (sym pushed_rest)) ∙ (sym (append_assoc h.bytes.items (10 ∷ []) (rest_of n)) ∙ ap (λ (l : List ℕ). l ++ rest_of n) (sym p.bytes)))
-      ∙ (ap (λ d. items_from (1 + d) h.at (text_of n ++ more)) (sym p.down) ∙ ap (λ a. items_from (1 + n.down) a (text_of n ++ more)) (sym p.at))
+      ∙ (ap (λ d. items_from (1 + d) h.at (held_text n ++ more)) (sym p.down) ∙ ap (λ a. items_from (1 + n.down) a (held_text n ++ more)) (sym p.at))
 
 -- bytes that were taken in change nothing
-pub filled_same : (h n : Held) → Filled h n → IsSame h n
+pub filled_same : (h n : Held) → Filled h n → IsSameToCome h n
 filled_same h n f more =
     ap (λ l. items_from (1 + h.down) h.at (l ++ more)) (sym f.text)
-    ∙ (ap (λ d. items_from (1 + d) h.at (text_of n ++ more)) (sym f.down) ∙ ap (λ a. items_from (1 + n.down) a (text_of n ++ more)) (sym f.at))
+    ∙ (ap (λ d. items_from (1 + d) h.at (held_text n ++ more)) (sym f.down) ∙ ap (λ a. items_from (1 + n.down) a (held_text n ++ more)) (sym f.at))
 
 pub dropped_few : (h n : Held) → Drops h n → size_of n ≤ size_of h
 dropped_few h n d = let a = d.at in let b = ap (λ (l : List ℕ). length l) d.bytes in let c = ap (λ (l : List ℕ). length l) d.rest in let f = d.from in omega (arith, a, b, c, f)

@@ -13,7 +13,7 @@ use Rattle.lr_lex.specs.declared.said.Said.{Said}
 use Rattle.lr_lex.specs.declared.said.Said.TheVariants as says
 use Rattle.lr_lex.specs.Words.{Rises}
 use Rattle.lr_lex.specs.Lexing.{ByKind}
-use Rattle.lr_lex.specs.Lines.{Line, line_at, lines, line_of, after_line}
+use Rattle.lr_lex.specs.Lines.{NumberedLine, line_at, lines, line_of, after_line}
 use Rattle.lr_lex.specs.Pieces.{has_line}
 use Rattle.lr_lex.specs.Items.{Told, said, items, items_from, told, script, script_text, body, ended, is_end, all_words}
 use Rattle.lr_lex.proofs.First.{lines-are}
@@ -130,12 +130,12 @@ by_memory kind.NoEndscript P Q e p = absurd (cc e)
 
 -- ---- a script has begun
 
-pub number_first : (n at : ℕ) (xs : List ℕ) (l : Line) (ls : List Line) → lines n at xs ≡ l ∷ ls → l.number ≡ n
+pub number_first : (n at : ℕ) (xs : List ℕ) (l : NumberedLine) (ls : List NumberedLine) → lines n at xs ≡ l ∷ ls → l.number ≡ n
 number_first n at [] l ls e = absurd (cc e)
 number_first n at (b ∷ bs) l ls e =
     let h : line_at n at (line_of (b ∷ bs)) ∷ lines (n + 1) (at + length (line_of (b ∷ bs)) + 1) (after_line (b ∷ bs)) ≡ l ∷ ls = sym (lines-are n at (b ∷ bs) (omega arith)) ∙ e in
     let one : line_at n at (line_of (b ∷ bs)) ≡ l = cc h in
-    sym (ap (λ (x : Line). x.number) one)
+    sym (ap (λ (x : NumberedLine). x.number) one)
 
 no_end : is_end (line_at 0 0 []) ≡ false
 unfolding is_end
@@ -149,7 +149,7 @@ module _ (h : Held) (e : EndsScript h) (next : BeginsLine true (rest_of h)) wher
   abbrev whole : Told
   whole = script e.begun.first.number e.begun.word e.begun.brace e.begun.stray (script_text e.begun.others) true
 
-  abbrev last_line : Line
+  abbrev last_line : NumberedLine
   last_line = line_at (1 + h.down + length (e.begun.first ∷ e.begun.others)) (h.at + length e.script) e.line
 
   alone_whole : script_alone (1 + h.down) h.at e.script h.lines e.line e.begun ≡ whole

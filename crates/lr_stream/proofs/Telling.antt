@@ -6,12 +6,12 @@ use Rattle.std.proofs.lemmas.List.{append-nil}
 use Rattle.lr_lex.specs.declared.word.Word.{Word}
 use Rattle.lr_lex.specs.declared.said.Said.{Said}
 use Rattle.lr_lex.specs.declared.said.Said.TheVariants as says
-use Rattle.lr_lex.specs.Lines.{Line, line_at, lines, line_of, after_line}
+use Rattle.lr_lex.specs.Lines.{NumberedLine, line_at, lines, line_of, after_line}
 use Rattle.lr_lex.specs.Pieces.{has_line}
 use Rattle.lr_lex.specs.Items.{Told, said, items_of, items_from, items, body, ended, is_end, script_text, told, taken, script}
 use Rattle.lr_lex.proofs.LawsOf.{lines-more}
 use Rattle.lr_stream.specs.Moved.{moved}
-use Rattle.lr_stream.specs.Whole.{AreLines, IsPlainSaid, Tell, IsScriptBegun}
+use Rattle.lr_stream.specs.Whole.{AreLinesOf, IsPlainSaid, Tell, IsScriptBegun}
 use Rattle.lr_stream.proofs.Further.{items_moved}
 
 -- ---- a line and its newline
@@ -44,7 +44,7 @@ there (b ∷ x) = by (eqb b 10) (there x)
 
 -- ---- whole lines
 
-pub no_lines : (n at : ℕ) → AreLines n at [] []
+pub no_lines : (n at : ℕ) → AreLinesOf n at [] []
 no_lines n at more = ap (λ m. lines m at more) (omega arith) ∙ ap (λ a. lines (n + 0) a more) (omega arith)
 
 pub one_line : (n at : ℕ) (x : List ℕ) → has_line x ≡ false → (more : List ℕ) → lines n at ((x ++ 10 ∷ []) ++ more) ≡ line_at n at x ∷ lines (n + 1) (at + length x + 1) more
@@ -53,7 +53,7 @@ one_line n at x h more =
     ∙ (ap (λ l. line_at n at l ∷ lines (n + 1) (at + length l + 1) (after_line (x ++ 10 ∷ []) ++ more)) (line_is x h)
     ∙ ap (λ r. line_at n at x ∷ lines (n + 1) (at + length x + 1) (r ++ more)) (behind_is x h))
 
-pub line_added : (n at : ℕ) (p : List ℕ) (ls : List Line) (x : List ℕ) → AreLines n at p ls → has_line x ≡ false → AreLines n at (p ++ (x ++ 10 ∷ [])) (ls ++ line_at (n + length ls) (at + length p) x ∷ [])
+pub line_added : (n at : ℕ) (p : List ℕ) (ls : List NumberedLine) (x : List ℕ) → AreLinesOf n at p ls → has_line x ≡ false → AreLinesOf n at (p ++ (x ++ 10 ∷ [])) (ls ++ line_at (n + length ls) (at + length p) x ∷ [])
 line_added n at p ls x are h more =
     ap (λ t. lines n at t) (append_assoc p (x ++ 10 ∷ []) more)
     ∙ (are ((x ++ 10 ∷ []) ++ more)
@@ -69,12 +69,12 @@ line_added n at p ls x are h more =
     size = let e = length-append p (x ++ 10 ∷ []) in let f = length-append x (10 ∷ []) in omega (arith, e, f)
 
 -- a line alone
-pub line_alone : (n at : ℕ) (x : List ℕ) → has_line x ≡ false → AreLines n at (x ++ 10 ∷ []) (line_at n at x ∷ [])
+pub line_alone : (n at : ℕ) (x : List ℕ) → has_line x ≡ false → AreLinesOf n at (x ++ 10 ∷ []) (line_at n at x ∷ [])
 line_alone n at x h more = one_line n at x h more ∙ ap (λ a. line_at n at x ∷ lines (n + 1) a more) (let f = length-append x (10 ∷ []) in omega (arith, f))
 
 -- ---- what they tell
 
-plain_told : (l : Line) (s : Said) → said l ≡ s → IsPlainSaid s → (ls : List Line) → items_of 0 (l ∷ ls) ≡ told l.number s [] ++ items_of 0 ls
+plain_told : (l : NumberedLine) (s : Said) → said l ≡ s → IsPlainSaid s → (ls : List NumberedLine) → items_of 0 (l ∷ ls) ≡ told l.number s [] ++ items_of 0 ls
 plain_told l says.Nothing e p ls = ap (λ s. told l.number s ls ++ items_of (taken s ls) ls) e
 plain_told l (says.Item i) e p ls = ap (λ s. told l.number s ls ++ items_of (taken s ls) ls) e
 plain_told l (says.Fault f) e p ls = ap (λ s. told l.number s ls ++ items_of (taken s ls) ls) e
@@ -84,7 +84,7 @@ pub line_tells : (n at : ℕ) (x : List ℕ) (s : Said) → has_line x ≡ false
 line_tells n at x s h e p more = ap (λ ls. items_of 0 ls) (line_alone n at x h more) ∙ plain_told (line_at n at x) s e p (lines (n + 1) (at + length (x ++ 10 ∷ [])) more)
 
 -- the lines of a script up to the first that ends it
-pub body_is : (ls : List Line) (e : Line) (more : List Line) → list_any is_end ls ≡ false → is_end e ≡ true → body ((ls ++ e ∷ []) ++ more) ≡ ls
+pub body_is : (ls : List NumberedLine) (e : NumberedLine) (more : List NumberedLine) → list_any is_end ls ≡ false → is_end e ≡ true → body ((ls ++ e ∷ []) ++ more) ≡ ls
 body_is [] e more h is = ap (λ t. cond t [] (e ∷ body more)) is
 body_is (l ∷ ls) e more h is = by (is_end l) h (λ k. body_is ls e more k is)
   where
@@ -92,7 +92,7 @@ body_is (l ∷ ls) e more h is = by (is_end l) h (λ k. body_is ls e more k is)
     by true h rest = absurd (true≢false h)
     by false h rest = ap (λ xs. l ∷ xs) (rest h)
 
-pub ended_is : (ls : List Line) (e : Line) (more : List Line) → is_end e ≡ true → ended ((ls ++ e ∷ []) ++ more) ≡ true
+pub ended_is : (ls : List NumberedLine) (e : NumberedLine) (more : List NumberedLine) → is_end e ≡ true → ended ((ls ++ e ∷ []) ++ more) ≡ true
 ended_is [] e more is = ap (λ t. t || ended more) is
 ended_is (l ∷ ls) e more is = by (is_end l) (ended_is ls e more is)
   where
@@ -100,11 +100,11 @@ ended_is (l ∷ ls) e more is = by (is_end l) (ended_is ls e more is)
     by true h = refl
     by false h = h
 
-skipped_is : (ls : List Line) (more : List Line) → items_of (length ls) (ls ++ more) ≡ items_of 0 more
+skipped_is : (ls : List NumberedLine) (more : List NumberedLine) → items_of (length ls) (ls ++ more) ≡ items_of 0 more
 skipped_is [] more = refl
 skipped_is (l ∷ ls) more = skipped_is ls more
 
-script_told : (l : Line) (w : Word) (brace stray : Bool) (mid : List Line) (e : Line) (more : List Line) → said l ≡ says.Script w brace stray → list_any is_end mid ≡ false → is_end e ≡ true
+script_told : (l : NumberedLine) (w : Word) (brace stray : Bool) (mid : List NumberedLine) (e : NumberedLine) (more : List NumberedLine) → said l ≡ says.Script w brace stray → list_any is_end mid ≡ false → is_end e ≡ true
     → items_of 0 (l ∷ ((mid ++ e ∷ []) ++ more)) ≡ script l.number w brace stray (script_text mid) true ∷ items_of 0 more
 script_told l w brace stray mid e more begins unended is =
     ap (λ s. told l.number s ls ++ items_of (taken s ls) ls) begins
@@ -112,7 +112,7 @@ script_told l w brace stray mid e more begins unended is =
     ∙ (ap (λ t. script l.number w brace stray (script_text mid) t ∷ items_of (suc (length mid)) ls) (ended_is mid e more is)
     ∙ ap (λ t. script l.number w brace stray (script_text mid) true ∷ t) (ap (λ k. items_of k ls) count ∙ skipped_is (mid ++ e ∷ []) more)))
   where
-    ls : List Line
+    ls : List NumberedLine
     ls = (mid ++ e ∷ []) ++ more
 
     count : suc (length mid) ≡ length (mid ++ e ∷ [])
@@ -157,7 +157,7 @@ script_goes_on n at p count x b h goes = record {
   unended = none_more b.others (line_at (n + length (b.first ∷ b.others)) (at + length p) x) b.unended (goes (n + length (b.first ∷ b.others)) (at + length p));
 }
   where
-    none_more : (ls : List Line) (e : Line) → list_any is_end ls ≡ false → is_end e ≡ false → list_any is_end (ls ++ e ∷ []) ≡ false
+    none_more : (ls : List NumberedLine) (e : NumberedLine) → list_any is_end ls ≡ false → is_end e ≡ false → list_any is_end (ls ++ e ∷ []) ≡ false
     none_more [] e f g = ap (λ t. t || false) g
     none_more (l ∷ ls) e f g = by (is_end l) f (λ k. none_more ls e k g)
       where

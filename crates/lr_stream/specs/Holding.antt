@@ -15,8 +15,8 @@ use Rattle.lr_stream.specs.Whole.{IsScriptBegun, Tell}
 abbrev pub rest_of : Held → List ℕ
 rest_of h = drop h.from h.rest.items
 
-abbrev pub text_of : Held → List ℕ
-text_of h = h.bytes.items ++ rest_of h
+abbrev pub held_text : Held → List ℕ
+held_text h = h.bytes.items ++ rest_of h
 
 -- so many bytes were taken or are held
 abbrev pub size_of : Held → ℕ
@@ -24,7 +24,7 @@ size_of h = h.at + length h.bytes.items + (length h.rest.items - h.from)
 
 -- what is still to come, where these bytes follow
 abbrev pub coming : Held → List ℕ → List Told
-coming h more = items_from (1 + h.down) h.at (text_of h ++ more)
+coming h more = items_from (1 + h.down) h.at (held_text h ++ more)
 
 -- It holds the whole lines of a script that has begun, if one has, then a first part of a line, then what wasn't looked at.
 pub record IsHeld (h : Held) : Type 0 where
@@ -40,18 +40,18 @@ pub record IsHeld (h : Held) : Type 0 where
   pub few : size_of h < 2 ^ 32
 
 -- the same is still to come, whatever follows
-abbrev pub IsSame : Held → Held → Type 0
-IsSame old new = (more : List ℕ) → coming old more ≡ coming new more
+abbrev pub IsSameToCome : Held → Held → Type 0
+IsSameToCome old new = (more : List ℕ) → coming old more ≡ coming new more
 
 -- this came, and the others are still to come
-abbrev pub Came : Held → Held → Told → Type 0
-Came old new t = (more : List ℕ) → coming old more ≡ t ∷ coming new more
+abbrev pub ItemCame : Held → Held → Told → Type 0
+ItemCame old new t = (more : List ℕ) → coming old more ≡ t ∷ coming new more
 
 -- what came, if anything
-abbrev pub Brings : Held → Held → Result (Option Item) LexFault → Type 0
-Brings old new (Ok None) = IsSame old new
-Brings old new (Ok (Some i)) = Came old new (Ok i)
-Brings old new (Err f) = ByKind f.kind (IsSame old new) (Came old new (Err f))
+abbrev pub StreamBrings : Held → Held → Result (Option Item) LexFault → Type 0
+StreamBrings old new (Ok None) = IsSameToCome old new
+StreamBrings old new (Ok (Some i)) = ItemCame old new (Ok i)
+StreamBrings old new (Err f) = ByKind f.kind (IsSameToCome old new) (ItemCame old new (Err f))
 
 -- the first that bytes tell by themselves
 abbrev pub FirstOf : List Told → Result (Option Item) LexFault → Type 0
@@ -61,7 +61,7 @@ FirstOf ts (Err f) = ByKind f.kind (Unit {0}) ((us : List Told) × (ts ≡ Err f
 
 -- no byte is lost, and none more is ahead
 pub record Filled (old new : Held) : Type 0 where
-  pub text : text_of new ≡ text_of old
+  pub text : held_text new ≡ held_text old
   pub down : new.down ≡ old.down
   pub at : new.at ≡ old.at
   pub ahead : length (rest_of new) ≤ length (rest_of old)
@@ -87,7 +87,7 @@ PushesLine old new (Err e) = (new.bytes.items ≡ old.bytes.items) × (new.begun
     × (new.rest.items ≡ old.rest.items) × (new.from ≡ old.from) × (new.down ≡ old.down) × (new.at ≡ old.at)
 
 -- the bytes and the newline behind them are taken
-pub record Passes (old new : Held) (lines : ℕ) : Type 0 where
+pub record StreamPasses (old new : Held) (lines : ℕ) : Type 0 where
   pub bytes : new.bytes.items ≡ []
   pub begun : new.begun ≡ 0
   pub none : new.lines ≡ 0
@@ -112,9 +112,9 @@ pub record EndsScript (h : Held) : Type 0 where
   pub ends : (m a : ℕ) → is_end (line_at m a line) ≡ true
 
 -- nothing is lost, and after a fault, which is want of memory, too
-abbrev pub Fills : Held → Held → Result Bool LexFault → Type 0
-Fills old new (Ok found) = IsSame old new
-Fills old new (Err f) = IsSame old new × (f.kind ≡ kind.Memory)
+abbrev pub StreamFills : Held → Held → Result Bool LexFault → Type 0
+StreamFills old new (Ok found) = IsSameToCome old new
+StreamFills old new (Err f) = IsSameToCome old new × (f.kind ≡ kind.Memory)
 
 -- the bytes that were looked at go
 pub record Drops (old new : Held) : Type 0 where
@@ -127,7 +127,7 @@ pub record Drops (old new : Held) : Type 0 where
   pub at : new.at ≡ old.at
 
 -- what came at the end, where no bytes follow
-abbrev pub Ends : Held → Held → Result (Option Item) LexFault → Type 0
-Ends old new (Ok None) = (coming old [] ≡ []) × (coming new [] ≡ [])
-Ends old new (Ok (Some i)) = coming old [] ≡ Ok i ∷ coming new []
-Ends old new (Err f) = ByKind f.kind (coming new [] ≡ coming old []) (coming old [] ≡ Err f ∷ coming new [])
+abbrev pub StreamEnds : Held → Held → Result (Option Item) LexFault → Type 0
+StreamEnds old new (Ok None) = (coming old [] ≡ []) × (coming new [] ≡ [])
+StreamEnds old new (Ok (Some i)) = coming old [] ≡ Ok i ∷ coming new []
+StreamEnds old new (Err f) = ByKind f.kind (coming new [] ≡ coming old []) (coming old [] ≡ Err f ∷ coming new [])

@@ -8,8 +8,8 @@ use Rattle.lr_stream.specs.declared.stream.Stream.{Stream}
 use Rattle.lr_stream.specs.Holding.{IsHeld, coming, rest_of, size_of}
 
 -- What it holds begins a line, or the script whose whole lines it holds; so it is of each stream, from `new` on.
-abbrev pub Stands : Stream → Type 0
-Stands s = IsHeld s.held
+abbrev pub StreamStands : Stream → Type 0
+StreamStands s = IsHeld s.held
 
 -- the items and faults that are still to come, where these bytes follow: those of all bytes given and these, less what was given
 -- back
@@ -21,22 +21,23 @@ abbrev pub given : Stream → ℕ
 given s = size_of s.held
 
 -- these may follow: behind the close nothing
-abbrev pub MayFollow : Bool → List ℕ → Type 0
-MayFollow true more = more ≡ []
-MayFollow false more = Unit {0}
+abbrev pub MayComeBehind : Bool → List ℕ → Type 0
+MayComeBehind true more = more ≡ []
+MayComeBehind false more = Unit {0}
 
 -- nothing is whole: behind the close nothing is left; before it all bytes were looked at, and are the whole lines of a script that
 -- hasn't ended, if one has begun, and a line without its newline
-abbrev pub HasNone : Stream → Bool → Type 0
-HasNone s true = still s [] ≡ []
-HasNone s false = rest_of s.held ≡ []
+abbrev pub HoldsNone : Stream → Bool → Type 0
+HoldsNone s true = still s [] ≡ []
+HoldsNone s false = rest_of s.held ≡ []
 
 -- The answer is the first that was to come, whatever follows, and the others are still to come; none where nothing is whole; after
 -- want of memory all is still to come.
-abbrev pub Gives : Stream → Stream → Result (Option Item) LexFault → Type 0
-Gives old new (Ok None) = ((more : List ℕ) → MayFollow old.closed more → still old more ≡ still new more) × HasNone new old.closed
+abbrev pub StreamGives : Stream → Stream → Result (Option Item) LexFault → Type 0
+StreamGives old new (Ok None) = ((more : List ℕ) → MayComeBehind old.closed more → still old more ≡ still new more)
+    × HoldsNone new old.closed
     × (new.closed ≡ old.closed)
-Gives old new (Ok (Some i)) = ((more : List ℕ) → MayFollow old.closed more → still old more ≡ Ok i ∷ still new more)
+StreamGives old new (Ok (Some i)) = ((more : List ℕ) → MayComeBehind old.closed more → still old more ≡ Ok i ∷ still new more)
     × (new.closed ≡ old.closed)
-Gives old new (Err f) = ByKind f.kind ((more : List ℕ) → MayFollow old.closed more → still old more ≡ still new more)
-    ((more : List ℕ) → MayFollow old.closed more → still old more ≡ Err f ∷ still new more) × (new.closed ≡ old.closed)
+StreamGives old new (Err f) = ByKind f.kind ((more : List ℕ) → MayComeBehind old.closed more → still old more ≡ still new more)
+    ((more : List ℕ) → MayComeBehind old.closed more → still old more ≡ Err f ∷ still new more) × (new.closed ≡ old.closed)

@@ -4,12 +4,12 @@ use Rattle.std.specs.List.{list_any}
 use Rattle.lr_lex.specs.declared.word.Word.{Word}
 use Rattle.lr_lex.specs.declared.said.Said.{Said}
 use Rattle.lr_lex.specs.declared.said.Said.TheVariants as says
-use Rattle.lr_lex.specs.Lines.{Line, lines}
+use Rattle.lr_lex.specs.Lines.{NumberedLine, lines}
 use Rattle.lr_lex.specs.Items.{Told, said, is_end, items_from}
 
 -- The bytes are these lines, each with its newline: whatever comes behind them begins a line.
-abbrev pub AreLines : ℕ → ℕ → List ℕ → List Line → Type 0
-AreLines number at bytes ls = (more : List ℕ) → lines number at (bytes ++ more) ≡ ls
+abbrev pub AreLinesOf : ℕ → ℕ → List ℕ → List NumberedLine → Type 0
+AreLinesOf number at bytes ls = (more : List ℕ) → lines number at (bytes ++ more) ≡ ls
     ++ lines (number + length ls) (at + length bytes) more
 
 -- The bytes tell this alone, whatever comes behind them.
@@ -24,9 +24,9 @@ IsPlainSaid _ = Unit {0}
 
 -- These are whole lines, so many, of a script that has begun and hasn't ended.
 pub record IsScriptBegun (number at : ℕ) (bytes : List ℕ) (count : ℕ) : Type 0 where
-  pub first : Line
-  pub others : List Line
-  pub lines_are : AreLines number at bytes (first ∷ others)
+  pub first : NumberedLine
+  pub others : List NumberedLine
+  pub lines_are : AreLinesOf number at bytes (first ∷ others)
   pub many : count ≡ length (first ∷ others)
   pub word : Word
   pub brace : Bool

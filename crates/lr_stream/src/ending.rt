@@ -1,6 +1,6 @@
 // The end of a stream.
 ghost use Rattle.std.specs.Prelude.{◌≡◌, ◌≤◌, ◌<◌, ◌^◌, []};
-ghost use Rattle.lr_stream.specs.Holding.{IsHeld, Drops, Ends, rest_of, size_of};
+ghost use Rattle.lr_stream.specs.Holding.{IsHeld, Drops, StreamEnds, rest_of, size_of};
 
 use crate::held::Held;
 use crate::moving::{move_fault, move_item};
@@ -21,7 +21,7 @@ pub fn finish(held: &mut Held) -> Result<Option<Item>, LexFault>
     requires held { IsHeld held.old }
     requires over { rest_of held.old ≡ [] }
     ensures held { IsHeld held.new }
-    ensures ends { Ends held.old held.new result }
+    ensures ends { StreamEnds held.old held.new result }
     ensures few { size_of held.new ≤ size_of held.old }
 {
     let down = held.down as u32;

@@ -3,7 +3,7 @@ ghost use Rattle.std.specs.Prelude.{◌≡◌, ℕ, false, position, MatchOption
 ghost use Rattle.std.specs.List.{list_all};
 ghost use Rattle.lr_lex.specs.Signs.{is_blank};
 ghost use Rattle.lr_lex.specs.Lines.{line_at};
-ghost use Rattle.lr_lex.specs.Items.{is_sign, past_blanks, is_end};
+ghost use Rattle.lr_lex.specs.Items.{is_no_blank, past_blanks, is_end};
 ghost use Rattle.lr_lex.specs.Pieces.{has_line};
 ghost use Rattle.lr_stream.specs.Newlines.{IsNewline};
 
@@ -26,7 +26,7 @@ fn blank(byte: u8) -> bool
 }
 
 fn first_place(line: &[u8]) -> Option<usize>
-    ensures { result ≡ position is_sign line.now }
+    ensures { result ≡ position is_no_blank line.now }
 {
     line.iter().position(|byte| !blank(*byte))
 }

@@ -1,7 +1,7 @@
 // The pieces and the items of a stream.
 ghost use Rattle.std.specs.Prelude.{◌≡◌, ◌+◌, ◌≤◌, ◌<◌, ◌^◌, ◌++◌, ℕ, List, true, false, length, OnOk, OnErr};
 ghost use Rattle.lr_lex.specs.Items.{items};
-ghost use Rattle.lr_stream.specs.Streams.{Stands, still, given, Gives};
+ghost use Rattle.lr_stream.specs.Streams.{StreamStands, still, given, StreamGives};
 
 use crate::ending::finish;
 use crate::held::Held;
@@ -14,7 +14,7 @@ use std::alloc::Global;
 impl Stream {
     /// A stream that was given nothing, and has taken no memory.
     pub fn new(alloc: Global) -> Stream
-        ensures stands { Stands result }
+        ensures stands { StreamStands result }
         ensures text { (more : List ℕ) → still result more ≡ items more }
         ensures given { given result ≡ 0 }
         ensures open { result.closed ≡ false }
@@ -37,10 +37,10 @@ impl Stream {
     /// Takes the whole piece; where there is no memory for it, nothing of it. In all fewer than 2^32 bytes
     /// may be given.
     pub fn give(&mut self, piece: &[u8]) -> Result<(), Memory>
-        requires stands { Stands self.old }
+        requires stands { StreamStands self.old }
         requires open { self.old.closed ≡ false }
         requires few { given self.old + length piece.now < 2 ^ 32 }
-        ensures stands { Stands self.new }
+        ensures stands { StreamStands self.new }
         ensures taken { OnOk result ((more : List ℕ) → still self.old (piece.now ++ more) ≡ still self.new more) }
         ensures given { OnOk result (given self.new ≡ given self.old + length piece.now) }
         ensures same { OnErr result ((more : List ℕ) → still self.old more ≡ still self.new more) }
@@ -53,8 +53,8 @@ impl Stream {
 
     /// No piece follows.
     pub fn close(&mut self)
-        requires { Stands self.old }
-        ensures stands { Stands self.new }
+        requires { StreamStands self.old }
+        ensures stands { StreamStands self.new }
         ensures closed { self.new.closed ≡ true }
         ensures same { self.new.held ≡ self.old.held }
     {
@@ -65,9 +65,9 @@ impl Stream {
     /// of a line is whole with its newline, a script with the line of its `endscript`; and after the close exactly at the
     /// end. After `Memory` the stream stands where it stood.
     pub fn next(&mut self) -> Result<Option<Item>, LexFault>
-        requires { Stands self.old }
-        ensures stands { Stands self.new }
-        ensures gives { Gives self.old self.new result }
+        requires { StreamStands self.old }
+        ensures stands { StreamStands self.new }
+        ensures gives { StreamGives self.old self.new result }
         ensures few { given self.new ≤ given self.old }
     {
         match scan(&mut self.held) {

@@ -1,6 +1,6 @@
 // The items of a stream, as far as its bytes go.
 ghost use Rattle.std.specs.Prelude.{◌≡◌, ◌≤◌, [], None, IfOk, length};
-ghost use Rattle.lr_stream.specs.Holding.{IsHeld, BeginsLine, Brings, Fills, rest_of, size_of};
+ghost use Rattle.lr_stream.specs.Holding.{IsHeld, BeginsLine, StreamBrings, StreamFills, rest_of, size_of};
 
 use crate::held::Held;
 use crate::taking::{fill, no_memory, step};
@@ -10,7 +10,7 @@ use lr_lex::{Item, LexFault};
 fn more(held: &mut Held) -> Result<bool, LexFault>
     requires { IsHeld held.old }
     ensures held { IsHeld held.new }
-    ensures filled { Fills held.old held.new result }
+    ensures filled { StreamFills held.old held.new result }
     ensures found { IfOk result (λ found. BeginsLine found (rest_of held.new)) }
     ensures ahead { length (rest_of held.new) ≤ length (rest_of held.old) }
     ensures few { size_of held.new ≤ size_of held.old }
@@ -25,7 +25,7 @@ fn more(held: &mut Held) -> Result<bool, LexFault>
 pub fn scan(held: &mut Held) -> Result<Option<Item>, LexFault>
     requires { IsHeld held.old }
     ensures held { IsHeld held.new }
-    ensures brings { Brings held.old held.new result }
+    ensures brings { StreamBrings held.old held.new result }
     ensures over { IfOk result (λ found. found ≡ None → rest_of held.new ≡ []) }
     ensures few { size_of held.new ≤ size_of held.old }
 {

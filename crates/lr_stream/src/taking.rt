@@ -1,8 +1,9 @@
 // The bytes of a stream, line by line.
 ghost use Rattle.std.specs.Prelude.{◌≡◌, ◌≤◌, ◌<◌, ◌+◌, ◌-◌, ◌^◌, ◌++◌, ◌∷◌, [], ℕ, List, true, false, length, IfOk, OnOk, OnErr};
 ghost use Rattle.lr_lex.specs.Items.{items};
-ghost use Rattle.lr_stream.specs.Holding.{IsHeld, IsSame, Came, Brings, FirstOf, Filled, BeginsLine, EndsScript, PushesLine};
-ghost use Rattle.lr_stream.specs.Holding.{Passes, TellsNext, rest_of, size_of};
+ghost use Rattle.lr_stream.specs.Holding.{IsHeld, IsSameToCome, ItemCame, StreamBrings, FirstOf, Filled};
+ghost use Rattle.lr_stream.specs.Holding.{BeginsLine, EndsScript, PushesLine};
+ghost use Rattle.lr_stream.specs.Holding.{StreamPasses, TellsNext, rest_of, size_of};
 ghost use Rattle.lr_stream.specs.Whole.{IsScriptBegun};
 ghost use Rattle.lr_stream.specs.Moved.{moved_item, moved_fault, IsNearItem};
 
@@ -60,7 +61,7 @@ fn pass(held: &mut Held, lines: u64)
     requires lines { held.old.down + lines < 2 ^ 64 }
     requires from { held.old.from < 2 ^ 63 }
     requires at { held.old.at + length held.old.bytes.items < 2 ^ 63 }
-    ensures { Passes held.old held.new lines }
+    ensures { StreamPasses held.old held.new lines }
 {
     held.at += held.bytes.len() + 1;
     held.down += lines;
@@ -76,7 +77,7 @@ fn take_item(held: &mut Held, item: Item, lines: u64) -> Item
     requires near { IsNearItem held.old.down held.old.at item }
     requires tells { TellsNext held.old lines (Ok (moved_item held.old.down held.old.at item) ∷ []) }
     ensures held { IsHeld held.new }
-    ensures came { Came held.old held.new (Ok result) }
+    ensures came { ItemCame held.old held.new (Ok result) }
     ensures less { length (rest_of held.new) < length (rest_of held.old) }
     ensures few { size_of held.new ≤ size_of held.old }
 {
@@ -91,7 +92,7 @@ fn take_fault(held: &mut Held, fault: LexFault, lines: u64) -> LexFault
     requires near { fault.line + held.old.down < 2 ^ 32 }
     requires tells { TellsNext held.old lines (Err (moved_fault held.old.down fault) ∷ []) }
     ensures held { IsHeld held.new }
-    ensures came { Came held.old held.new (Err result) }
+    ensures came { ItemCame held.old held.new (Err result) }
     ensures kind { result.kind ≡ fault.kind }
     ensures few { size_of held.new ≤ size_of held.old }
 {
@@ -105,7 +106,7 @@ fn take_nothing(held: &mut Held)
     requires held { IsHeld held.old }
     requires tells { TellsNext held.old 1 [] }
     ensures held { IsHeld held.new }
-    ensures same { IsSame held.old held.new }
+    ensures same { IsSameToCome held.old held.new }
     ensures less { length (rest_of held.new) < length (rest_of held.old) }
     ensures few { size_of held.new ≤ size_of held.old }
 {
@@ -129,7 +130,7 @@ fn keep_line(held: &mut Held) -> Result<Option<Item>, LexFault>
     requires next { BeginsLine true (rest_of held.old) }
     requires begun { IsScriptBegun (1 + held.old.down) held.old.at (held.old.bytes.items ++ 10 ∷ []) (held.old.lines + 1) }
     ensures held { IsHeld held.new }
-    ensures brings { Brings held.old held.new result }
+    ensures brings { StreamBrings held.old held.new result }
     ensures less { OnOk result (length (rest_of held.new) < length (rest_of held.old)) }
     ensures few { size_of held.new ≤ size_of held.old }
 {
@@ -145,7 +146,7 @@ fn end_script(held: &mut Held) -> Result<Option<Item>, LexFault>
     requires next { BeginsLine true (rest_of held.old) }
     requires ends { EndsScript held.old }
     ensures held { IsHeld held.new }
-    ensures brings { Brings held.old held.new result }
+    ensures brings { StreamBrings held.old held.new result }
     ensures less { OnOk result (length (rest_of held.new) < length (rest_of held.old)) }
     ensures few { size_of held.new ≤ size_of held.old }
 {
@@ -168,7 +169,7 @@ fn line_fault(held: &mut Held, fault: LexFault) -> Result<Option<Item>, LexFault
     requires begun { held.old.begun ≡ 0 }
     requires first { FirstOf (items held.old.bytes.items) (Err fault) }
     ensures held { IsHeld held.new }
-    ensures brings { Brings held.old held.new result }
+    ensures brings { StreamBrings held.old held.new result }
     ensures less { OnOk result (length (rest_of held.new) < length (rest_of held.old)) }
     ensures few { size_of held.new ≤ size_of held.old }
 {
@@ -187,7 +188,7 @@ fn step_line(held: &mut Held) -> Result<Option<Item>, LexFault>
     requires next { BeginsLine true (rest_of held.old) }
     requires begun { held.old.begun ≡ 0 }
     ensures held { IsHeld held.new }
-    ensures brings { Brings held.old held.new result }
+    ensures brings { StreamBrings held.old held.new result }
     ensures less { OnOk result (length (rest_of held.new) < length (rest_of held.old)) }
     ensures few { size_of held.new ≤ size_of held.old }
 {
@@ -207,7 +208,7 @@ fn step_script(held: &mut Held) -> Result<Option<Item>, LexFault>
     requires next { BeginsLine true (rest_of held.old) }
     requires begun { 0 < held.old.begun }
     ensures held { IsHeld held.new }
-    ensures brings { Brings held.old held.new result }
+    ensures brings { StreamBrings held.old held.new result }
     ensures less { OnOk result (length (rest_of held.new) < length (rest_of held.old)) }
     ensures few { size_of held.new ≤ size_of held.old }
 {
@@ -223,7 +224,7 @@ pub fn step(held: &mut Held) -> Result<Option<Item>, LexFault>
     requires held { IsHeld held.old }
     requires next { BeginsLine true (rest_of held.old) }
     ensures held { IsHeld held.new }
-    ensures brings { Brings held.old held.new result }
+    ensures brings { StreamBrings held.old held.new result }
     ensures less { OnOk result (length (rest_of held.new) < length (rest_of held.old)) }
     ensures few { size_of held.new ≤ size_of held.old }
 {

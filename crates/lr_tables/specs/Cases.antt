@@ -9,5 +9,5 @@ abbrev pub Covers : List DueCase → Type 0
 Covers rows = (line : ℕ) → 1 ≤ line → line ≤ 11 → Any (λ row. row.answer ≡ line) rows
 
 -- no more changes stay than there are, and the file keeps what is synced of it and gets nothing
-abbrev pub IsAllowed : CutCase → Type 0
-IsAllowed c = (c.kept ≤ c.changes) × (c.synced ≤ c.to) × (c.to ≤ c.length)
+abbrev pub IsCutAllowed : CutCase → Type 0
+IsCutAllowed c = (c.kept ≤ c.changes) × (c.synced ≤ c.to) × (c.to ≤ c.length)

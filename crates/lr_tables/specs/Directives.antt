@@ -5,21 +5,21 @@ use Rattle.lr_tables.specs.declared.directive.Directive.{Directive}
 use Rattle.lr_tables.specs.declared.directive.Directive.TheVariants as is
 
 -- what a row says: its word, its directive, and the directive that it undoes
-pub record Says : Type 0 where
+pub record RowSays : Type 0 where
   pub word : List ℕ
   pub directive : Directive
   pub undoes : Option Directive
 
-abbrev pub sets : List ℕ → Directive → Says
+abbrev pub sets : List ℕ → Directive → RowSays
 sets word directive = record { word = word; directive = directive; undoes = None }
 
-abbrev pub undoes : List ℕ → Directive → Directive → Says
+abbrev pub undoes : List ℕ → Directive → Directive → RowSays
 undoes word directive other = record { word = word; directive = directive; undoes = Some other }
 
-abbrev pub contents : List Row → List Says
+abbrev pub contents : List Row → List RowSays
 contents rows = map (λ row. record { word = row.word.now; directive = row.directive; undoes = row.undoes }) rows
 
-abbrev pub directive_table : List Says
+abbrev pub directive_table : List RowSays
 directive_table =
     sets (codes "addextension") is.Addextension ∷
     sets (codes "allowhardlink") is.Allowhardlink ∷

@@ -1,6 +1,6 @@
 // Cases of cuts of the machine.
 ghost use Rattle.std.specs.Prelude.{◌↔◌, All, IsTrue};
-ghost use Rattle.lr_tables.specs.Cases.{IsAllowed};
+ghost use Rattle.lr_tables.specs.Cases.{IsCutAllowed};
 
 /// A cut of the machine while changes of names are pending and a file has bytes that aren't synced; and whether there can
 /// be such a cut.
@@ -41,7 +41,7 @@ macro_rules! cases {
 /// All changes stay, or one more than there are; and none, where the file keeps too few of its bytes, those that are synced,
 /// or more than it has. No memory is taken.
 pub fn cut_cases() -> CutCases<5>
-    ensures meant { All (λ c. IsTrue c.allowed ↔ IsAllowed c) result.rows }
+    ensures meant { All (λ c. IsTrue c.allowed ↔ IsCutAllowed c) result.rows }
 {
     CutCases {
         rows: cases![

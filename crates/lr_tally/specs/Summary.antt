@@ -66,7 +66,7 @@ abbrev pub IsGone : List LogSet → Past → ℕ → Type 0
 IsGone sets p g = IsGenerationOfOne sets p g × IsUnnamed (names (world p)) g
 
 -- The list has just what has P, each once.
-pub record Lists {A : Type 0} (P : A → Type 0) (xs : List A) : Type 0 where
+pub record HoldsJust {A : Type 0} (P : A → Type 0) (xs : List A) : Type 0 where
   pub once : AreDistinct xs
   pub all : (x : A) → IsIn x xs ↔ P x
 
@@ -79,10 +79,10 @@ pub record IsSummary (logs : List (Path × Naming)) (given : ℕ) (p : Past) (s 
   pub begun : s.begun ≡ begun_in sets p
   -- the paths of the files that stand
   pub paths : List Path
-  pub are_files : Lists (IsFileOf sets p) paths
+  pub are_files : HoldsJust (IsFileOf sets p) paths
   pub files : s.files ≡ length paths
   pub bytes : s.bytes ≡ sum_by (size_at p) paths
   -- the identities of the files that are gone
   pub gone : List ℕ
-  pub are_gone : Lists (IsGone sets p) gone
+  pub are_gone : HoldsJust (IsGone sets p) gone
   pub released : s.released ≡ length gone

@@ -7,15 +7,15 @@ use Rattle.lr_host.specs.declared.entry.Entry.{Entry}
 use Rattle.lr_host.specs.declared.entry.Entry.TheVariants.{Attach, Renames, Makes, Unlinks, SyncsDir, MakesDir, Cut}
 use Rattle.lr_host.specs.World.{World, Past, world}
 use Rattle.lr_host.specs.Sets.{LogSet}
-use Rattle.lr_disk.specs.State.{Shows}
+use Rattle.lr_disk.specs.State.{ShowsWorld}
 use Rattle.lr_tally.specs.declared.walk.Walk.{Walk}
 use Rattle.lr_tally.specs.declared.standing.Standing.{Standing}
-use Rattle.lr_tally.specs.Summary.{in_one, size_named, size_at, Lists, IsFileOf, IsGenerationOfOne, IsGone}
+use Rattle.lr_tally.specs.Summary.{in_one, size_named, size_at, HoldsJust, IsFileOf, IsGenerationOfOne, IsGone}
 use Rattle.lr_tally.specs.Marks.{is_marked}
 
 -- The disk is that of the journal, and just the generations are marked.
 pub record IsWalk (sets : List LogSet) (p : Past) (w : Walk) : Type 0 where
-  pub shows : Shows w.replay (world p)
+  pub shows : ShowsWorld w.replay (world p)
   pub marked : (g : ℕ) → (is_marked w.marks.items g ≡ true) ↔ IsGenerationOfOne sets p g
 
 -- the entry may change what paths name
@@ -48,12 +48,12 @@ bytes_one w sets n = cond (stands sets n) (size_named w n.1) 0
 -- The files that stand were counted.
 pub record IsStanding (sets : List LogSet) (p : Past) (t : Standing) : Type 0 where
   pub paths : List Path
-  pub are : Lists (IsFileOf sets p) paths
+  pub are : HoldsJust (IsFileOf sets p) paths
   pub files : t.files ≡ length paths
   pub bytes : t.bytes ≡ sum_by (size_at p) paths
 
 -- so many files are gone
 pub record AreGone (sets : List LogSet) (p : Past) (count : ℕ) : Type 0 where
   pub gone : List ℕ
-  pub are : Lists (IsGone sets p) gone
+  pub are : HoldsJust (IsGone sets p) gone
   pub count_is : count ≡ length gone

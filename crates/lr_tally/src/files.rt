@@ -2,7 +2,7 @@
 ghost use Rattle.std.specs.Prelude.{◌≡◌, ◌+◌, List, All, None, IfOk, IfSome};
 ghost use Rattle.lr_host.specs.World.{World, Past, world, names};
 ghost use Rattle.lr_host.specs.Sets.{LogSet};
-ghost use Rattle.lr_disk.specs.State.{Shows};
+ghost use Rattle.lr_disk.specs.State.{ShowsWorld};
 ghost use Rattle.lr_tally.specs.Summary.{AreSetsOf, logs_of};
 ghost use Rattle.lr_tally.specs.Walk.{IsStanding, count_one, bytes_one};
 
@@ -24,7 +24,7 @@ fn with_name(
     ensures files { IfSome result (λ after. (sets : List LogSet) → AreSetsOf (logs_of logs.now) sets
         → after.files ≡ before.files + count_one sets name.now) }
     ensures bytes { IfSome result (λ after. (sets : List LogSet) (w : World) → AreSetsOf (logs_of logs.now) sets
-        → Shows replay.now w → names w name.now.0 ≡ name.now.1 → after.bytes ≡ before.bytes + bytes_one w sets name.now) }
+        → ShowsWorld replay.now w → names w name.now.0 ≡ name.now.1 → after.bytes ≡ before.bytes + bytes_one w sets name.now) }
 {
     if !is_of_one(logs, &name.0) {
         return Some(before);
@@ -41,7 +41,7 @@ fn with_name(
 pub fn count_files(replay: &Replay, logs: &[Family]) -> Result<Standing, Memory>
     requires { All (λ f. f.naming.dated ≡ None) logs.now }
     ensures { IfOk result (λ standing. (sets : List LogSet) (p : Past) → AreSetsOf (logs_of logs.now) sets
-        → Shows replay.now (world p) → IsStanding sets p standing) }
+        → ShowsWorld replay.now (world p) → IsStanding sets p standing) }
 {
     let named = replay.named();
     let mut standing = Standing { files: 0, bytes: 0 };

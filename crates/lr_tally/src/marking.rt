@@ -2,7 +2,7 @@
 ghost use Rattle.std.specs.Prelude.{◌≡◌, ℕ, List, ◌||◌, ◌&&◌, not, All, None, OnOk};
 ghost use Rattle.lr_host.specs.World.{World, is_file};
 ghost use Rattle.lr_host.specs.Sets.{LogSet};
-ghost use Rattle.lr_disk.specs.State.{Shows};
+ghost use Rattle.lr_disk.specs.State.{ShowsWorld};
 ghost use Rattle.lr_tally.specs.Summary.{AreSetsOf, logs_of, in_one};
 ghost use Rattle.lr_tally.specs.Marks.{is_marked, is_a_log, is_of_logs, has_name};
 
@@ -15,7 +15,7 @@ use lr_rules::{Memory, Path};
 
 /// Marks each file that a log names.
 pub fn mark_logs(marks: &mut Vec<bool>, replay: &Replay, logs: &[Family]) -> Result<(), Memory>
-    ensures { OnOk result ((w : World) → Shows replay.now w → (g : ℕ)
+    ensures { OnOk result ((w : World) → ShowsWorld replay.now w → (g : ℕ)
         → is_marked marks.new.items g ≡ (is_marked marks.old.items g || is_a_log w logs.now g)) }
 {
     for log in logs {

@@ -19,7 +19,7 @@ use Rattle.lr_durable.proofs.Lists.{each_last}
 use Rattle.lr_emptied.specs.Emptied.{CopiedLast, EmptiesCopied}
 use Rattle.lr_laws_targets.specs.AllTurns.{StandsBetween, paths_beside}
 use Rattle.lr_laws_family.specs.Beside.{IsBeside}
-use Rattle.lr_laws_targets.specs.Target.{Target, rotation_of}
+use Rattle.lr_laws_targets.specs.Target.{Target, target_entries}
 use Rattle.lr_laws_family.specs.Weave.{Weave}
 use Rattle.lr_laws_family.proofs.These.{IsOfThese}
 use Rattle.lr_laws_targets.proofs.Others.{beside_changes}
@@ -38,7 +38,7 @@ these_change Own _ h = absurd h
 
 -- The copy of a log stands whole among the acts of a run that rotated it whole, with steps on certain paths before and behind the copy, those of its members: the first steps are then all before the copy, with changes of others between, the last all behind it, and nothing but the copy empties the log.
 module _ (state : Path) (x : Target) (targets : List Target) (acts : List Entry) (job : Job) (Own : Path → Type 0) (first last : List Entry) (job_is : x.job ≡ Some job)
-    (whole : Weave (StandsBetween state x targets) (rotation_of x) (filter is_change acts)) (steps_are : rotation_of x ≡ (first ++ clearing job) ++ (Renames job.part job.to ∷ last)) (first_own : Each (IsOfThese Own) first) (last_own : Each (IsOfThese Own) last)
+    (whole : Weave (StandsBetween state x targets) (target_entries x) (filter is_change acts)) (steps_are : target_entries x ≡ (first ++ clearing job) ++ (Renames job.part job.to ∷ last)) (first_own : Each (IsOfThese Own) first) (last_own : Each (IsOfThese Own) last)
     (own_to : Own job.to) (out : (y : Path) → IsIn y (job.part ∷ paths_beside state x targets) → Own y → ⊥) (stands : CopyStands job acts) (copies : EmptiesCopied (IsSameFor x.log job) acts) where
   abbrev paths : List Path
   paths = job.part ∷ paths_beside state x targets
@@ -109,7 +109,7 @@ module _ (state : Path) (x : Target) (targets : List Target) (acts : List Entry)
   cut_in_two : Weave Q old (filter is_change front) × Weave Q last (filter is_change back)
   cut_in_two = weave_at Q r old last (filter is_change front) (filter is_change back) no_beside old_other last_other
       (subst (Weave Q (old ++ (r ∷ last))) (ap (filter is_change) acts_are ∙ filter-append is_change front (r ∷ back)) (subst (λ os. Weave Q os (filter is_change acts)) steps_are
-      (weave_as (StandsBetween state x targets) Q (rotation_of x) (filter is_change acts) (λ e h. between_beside state x targets job e job_is h) whole)))
+      (weave_as (StandsBetween state x targets) Q (target_entries x) (filter is_change acts) (λ e h. between_beside state x targets job e job_is h) whole)))
 
   -- the rename stands once
   front_other : Each (IsOther r) front

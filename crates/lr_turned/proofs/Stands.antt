@@ -25,7 +25,7 @@ use Rattle.lr_emptied.proofs.Acts.{sets_copying}
 use Rattle.lr_emptied.proofs.Made.{AllMade, made_split, named_made}
 use Rattle.lr_emptied.proofs.Steps.{plan_copied}
 use Rattle.lr_laws_targets.specs.Target.{Target, source_by, HasWay, IsJob}
-use Rattle.lr_weave.specs.Planned.{AreReadyFor, HaveLogs, NoneHas, AreApart}
+use Rattle.lr_weave.specs.Planned.{AreReadyFor, HaveLogs, NoneHas, LogsDiffer}
 use Rattle.lr_weave.proofs.Whole.{one_none, nil_split}
 use Rattle.lr_turned.specs.Copied.{CopyStands, IsSameFor}
 use Rattle.lr_turned.proofs.Ways.{job_same, not_emptied, not_copied}
@@ -235,7 +235,7 @@ none_has t x [] none i = absurd i
 none_has t x (y ∷ ys) none (inl is) = λ e. none.0 (ap (λ (z : Target). z.log) is ∙ e)
 none_has t x (y ∷ ys) none (inr i) = none_has t x ys none.1 i
 
-same_target : (t x : Target) (ts : List Target) → AreApart ts → IsIn t ts → IsIn x ts → x.log ≡ t.log → x ≡ t
+same_target : (t x : Target) (ts : List Target) → LogsDiffer ts → IsIn t ts → IsIn x ts → x.log ≡ t.log → x ≡ t
 same_target t x [] apart i j e = absurd i
 same_target t x (y ∷ ys) apart (inl a) (inl b) e = sym b ∙ a
 same_target t x (y ∷ ys) apart (inl a) (inr j) e = absurd (none_has y x ys apart.0 j (e ∙ ap (λ (z : Target). z.log) (sym a)))
@@ -249,13 +249,13 @@ emptied_at t job is of (inr (asked, inl aside)) cut = absurd (let both : true �
 emptied_at t job is of (inr (asked, inr taken)) cut = absurd (not_copied t job is taken.no_job)
 
 -- so a log has one such job
-plan_same : (t : Target) (job : Job) (groups : List (List Target)) (sets : List SetPlan) → HaveLogs groups sets → AreApart (all_of groups) → IsIn t (all_of groups) → t.job ≡ Some job → (other : Job) → IsIn other (jobs_of sets) → IsSameFor t.log job other
+plan_same : (t : Target) (job : Job) (groups : List (List Target)) (sets : List SetPlan) → HaveLogs groups sets → LogsDiffer (all_of groups) → IsIn t (all_of groups) → t.job ≡ Some job → (other : Job) → IsIn other (jobs_of sets) → IsSameFor t.log job other
 plan_same t job groups sets logs apart i is other h cut from_log =
     let k = jobs_planned groups sets other logs h in
     let same : k.0 ≡ t = same_target t k.0 (all_of groups) apart i k.1 (sym (emptied_at k.0 other k.2 k.3 k.4 cut) ∙ from_log) in
     job_same t job is other (ap (λ (x : Target). x.job) (sym same) ∙ k.2)
 
 -- and whatever empties it in the entries of the plan is behind that copy
-pub plan_empties : (t : Target) (job : Job) (groups : List (List Target)) (sets : List SetPlan) (ms : List Mark) (f : List Fault) (ts : List Entry) → HaveLogs groups sets → AreApart (all_of groups) → IsIn t (all_of groups) → t.job ≡ Some job → SetsDone (map steps_of_set sets) ms f ts
+pub plan_empties : (t : Target) (job : Job) (groups : List (List Target)) (sets : List SetPlan) (ms : List Mark) (f : List Fault) (ts : List Entry) → HaveLogs groups sets → LogsDiffer (all_of groups) → IsIn t (all_of groups) → t.job ≡ Some job → SetsDone (map steps_of_set sets) ms f ts
     → EmptiesCopied (IsSameFor t.log job) ts
 plan_empties t job groups sets ms f ts logs apart i is d = sets_copying (IsSameFor t.log job) (map steps_of_set sets) (plan_copied (IsSameFor t.log job) sets (plan_same t job groups sets logs apart i is)) ms f ts d

@@ -11,7 +11,7 @@ use Rattle.lr_laws_family.specs.Made.{IsJobOf, HasJob}
 use Rattle.lr_laws_family.specs.Rotation.{By, steps_before, steps_behind}
 use Rattle.lr_laws_targets.specs.Rotation.{by_of, rotation_by}
 use Rattle.lr_laws_targets.specs.Seen.{IsLogSeen}
-use Rattle.lr_laws_targets.specs.Target.{Target, source_by, source_of, HasWay, IsSetAside, rotation_of}
+use Rattle.lr_laws_targets.specs.Target.{Target, source_by, source_of, HasWay, IsTargetAside, target_entries}
 use Rattle.lr_laws_targets.proofs.CallsFit.{log_paths}
 use Rattle.lr_laws_targets.proofs.Rotating.{by_both}
 use Rattle.lr_laws_targets.proofs.Waiting.{beside_other}
@@ -35,7 +35,7 @@ module _ (t : Target) (job : Job) (job_is : t.job ≡ Some job) where
   source_is aside goes = ap (λ (a : Option Path). source_by a t.ready.log) goes
 
   -- a log that is set aside isn't emptied
-  pub not_emptied : IsSetAside t → job.cut ≡ false
+  pub not_emptied : IsTargetAside t → job.cut ≡ false
   not_emptied a = subst (λ (j : Job). j.cut ≡ false) (job_same a.job a.job_is) a.uncut
 
   -- one that is taken up isn't copied
@@ -62,7 +62,7 @@ module _ (t : Target) (job : Job) (job_is : t.job ≡ Some job) where
       ∙ sym (append_assoc (before ++ Renames from to ∷ []) (clearing job) (named ∷ Unlinks to ∷ behind) ∙ append_assoc before (Renames from to ∷ []) (clearing job ++ (named ∷ Unlinks to ∷ behind)))
 
   pub aside_steps : (path : Path) → t.aside ≡ Some path → t.ready.log ≡ t.log
-      → rotation_of t ≡ ((steps_before (rotation_by t) ++ Renames t.log (source_of t) ∷ []) ++ clearing job) ++ (Renames job.part job.to ∷ Unlinks (source_of t) ∷ steps_behind (rotation_by t))
+      → target_entries t ≡ ((steps_before (rotation_by t) ++ Renames t.log (source_of t) ∷ []) ++ clearing job) ++ (Renames job.part job.to ∷ Unlinks (source_of t) ∷ steps_behind (rotation_by t))
   aside_steps path goes first_is = by_both t (Some job) (Some path) job_is goes
       ∙ (cut_there t.ready.log path ∙ (ap (λ (x : Path). in_two x path) first_is ∙ ap (λ (x : Path). in_two t.log x) (sym (source_is (Some path) goes))))
 
@@ -73,7 +73,7 @@ module _ (rules : Rules) (clock : Clock) (looks : List Entry) (t : Target) (seen
   of_rotation job is = let own = (seen.job job is).0 in record { from_is = own.from_is; to_is = own.to_is; paths = log_paths rules clock looks t seen job is }
 
   -- the log isn't set aside to its own path
-  apart : IsSetAside t → t.log ≢ source_of t
+  apart : IsTargetAside t → t.log ≢ source_of t
   apart a same = beside_other t.log (same ∙ ap (λ (o : Option Path). source_by o t.ready.log) a.aside_is)
 
   pub has_job : HasJob (by_of t.job t.aside) (rotation_by t)

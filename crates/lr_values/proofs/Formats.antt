@@ -5,7 +5,7 @@ use Rattle.std.specs.Str.{is_utf8}
 use Rattle.std.proofs.lemmas.Bool.{and_parts, and_from}
 use Rattle.lr_rules.specs.declared.rule.Piece.{Piece}
 use Rattle.lr_rules.specs.Limits.{written, is_plain_piece, are_first, is_epoch_alone}
-use Rattle.lr_values.specs.Formats.{Writes}
+use Rattle.lr_values.specs.Formats.{WritesFormat}
 use Rattle.lr_values.proofs.Pieces.{one_list}
 
 pub record Parts (word : List ℕ) (pieces : List Piece) : Type 0 where
@@ -14,7 +14,7 @@ pub record Parts (word : List ℕ) (pieces : List Piece) : Type 0 where
   pub short : nat_le (length word) 64 ≡ true
   pub fields : (are_first pieces || is_epoch_alone pieces) ≡ true
 
-pub parts_of : (word : List ℕ) (pieces : List Piece) → Writes word pieces → Parts word pieces
+pub parts_of : (word : List ℕ) (pieces : List Piece) → WritesFormat word pieces → Parts word pieces
 parts_of word pieces w =
     let fields : Bool = are_first pieces || is_epoch_alone pieces in
     let short : Bool = nat_le (length (written pieces)) 64 in
@@ -28,7 +28,7 @@ parts_of word pieces w =
       fields = c.1;
     }
 
-pub from_parts : (word : List ℕ) (pieces : List Piece) → written pieces ≡ word → Parts word pieces → Writes word pieces
+pub from_parts : (word : List ℕ) (pieces : List Piece) → written pieces ≡ word → Parts word pieces → WritesFormat word pieces
 from_parts word pieces e p =
     let fields : Bool = are_first pieces || is_epoch_alone pieces in
     let short : Bool = nat_le (length (written pieces)) 64 in
@@ -40,7 +40,7 @@ from_parts word pieces e p =
     }
 
 -- the pieces of a word have no fields of a moment, and no others are written by it
-pub no_fields : (word : List ℕ) (pieces qs : List Piece) → written pieces ≡ word → list_all is_plain_piece pieces ≡ true → (are_first pieces || is_epoch_alone pieces) ≡ false → Writes word qs → ⊥
+pub no_fields : (word : List ℕ) (pieces qs : List Piece) → written pieces ≡ word → list_all is_plain_piece pieces ≡ true → (are_first pieces || is_epoch_alone pieces) ≡ false → WritesFormat word qs → ⊥
 no_fields word pieces qs e plain none w =
     let p = parts_of word qs w in
     let same = one_list qs pieces p.plain plain (w.bytes ∙ sym e) in

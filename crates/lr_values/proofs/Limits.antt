@@ -10,7 +10,7 @@ use Rattle.lr_rules.specs.declared.fault.ConfKind.TheVariants as kind
 use Rattle.lr_rules.specs.declared.rule.Count.{Count}
 use Rattle.lr_rules.specs.declared.rule.Count.TheVariants as count
 use Rattle.lr_rules.specs.Limits.{is_small, is_size, is_mode, is_count}
-use Rattle.lr_values.specs.Numbers.{is_number, number_of, number_value, is_minus_one, kept, count_value, weekday_value, size_digits, bytes_of, size_value, is_octal, is_mode_text, mode_value}
+use Rattle.lr_values.specs.Numbers.{is_number, number_of, number_value, is_minus_one, kept, count_value, weekday_value, size_digits, size_bytes, size_value, is_octal, is_mode_text, mode_value}
 use Rattle.lr_values.proofs.Numbers.{octal_of}
 
 -- a value behind two tests, the second of which is its limit
@@ -25,7 +25,7 @@ number_meets word n h = behind_tests is_small (number_of word) n kind.BadNumber 
 
 pub size_meets : (word : List ℕ) (n : ℕ) → size_value word ≡ Ok n → is_size n ≡ true
 unfolding size_value
-size_meets word n h = behind_tests is_size (bytes_of word) n kind.BadSize kind.TooLarge (is_number (size_digits word)) (is_size (bytes_of word)) refl h
+size_meets word n h = behind_tests is_size (size_bytes word) n kind.BadSize kind.TooLarge (is_number (size_digits word)) (is_size (size_bytes word)) refl h
 
 pub weekday_meets : (word : List ℕ) (n : ℕ) → weekday_value word ≡ Ok n → nat_le n 7 ≡ true
 unfolding weekday_value

@@ -11,14 +11,14 @@ use Rattle.lr_rules.specs.declared.rule.Piece.TheVariants as piece
 use Rattle.lr_rules.specs.Limits.{is_plain_piece, written, is_format}
 
 -- The word writes these pieces, and they are a format: bytes that stand for themselves, and the fields of a moment.
-pub record Writes (word : List ℕ) (pieces : List Piece) : Type 0 where
+pub record WritesFormat (word : List ℕ) (pieces : List Piece) : Type 0 where
   pub bytes : written pieces ≡ word
   pub format : is_format (record { pieces = pieces; back = back.Now; serial = false }) ≡ true
 
 -- the format that the word writes; BadFormat where it writes none
 abbrev pub FormatSays : List ℕ → Result (List Piece) ConfKind → Type 0
-FormatSays word (Ok pieces) = Writes word pieces
-FormatSays word (Err k) = (k ≡ kind.BadFormat) × ((pieces : List Piece) → Writes word pieces → ⊥)
+FormatSays word (Ok pieces) = WritesFormat word pieces
+FormatSays word (Err k) = (k ≡ kind.BadFormat) × ((pieces : List Piece) → WritesFormat word pieces → ⊥)
 
 -- ---- the same as a value
 

@@ -66,15 +66,15 @@ abbrev pub size_digits : List ℕ → List ℕ
 size_digits word = if is_unit (last_byte word) then take (length word - 1) word else word
 
 -- how many bytes the digits of a size and its letter say
-abbrev pub bytes_of : List ℕ → ℕ
-bytes_of word = number_of (size_digits word) * unit_of (last_byte word)
+abbrev pub size_bytes : List ℕ → ℕ
+size_bytes word = number_of (size_digits word) * unit_of (last_byte word)
 
 -- digits and at most one letter: bytes, of at most 2^63 - 1
 unfoldable pub size_value : List ℕ → Result ℕ ConfKind
 size_value word =
     if not (is_number (size_digits word)) then Err kind.BadSize
-    else if not (is_size (bytes_of word)) then Err kind.TooLarge
-    else Ok (bytes_of word)
+    else if not (is_size (size_bytes word)) then Err kind.TooLarge
+    else Ok (size_bytes word)
 
 -- ---- modes
 

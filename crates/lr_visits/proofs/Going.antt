@@ -17,12 +17,12 @@ use Rattle.lr_visits.specs.declared.part.TextEnd.{TextEnd}
 use Rattle.lr_visits.specs.declared.part.TextEnd.TheVariants as end
 use Rattle.lr_visits.specs.declared.taking.Taking.{Taking}
 use Rattle.lr_visits.specs.Visits.{ShowsText, IsShortRead, IsShortReadOf, PartText}
-use Rattle.lr_visits.specs.Taken.{IsOpen, Brings, ShortReads, TookFrom, GoesOn}
+use Rattle.lr_visits.specs.Taken.{IsUnclosed, ReadBrings, ShortReads, TookFrom, ReadGoesOn}
 use Rattle.lr_visits.proofs.Texts.{read_more, reads_so_far}
 use Rattle.lr_visits.proofs.Telling.{told_whole, take_both}
 
 -- a read failed
-pub goes_failed : (path : Path) (room : ℕ) (t : Taking) {before mid after : Option Journal} → IsOpen t → t.size ≤ room → TookFrom path t before mid → Left (Are []) mid after → Left (ShowsText path room t.told.items t.size end.Failed) before after
+pub goes_failed : (path : Path) (room : ℕ) (t : Taking) {before mid after : Option Journal} → IsUnclosed t → t.size ≤ room → TookFrom path t before mid → Left (Are []) mid after → Left (ShowsText path room t.told.items t.size end.Failed) before after
 goes_failed path room t ready small took none = left_then took.reads none (λ ts us r e. subst (λ (vs : List Entry). ShowsText path room t.told.items t.size end.Failed vs) (sym (ap (λ (vs : List Entry). ts ++ vs) e ∙ append-nil ts)) (record {
   bytes = took.bytes;
   reads = (omega (arith, small, took.size), r.0);
@@ -44,7 +44,7 @@ short_more path bytes piece gave le a b = left_then a b (λ ts us r e. (read_mor
 
 -- a read gave these bytes
 pub goes_on : (path : Path) (room : ℕ) (old new : Taking) (piece : List ℕ) (how : Option TextEnd) {before mid after : Option Journal} → old.size ≤ room → old.size + length piece ≤ room + 1 → length piece ≤ 65536
-    → TookFrom path old before mid → Left (Are (Reads path old.size piece ∷ [])) mid after → Brings old new room piece how → GoesOn path room new before after how
+    → TookFrom path old before mid → Left (Are (Reads path old.size piece ∷ [])) mid after → ReadBrings old new room piece how → ReadGoesOn path room new before after how
 goes_on path room old new piece None {before = before} {mid = mid} {after = after} small within le took read b = record {
   bytes = took.bytes ++ piece;
   reads = short_more path took.bytes piece (some_piece piece b.2 b.3) le took.reads (subst (λ (k : ℕ). Left (Are (Reads path k piece ∷ [])) mid after) took.size read);

@@ -13,7 +13,7 @@ use Rattle.lr_stream.specs.declared.held.Held.{Held}
 use Rattle.lr_stream.specs.declared.stream.Stream.{Stream}
 use Rattle.lr_stream.specs.Holding.{IsHeld, coming, rest_of}
 use Rattle.lr_stream.specs.Whole.{IsScriptBegun}
-use Rattle.lr_stream.specs.Streams.{Stands, still, HasNone}
+use Rattle.lr_stream.specs.Streams.{StreamStands, still, HoldsNone}
 use Rattle.lr_stream.proofs.Alone.{alone_tells, script_once}
 use Rattle.lr_visits.specs.Whole.{whole_lines, whole_items}
 use Rattle.lr_visits.proofs.Whole.{line_last, line_more, split}
@@ -75,7 +75,7 @@ whole_once bytes =
     (m.0, ap (items_of 0) s.lines_are ∙ m.1)
 
 -- what was taken of a stream that isn't closed, and has no more that is whole
-pub told_whole : (bytes : List ℕ) (ts : List Told) (s : Stream) → Stands s → HasNone s false → ((more : List ℕ) → items (bytes ++ more) ≡ ts ++ still s more) → ts ≡ whole_items bytes
+pub told_whole : (bytes : List ℕ) (ts : List Told) (s : Stream) → StreamStands s → HoldsNone s false → ((more : List ℕ) → items (bytes ++ more) ≡ ts ++ still s more) → ts ≡ whole_items bytes
 told_whole bytes ts s stands none all =
     let one = held_once s.held stands none in
     let w = whole_once bytes in

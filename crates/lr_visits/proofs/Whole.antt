@@ -2,7 +2,7 @@
 use Rattle.std.proofs.Common.{◌≡◌, ◌≤◌, ◌+◌, ℕ, zero, suc, Bool, true, false, cond, ◌||◌, ◌==◌, List, [], ◌∷◌, ◌++◌, length, refl, sym, ap, ◌∙◌, subst, append_assoc, append-nil, length-append, arith}
 use Rattle.lr_lex.specs.declared.said.Said.{Said}
 use Rattle.lr_lex.specs.declared.said.Said.TheVariants as says
-use Rattle.lr_lex.specs.Lines.{Line, line_at, longer, lines}
+use Rattle.lr_lex.specs.Lines.{NumberedLine, line_at, longer, lines}
 use Rattle.lr_lex.specs.Pieces.{has_line, is_newline}
 use Rattle.lr_lex.specs.Items.{Told, said, told, taken, ended, body, is_end, items_of, script, script_text}
 use Rattle.lr_stream.proofs.Alone.{one_alone}
@@ -10,7 +10,7 @@ use Rattle.lr_visits.specs.Whole.{whole_lines, told_whole, whole_of}
 
 -- ---- scripts
 
-body_long : (ls more : List Line) → ended ls ≡ false → length ls ≤ length (body (ls ++ more))
+body_long : (ls more : List NumberedLine) → ended ls ≡ false → length ls ≤ length (body (ls ++ more))
 body_long [] more h = omega arith
 body_long (l ∷ ls) more h = by (is_end l) h (λ k. body_long ls more k)
   where
@@ -18,7 +18,7 @@ body_long (l ∷ ls) more h = by (is_end l) h (λ k. body_long ls more k)
     by true e f = absurd (cc e)
     by false e f = let le = f e in omega (arith, le)
 
-body_same : (ls more : List Line) → ended ls ≡ true → (body (ls ++ more) ≡ body ls) × (ended (ls ++ more) ≡ true) × (length (body ls) + 1 ≤ length ls)
+body_same : (ls more : List NumberedLine) → ended ls ≡ true → (body (ls ++ more) ≡ body ls) × (ended (ls ++ more) ≡ true) × (length (body ls) + 1 ≤ length ls)
 body_same [] more h = absurd (cc h)
 body_same (l ∷ ls) more h = by (is_end l) h (λ k. body_same ls more k)
   where
@@ -27,12 +27,12 @@ body_same (l ∷ ls) more h = by (is_end l) h (λ k. body_same ls more k)
     by true e f = (refl, refl, omega arith)
     by false e f = let k = f e in let le = k.2 in (ap (λ xs. l ∷ xs) k.0, k.1, omega (arith, le))
 
-items_skipped : (k : ℕ) (ls : List Line) → length ls ≤ k → items_of k ls ≡ []
+items_skipped : (k : ℕ) (ls : List NumberedLine) → length ls ≤ k → items_of k ls ≡ []
 items_skipped k [] le = refl
 items_skipped zero (l ∷ ls) le = absurd (omega (arith, le))
 items_skipped (suc k) (l ∷ ls) le = items_skipped k ls (omega (arith, le))
 
-whole_skipped : (k : ℕ) (ls : List Line) → length ls ≤ k → whole_of k ls ≡ []
+whole_skipped : (k : ℕ) (ls : List NumberedLine) → length ls ≤ k → whole_of k ls ≡ []
 whole_skipped k [] le = refl
 whole_skipped zero (l ∷ ls) le = absurd (omega (arith, le))
 whole_skipped (suc k) (l ∷ ls) le = whole_skipped k ls (omega (arith, le))
@@ -46,18 +46,18 @@ OneMore all ts = (t : Told) × (all ≡ ts ++ t ∷ [])
 more_before : (us all ts : List Told) → OneMore all ts → OneMore (us ++ all) (us ++ ts)
 more_before us all ts m = (m.0, ap (λ xs. us ++ xs) m.1 ∙ sym (append_assoc us ts (m.0 ∷ [])))
 
-module _ (x : Line) (t : Told) (x_tells : told x.number (said x) [] ≡ t ∷ []) where
+module _ (x : NumberedLine) (t : Told) (x_tells : told x.number (said x) [] ≡ t ∷ []) where
   one_tells : OneMore (told x.number (said x) [] ++ []) []
   one_tells = (t, append-nil (told x.number (said x) []) ∙ x_tells)
 
   -- a line that begins a script
-  script_more : (n : ℕ) (s : Said) (ls : List Line) → ((k : ℕ) → k ≤ length ls → OneMore (items_of k (ls ++ x ∷ [])) (whole_of k ls)) → OneMore (told n s (ls ++ x ∷ []) ++ items_of (taken s (ls ++ x ∷ [])) (ls ++ x ∷ [])) (told_whole n s ls ++ whole_of (taken s ls) ls)
+  script_more : (n : ℕ) (s : Said) (ls : List NumberedLine) → ((k : ℕ) → k ≤ length ls → OneMore (items_of k (ls ++ x ∷ [])) (whole_of k ls)) → OneMore (told n s (ls ++ x ∷ []) ++ items_of (taken s (ls ++ x ∷ [])) (ls ++ x ∷ [])) (told_whole n s ls ++ whole_of (taken s ls) ls)
   script_more n (says.Script w brace stray) ls f = by (ended ls) refl
     where
       here : List Told
       here = told n (says.Script w brace stray) (ls ++ x ∷ []) ++ items_of (suc (length (body (ls ++ x ∷ [])))) (ls ++ x ∷ [])
 
-      start : List Line → Bool → List Told
+      start : List NumberedLine → Bool → List Told
       start bd en = script n w brace stray (script_text bd) en ∷ items_of (suc (length bd)) (ls ++ x ∷ [])
 
       by : (e : Bool) → ended ls ≡ e → OneMore here (cond e (told n (says.Script w brace stray) ls) [] ++ whole_of (suc (length (body ls))) ls)
@@ -72,7 +72,7 @@ module _ (x : Line) (t : Told) (x_tells : told x.number (said x) [] ≡ t ∷ []
       by false e =
           let long = body_long ls (x ∷ []) e in
           let all : length (ls ++ x ∷ []) ≡ length ls + 1 = length-append ls (x ∷ []) in
-          let short = subst (λ (ys : List Line). length ls ≤ length (body ys)) (append-nil ls) (body_long ls [] e) in (
+          let short = subst (λ (ys : List NumberedLine). length ls ≤ length (body ys)) (append-nil ls) (body_long ls [] e) in (
             script n w brace stray (script_text (body (ls ++ x ∷ []))) (ended (ls ++ x ∷ [])),
             ap (λ r. told n (says.Script w brace stray) (ls ++ x ∷ []) ++ r) (items_skipped (suc (length (body (ls ++ x ∷ [])))) (ls ++ x ∷ []) (omega (arith, long, all)))
                 ∙ ap (λ (ws : List Told). ws ++ told n (says.Script w brace stray) (ls ++ x ∷ [])) (sym (whole_skipped (suc (length (body ls))) ls (omega (arith, short)))),
@@ -81,7 +81,7 @@ module _ (x : Line) (t : Told) (x_tells : told x.number (said x) [] ≡ t ∷ []
   script_more n (says.Item i) ls f = more_before (told n (says.Item i) ls) (items_of 0 (ls ++ x ∷ [])) (whole_of 0 ls) (f 0 (omega arith))
   script_more n (says.Fault i) ls f = more_before (told n (says.Fault i) ls) (items_of 0 (ls ++ x ∷ [])) (whole_of 0 ls) (f 0 (omega arith))
 
-  pub line_more : (k : ℕ) (ls : List Line) → k ≤ length ls → OneMore (items_of k (ls ++ x ∷ [])) (whole_of k ls)
+  pub line_more : (k : ℕ) (ls : List NumberedLine) → k ≤ length ls → OneMore (items_of k (ls ++ x ∷ [])) (whole_of k ls)
   line_more zero [] le = one_tells
   line_more (suc k) [] le = absurd (omega (arith, le))
   line_more (suc k) (l ∷ ls) le = line_more k ls (omega (arith, le))
@@ -89,16 +89,16 @@ module _ (x : Line) (t : Told) (x_tells : told x.number (said x) [] ≡ t ∷ []
 
 -- ---- the lines of bytes
 
-some_lines : (n at b : ℕ) (bs : List ℕ) → (l : Line) × (ls : List Line) × (lines n at (b ∷ bs) ≡ l ∷ ls)
+some_lines : (n at b : ℕ) (bs : List ℕ) → (l : NumberedLine) × (ls : List NumberedLine) × (lines n at (b ∷ bs) ≡ l ∷ ls)
 some_lines n at b bs = by (b == 10) (lines n (at + 1) bs)
   where
-    by : (t : Bool) (more : List Line) → (l : Line) × (ls : List Line) × (cond t (line_at n at [] ∷ lines (n + 1) (at + 1) bs) (longer n at b more) ≡ l ∷ ls)
+    by : (t : Bool) (more : List NumberedLine) → (l : NumberedLine) × (ls : List NumberedLine) × (cond t (line_at n at [] ∷ lines (n + 1) (at + 1) bs) (longer n at b more) ≡ l ∷ ls)
     by true more = (_, _, refl)
     by false [] = (_, _, refl)
     by false (l ∷ ls) = (_, _, refl)
 
-longer_more : (n at b : ℕ) (l : Line) (ls all more : List Line) → all ≡ l ∷ ls → longer n at b (all ++ more) ≡ longer n at b all ++ more
-longer_more n at b l ls all more e = subst (λ (ys : List Line). longer n at b (ys ++ more) ≡ longer n at b ys ++ more) (sym e) refl
+longer_more : (n at b : ℕ) (l : NumberedLine) (ls all more : List NumberedLine) → all ≡ l ∷ ls → longer n at b (all ++ more) ≡ longer n at b all ++ more
+longer_more n at b l ls all more e = subst (λ (ys : List NumberedLine). longer n at b (ys ++ more) ≡ longer n at b ys ++ more) (sym e) refl
 
 none_whole : (bytes : List ℕ) → has_line bytes ≡ false → whole_lines bytes ≡ []
 none_whole [] e = refl
@@ -128,7 +128,7 @@ split_more n at b bs h next here = by (b == 10) refl
     whole : whole_lines (b ∷ bs) ≡ b ∷ whole_lines bs
     whole = ap (λ t. cond t (b ∷ whole_lines bs) []) h
 
-    begun : List ℕ → Bool → List Line
+    begun : List ℕ → Bool → List NumberedLine
     begun xs t = cond t (line_at n at [] ∷ lines (n + 1) (at + 1) xs) (longer n at b (lines n (at + 1) xs))
 
     by : (t : Bool) → (b == 10) ≡ t → Split n at (b ∷ bs)
@@ -137,7 +137,7 @@ split_more n at b bs h next here = by (b == 10) refl
       place = next.place;
       line = next.line;
       lines_are = ap (begun (bs ++ 0 ∷ [])) e ∙ (ap (λ ls. line_at n at [] ∷ ls) next.lines_are
-          ∙ ap (λ (ls : List Line). ls ++ line_at next.number next.place (next.line ++ 0 ∷ []) ∷ []) (sym (ap (lines n at) whole ∙ ap (begun (whole_lines bs)) e)));
+          ∙ ap (λ (ls : List NumberedLine). ls ++ line_at next.number next.place (next.line ++ 0 ∷ []) ∷ []) (sym (ap (lines n at) whole ∙ ap (begun (whole_lines bs)) e)));
     }
     by false e =
         let w = some_whole bs (sym (ap (λ t. t || has_line bs) e) ∙ h) in
@@ -149,7 +149,7 @@ split_more n at b bs h next here = by (b == 10) refl
           line = here.line;
           lines_are = ap (begun (bs ++ 0 ∷ [])) e ∙ (ap (longer n at b) here.lines_are
               ∙ (longer_more n at b l.0 l.1 (lines n (at + 1) (whole_lines bs)) last (ap (lines n (at + 1)) w.2 ∙ l.2)
-              ∙ ap (λ (ls : List Line). ls ++ last) (sym (ap (lines n at) whole ∙ ap (begun (whole_lines bs)) e))));
+              ∙ ap (λ (ls : List NumberedLine). ls ++ last) (sym (ap (lines n at) whole ∙ ap (begun (whole_lines bs)) e))));
         }
 
 pub split : (n at : ℕ) (bytes : List ℕ) → Split n at bytes

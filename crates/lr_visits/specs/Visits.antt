@@ -41,8 +41,8 @@ SeesAs x sight.Dir = Sees x IsDir
 -- ---- names
 
 -- the names stand in order of bytes
-abbrev pub AreRising : List (List ℕ) → Type 0
-AreRising names = IsSortedByKey (λ name. name) (slice_cmp nat_cmp) names
+abbrev pub NamesRise : List (List ℕ) → Type 0
+NamesRise names = IsSortedByKey (λ name. name) (slice_cmp nat_cmp) names
 
 -- The directory was listed, and its names are these, in whatever order.
 pub record HasListed (dir : Path) (names : List (List ℕ)) (ts : List Entry) : Type 0 where
@@ -100,7 +100,7 @@ pub record ShowsText (x : Path) (room : ℕ) (told : List Told) (size : ℕ) (ho
 
 -- what a listing of the directory gave
 abbrev pub ShowsNames : Path → Visit → List Entry → Type 0
-ShowsNames x (visit.Holds names) ts = AreRising names × HasListed x names ts
+ShowsNames x (visit.Holds names) ts = NamesRise names × HasListed x names ts
 ShowsNames x visit.Unlisted ts = ts ≡ []
 ShowsNames x _ ts = ⊥
 
@@ -131,9 +131,9 @@ abbrev pub IsRead : Visit → Type 0
 IsRead (visit.Reads told size how) = Unit {0}
 IsRead _ = ⊥
 
-abbrev pub HasRoom : Option ℕ → Type 0
-HasRoom None = ⊥
-HasRoom (Some room) = Unit {0}
+abbrev pub RoomIsLeft : Option ℕ → Type 0
+RoomIsLeft None = ⊥
+RoomIsLeft (Some room) = Unit {0}
 
 -- a call failed
 abbrev pub HasFailed : Visit → Type 0

@@ -2,7 +2,7 @@
 use Rattle.std.specs.Prelude.{ℕ, zero, suc, List, [], ◌∷◌, ◌++◌, if◌then◌else◌}
 use Rattle.lr_lex.specs.declared.said.Said.{Said}
 use Rattle.lr_lex.specs.declared.said.Said.TheVariants as says
-use Rattle.lr_lex.specs.Lines.{Line, lines}
+use Rattle.lr_lex.specs.Lines.{NumberedLine, lines}
 use Rattle.lr_lex.specs.Pieces.{has_line}
 use Rattle.lr_lex.specs.Items.{Told, said, told, taken, ended}
 
@@ -12,12 +12,12 @@ whole_lines [] = []
 whole_lines (b ∷ bs) = if has_line (b ∷ bs) then (b ∷ whole_lines bs) else []
 
 -- what a line tells, with the lines behind it; nothing where it begins a script that none of them ends
-abbrev pub told_whole : ℕ → Said → List Line → List Told
+abbrev pub told_whole : ℕ → Said → List NumberedLine → List Told
 told_whole number (says.Script w brace stray) ls = if ended ls then told number (says.Script w brace stray) ls else []
 told_whole number s ls = told number s ls
 
 -- what the lines tell so, but for so many in front, which belong to a script
-abbrev pub whole_of : ℕ → List Line → List Told
+abbrev pub whole_of : ℕ → List NumberedLine → List Told
 whole_of skipped [] = []
 whole_of (suc skipped) (l ∷ ls) = whole_of skipped ls
 whole_of zero (l ∷ ls) = told_whole l.number (said l) ls ++ whole_of (taken (said l) ls) ls

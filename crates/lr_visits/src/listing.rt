@@ -5,7 +5,7 @@ ghost use Rattle.std.specs.Cmp.Lexicographic.{slice_cmp};
 ghost use Rattle.std.specs.List.Sorted.{IsPermutation};
 ghost use Rattle.lr_host.specs.declared.entry.Entry.TheVariants as entry;
 ghost use Rattle.lr_host.specs.Told.{Left, Are, Can, Onward, Rose};
-ghost use Rattle.lr_visits.specs.Visits.{AreRising, HasListed};
+ghost use Rattle.lr_visits.specs.Visits.{NamesRise, HasListed};
 
 use lr_host::{Host, ListFault};
 use lr_rules::{Listed, Path, Text};
@@ -20,7 +20,7 @@ fn by_bytes(a: &Text, b: &Text) -> Ordering
 
 fn sort_rising(names: &mut Vec<Text>)
     ensures same { IsPermutation names.old.items names.new.items }
-    ensures rising { AreRising names.new.items }
+    ensures rising { NamesRise names.new.items }
 {
     names.sort_unstable_by(|a, b| by_bytes(a, b));
 }
@@ -33,7 +33,7 @@ pub fn list_rising<H: Host>(
 ) -> Result<Listed<Text>, ListFault>
     requires list { Can (H.told host.old) (entry.List dir.now []) }
     ensures told { IfOk result (λ names. Left (HasListed dir.now names) (H.told host.old) (H.told host.new)) }
-    ensures rising { IfOk result AreRising }
+    ensures rising { IfOk result NamesRise }
     ensures stopped { IfErr result (λ fault. Left (Are []) (H.told host.old) (H.told host.new)) }
     ensures cause { result ≡ Err ListFault.Failed → Rose (H.counts host.old).faults (H.counts host.new).faults }
     ensures counts { Onward (H.counts host.old) (H.counts host.new) }

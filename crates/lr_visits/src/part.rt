@@ -4,7 +4,7 @@ ghost use Rattle.lr_host.specs.declared.entry.Entry.TheVariants as entry;
 ghost use Rattle.lr_host.specs.declared.journal.Journal.{Journal};
 ghost use Rattle.lr_host.specs.Told.{Left, Each, Can, Onward, Rose};
 ghost use Rattle.lr_visits.specs.Visits.{ShowsText, IsShortReadOf, PartText};
-ghost use Rattle.lr_visits.specs.Taken.{IsOpen, Brings, TookFrom, GoesOn};
+ghost use Rattle.lr_visits.specs.Taken.{IsUnclosed, ReadBrings, TookFrom, ReadGoesOn};
 ghost use Rattle.lr_visits.specs.declared.part.TextEnd.TheVariants as end;
 
 use crate::taking::Taking;
@@ -24,10 +24,10 @@ pub enum TextEnd {
 
 // Takes in what a read gave; how the reading ended by it, None where it goes on.
 fn take_in(taking: &mut Taking, piece: &[u8], room: usize) -> Result<Option<TextEnd>, Memory>
-    requires ready { IsOpen taking.old }
+    requires ready { IsUnclosed taking.old }
     requires size { taking.old.size ≤ room }
     requires within { taking.old.size + length piece.now < 2 ^ 32 }
-    ensures { IfOk result (Brings taking.old taking.new room piece.now) }
+    ensures { IfOk result (ReadBrings taking.old taking.new room piece.now) }
 {
     if piece.is_empty() {
         taking.finish()?;
@@ -62,15 +62,15 @@ fn read_on<H: Host>(
     buffer: &mut [u8],
     room: usize,
 ) -> Result<Option<TextEnd>, Memory>
-    requires ready { IsOpen taking.old }
+    requires ready { IsUnclosed taking.old }
     requires size { taking.old.size ≤ room }
     requires room { room + 1 < 2 ^ 32 }
     requires buffer { 0 < length buffer.old }
     requires short { length buffer.old ≤ 65536 }
     requires file { Can (H.told host.old) (entry.Reads path.now 0 []) }
     ensures told { IfOk result (λ how. (before : Option Journal) → TookFrom path.now taking.old before (H.told host.old)
-        → GoesOn path.now room taking.new before (H.told host.new) how) }
-    ensures more { result ≡ Ok None → IsOpen taking.new × (taking.new.size ≤ room) × (taking.old.size < taking.new.size) }
+        → ReadGoesOn path.now room taking.new before (H.told host.new) how) }
+    ensures more { result ≡ Ok None → IsUnclosed taking.new × (taking.new.size ≤ room) × (taking.old.size < taking.new.size) }
     ensures lacking { OnErr result ((before : Option Journal) → TookFrom path.now taking.old before (H.told host.old)
         → Left (PartText path.now room) before (H.told host.new)) }
     ensures only { Left (Each (IsShortReadOf path.now)) (H.told host.old) (H.told host.new) }
@@ -93,7 +93,7 @@ pub fn read_pieces<H: Host>(
     buffer: &mut [u8],
     room: usize,
 ) -> Result<TextEnd, Memory>
-    requires ready { IsOpen taking.old }
+    requires ready { IsUnclosed taking.old }
     requires size { taking.old.size ≤ room }
     requires room { room + 1 < 2 ^ 32 }
     requires buffer { 0 < length buffer.old }

@@ -2,8 +2,8 @@
 ghost use Rattle.std.specs.Prelude.{◌≡◌, ◌≤◌, ◌<◌, ◌+◌, ◌-◌, ◌^◌, ◌∷◌, ◌++◌, [], ℕ, List, true, false, Ok, take, length, IfOk};
 ghost use Rattle.std.specs.Prelude.{OnOk};
 ghost use Rattle.lr_lex.specs.Items.{items};
-ghost use Rattle.lr_stream.specs.Streams.{Stands, still, given, HasNone};
-ghost use Rattle.lr_visits.specs.Taken.{IsOpen, Keeps, Adds};
+ghost use Rattle.lr_stream.specs.Streams.{StreamStands, still, given, HoldsNone};
+ghost use Rattle.lr_visits.specs.Taken.{IsUnclosed, KeepsTold, AddsBytes};
 
 use lr_lex::{Item, LexFault, LexKind};
 use lr_rules::Memory;
@@ -44,7 +44,7 @@ fn is_memory(kind: LexKind) -> bool
 impl Taking {
     /// Nothing was read, and no memory is taken.
     pub fn new(alloc: Global) -> Taking
-        ensures ready { IsOpen result }
+        ensures ready { IsUnclosed result }
         ensures none { result.told.items ≡ [] }
         ensures text { (more : List ℕ) → still result.stream more ≡ items more }
         ensures size { result.size ≡ 0 }
@@ -67,11 +67,11 @@ impl Taking {
 
     // Takes in the next item or fault; false where nothing is whole.
     fn next(&mut self) -> Result<bool, Memory>
-        requires { Stands self.old.stream }
-        ensures stands { Stands self.new.stream }
-        ensures told { IfOk result (λ some. Keeps self.old self.new) }
+        requires { StreamStands self.old.stream }
+        ensures stands { StreamStands self.new.stream }
+        ensures told { IfOk result (λ some. KeepsTold self.old self.new) }
         ensures less { result ≡ Ok true → length (still self.new.stream []) < length (still self.old.stream []) }
-        ensures none { result ≡ Ok false → HasNone self.new.stream self.old.stream.closed }
+        ensures none { result ≡ Ok false → HoldsNone self.new.stream self.old.stream.closed }
         ensures closed { self.new.stream.closed ≡ self.old.stream.closed }
         ensures few { given self.new.stream ≤ given self.old.stream }
         ensures size { self.new.size ≡ self.old.size }
@@ -86,10 +86,10 @@ impl Taking {
 
     // Takes in all that is whole.
     fn take_whole(&mut self) -> Result<(), Memory>
-        requires { Stands self.old.stream }
-        ensures stands { Stands self.new.stream }
-        ensures told { OnOk result (Keeps self.old self.new) }
-        ensures none { OnOk result (HasNone self.new.stream self.old.stream.closed) }
+        requires { StreamStands self.old.stream }
+        ensures stands { StreamStands self.new.stream }
+        ensures told { OnOk result (KeepsTold self.old self.new) }
+        ensures none { OnOk result (HoldsNone self.new.stream self.old.stream.closed) }
         ensures closed { self.new.stream.closed ≡ self.old.stream.closed }
         ensures few { given self.new.stream ≤ given self.old.stream }
         ensures size { self.new.size ≡ self.old.size }
@@ -99,11 +99,11 @@ impl Taking {
     }
 
     fn give(&mut self, piece: &[u8]) -> Result<(), Memory>
-        requires ready { IsOpen self.old }
+        requires ready { IsUnclosed self.old }
         requires few { self.old.size + length piece.now < 2 ^ 32 }
-        ensures stands { Stands self.new.stream }
-        ensures told { OnOk result (Adds self.old self.new piece.now) }
-        ensures none { OnOk result (HasNone self.new.stream false) }
+        ensures stands { StreamStands self.new.stream }
+        ensures told { OnOk result (AddsBytes self.old self.new piece.now) }
+        ensures none { OnOk result (HoldsNone self.new.stream false) }
         ensures unclosed { self.new.stream.closed ≡ false }
         ensures few { OnOk result (given self.new.stream ≤ self.old.size + length piece.now) }
         ensures size { self.new.size ≡ self.old.size }
@@ -114,11 +114,11 @@ impl Taking {
 
     /// Takes in the bytes that follow, as far as there is room for them, with what is whole by them.
     pub fn take(&mut self, piece: &[u8], room: usize) -> Result<(), Memory>
-        requires ready { IsOpen self.old }
+        requires ready { IsUnclosed self.old }
         requires size { self.old.size ≤ room }
         requires within { self.old.size + length piece.now < 2 ^ 32 }
-        ensures ready { OnOk result (IsOpen self.new) }
-        ensures told { OnOk result (Adds self.old self.new (take (room - self.old.size) piece.now)) }
+        ensures ready { OnOk result (IsUnclosed self.new) }
+        ensures told { OnOk result (AddsBytes self.old self.new (take (room - self.old.size) piece.now)) }
         ensures size { OnOk result (self.new.size ≡ self.old.size + length piece.now) }
     {
         self.give(first(piece, room - self.size))?;
@@ -128,7 +128,7 @@ impl Taking {
 
     /// No bytes follow: takes in what is left.
     pub fn finish(&mut self) -> Result<(), Memory>
-        requires { IsOpen self.old }
+        requires { IsUnclosed self.old }
         ensures told { OnOk result (self.new.told.items ≡ self.old.told.items ++ still self.old.stream []) }
         ensures size { self.new.size ≡ self.old.size }
     {

@@ -2,7 +2,7 @@
 ghost use Rattle.std.specs.Prelude.{◌≡◌, ◌<◌, ◌+◌, ◌^◌, [], Some, IfOk, OnErr};
 ghost use Rattle.lr_host.specs.declared.entry.Entry.TheVariants as entry;
 ghost use Rattle.lr_host.specs.Told.{Left, Are, Can, Onward, Rose};
-ghost use Rattle.lr_visits.specs.Visits.{ShowsNames, ShowsBytes, ShowsDir, ShowsFile, ShowsVisit, IsRead, HasRoom, HasFailed};
+ghost use Rattle.lr_visits.specs.Visits.{ShowsNames, ShowsBytes, ShowsDir, ShowsFile, ShowsVisit, IsRead, RoomIsLeft, HasFailed};
 ghost use Rattle.lr_visits.specs.Visits.{PartText, PartFile, PartVisit};
 
 use crate::listing::list_rising;
@@ -96,7 +96,7 @@ fn in_file<H: Host>(
     requires room { (n : _) → room ≡ Some n → n + 1 < 2 ^ 32 }
     ensures told { IfOk result (λ v. Left (ShowsFile file.now room v) (H.told host.old) (H.told host.new)) }
     ensures lacking { OnErr result (Left (PartFile file.now room) (H.told host.old) (H.told host.new)) }
-    ensures read { IfOk result (λ v. IsRead v → HasRoom room) }
+    ensures read { IfOk result (λ v. IsRead v → RoomIsLeft room) }
     ensures cause { IfOk result (λ v. HasFailed v → Rose (H.counts host.old).faults (H.counts host.new).faults) }
     ensures counts { Onward (H.counts host.old) (H.counts host.new) }
 {
@@ -120,7 +120,7 @@ pub fn visit_path<H: Host>(
     requires { (n : _) → room ≡ Some n → n + 1 < 2 ^ 32 }
     ensures told { IfOk result (λ v. Left (ShowsVisit path.now lists room v) (H.told host.old) (H.told host.new)) }
     ensures lacking { OnErr result (Left (PartVisit path.now room) (H.told host.old) (H.told host.new)) }
-    ensures read { IfOk result (λ v. IsRead v → HasRoom room) }
+    ensures read { IfOk result (λ v. IsRead v → RoomIsLeft room) }
     ensures cause { IfOk result (λ v. HasFailed v → Rose (H.counts host.old).faults (H.counts host.new).faults) }
     ensures counts { Onward (H.counts host.old) (H.counts host.new) }
 {

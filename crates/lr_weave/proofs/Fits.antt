@@ -44,7 +44,7 @@ use Rattle.lr_laws_rotations.specs.Calls.{after_call, FitCalls, CanCalls, copy_c
 use Rattle.lr_laws_targets.specs.AllTurns.{AlsoDoes}
 use Rattle.lr_laws_targets.specs.Calls.{calls_of}
 use Rattle.lr_laws_rotations.specs.Steps.{unlinks}
-use Rattle.lr_laws_targets.specs.Target.{Target, source_of, transfer_of, rotation_of, IsJob}
+use Rattle.lr_laws_targets.specs.Target.{Target, source_of, transfer_of, target_entries, IsJob}
 use Rattle.lr_laws_targets.specs.Own.{ChangesOwn}
 use Rattle.lr_laws_targets.specs.Apart.{HasNames}
 use Rattle.lr_laws_targets.proofs.Own.{named_own, own_paths}
@@ -234,8 +234,8 @@ turn_asks t _ turn own = absurd turn
 
 module _ (t : Target) (h : HasNames t) where
   -- all its renames and unlinks
-  turns_ask : Each (Asks (NamesOf t)) (rotation_of t)
-  turns_ask = each_two IsTurn (ChangesOwn t.log t.naming) (Asks (NamesOf t)) (rotation_of t) (λ e turn own. turn_asks t e turn own) (rotation_turns t) (own_paths t h)
+  turns_ask : Each (Asks (NamesOf t)) (target_entries t)
+  turns_ask = each_two IsTurn (ChangesOwn t.log t.naming) (Asks (NamesOf t)) (target_entries t) (λ e turn own. turn_asks t e turn own) (rotation_turns t) (own_paths t h)
 
   -- those behind the leftovers' removals
   behind_leftovers : Each (Asks (NamesOf t)) (map move_step t.ready.moves ++ (transfer_of t.ready t.job t.aside ++ unlinks t.ready.retire))
@@ -317,8 +317,8 @@ far x t (entry.Renames from to) apart turn own = (λ i. apart (from, inl (i, inl
 far x t (entry.Unlinks y) apart turn own = λ i. apart (y, inl (i, inl (own y (inl refl))))
 far x t _ apart turn own = absurd turn
 
-pub rotation_far : {o : Option Journal} (x t : Target) → IsFit o t → (Meet x.log x.naming t.log t.naming → ⊥) → Each (Avoids (NamesOf x)) (rotation_of t)
-rotation_far x t fit apart = each_two IsTurn (ChangesOwn t.log t.naming) (Avoids (NamesOf x)) (rotation_of t) (λ e turn own. far x t e apart turn own) (rotation_turns t) (own_paths t fit.names)
+pub rotation_far : {o : Option Journal} (x t : Target) → IsFit o t → (Meet x.log x.naming t.log t.naming → ⊥) → Each (Avoids (NamesOf x)) (target_entries t)
+rotation_far x t fit apart = each_two IsTurn (ChangesOwn t.log t.naming) (Avoids (NamesOf x)) (target_entries t) (λ e turn own. far x t e apart turn own) (rotation_turns t) (own_paths t fit.names)
 
 -- nor is the directory that it makes
 pub made_far : (x t : Target) → HasNames t → (Meet x.log x.naming t.log t.naming → ⊥) → (y : Path) (mode : Option ℕ) → AlsoDoes t (entry.MakesDir y mode) → NamesOf x y → ⊥
@@ -329,10 +329,10 @@ made_far x t h apart y mode made i = apart (y, inl (i, inr (h.dir y made.0 made.
 pub fit_later : (x : Target) {P : List Entry → Type 0} {o m : Option Journal} → IsFit o x → Left P o m → ((ts : List Entry) → P ts → Each (Avoids (NamesOf x)) (filter is_naming ts)) → IsFit m x
 fit_later x fit left f = record { names = fit.names; fits = can_far (NamesOf x) (calls_of x) (calls_ask x fit.names) fit.fits left f; anew = makes_later x.log None left fit.anew }
 
-begun_far : {o : Option Journal} (x t : Target) (ts : List Entry) → IsFit o t → (Meet x.log x.naming t.log t.naming → ⊥) → Begun (AlsoDoes t) (rotation_of t) ts → Each (Avoids (NamesOf x)) (filter is_naming ts)
+begun_far : {o : Option Journal} (x t : Target) (ts : List Entry) → IsFit o t → (Meet x.log x.naming t.log t.naming → ⊥) → Begun (AlsoDoes t) (target_entries t) ts → Each (Avoids (NamesOf x)) (filter is_naming ts)
 begun_far x t ts fit apart b = naming_avoids (NamesOf x) (AlsoDoes t) ts (each_first (Avoids (NamesOf x)) (filter takes_name ts) b.first.0 (subst (Each (Avoids (NamesOf x))) b.first.1 (rotation_far x t fit apart))) b.only (made_far x t fit.names apart)
 
-all_later : (t : Target) (xs : List Target) {P : List Entry → Type 0} {o m : Option Journal} → IsFit o t → NoneMeets t xs → AreFit o xs → Left P o m → ((ts : List Entry) → P ts → Begun (AlsoDoes t) (rotation_of t) ts) → AreFit m xs
+all_later : (t : Target) (xs : List Target) {P : List Entry → Type 0} {o m : Option Journal} → IsFit o t → NoneMeets t xs → AreFit o xs → Left P o m → ((ts : List Entry) → P ts → Begun (AlsoDoes t) (target_entries t) ts) → AreFit m xs
 all_later t [] fit none fits left f = tt
 all_later t (x ∷ xs) fit none fits left f = (fit_later x fits.0 left (λ ts p. begun_far x t ts fit none.0 (f ts p)), all_later t xs fit none.1 fits.1 left f)
 

@@ -17,7 +17,7 @@ use Rattle.lr_plan.specs.Course.{Course}
 use Rattle.lr_plan.specs.Done.{EachDone, is_rotated, if_rotated, SetDone, broke_off, went_on, SetsDone}
 use Rattle.lr_plan.specs.Outcomes.{Succeeds, Fails, marks_of}
 use Rattle.lr_weave.proofs.Allowed.{HasAll, Allowed, AllowsMore}
-use Rattle.lr_weave.specs.Parts.{takes_name, change_of, IsPlain}
+use Rattle.lr_weave.specs.Parts.{takes_name, change_of, IsPlainStep}
 use Rattle.lr_weave.proofs.Parting.{went_changes, failed_changes, went_only, failed_only, each_change}
 
 pub has_front : (xs ys : List Mark) → HasAll (xs ++ ys) xs
@@ -34,7 +34,7 @@ has_on a b c f g m i = f m (g m i)
 
 -- P holds of each change that the step may leave
 abbrev pub IsGuarded : (Entry → Type 0) → Step → Type 0
-IsGuarded P s = IsPlain P s × Each P (change_of s)
+IsGuarded P s = IsPlainStep P s × Each P (change_of s)
 
 -- so of each of these steps, with the marks of those before it
 abbrev pub AreGuarded : Allowed → List Mark → List Step → Type 0

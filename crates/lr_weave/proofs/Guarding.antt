@@ -27,9 +27,9 @@ use Rattle.lr_plan.specs.Done.{SetsDone}
 use Rattle.lr_plan.specs.Outcomes.{marks_of}
 use Rattle.lr_plan.specs.Steps.{program, removals, directory, move, transfer, made_anew, rotation_of as rotation, retirement_of as retirement, steps_of_log, shared_steps, by_logs, steps_of_set}
 use Rattle.lr_laws_targets.specs.AllTurns.{AlsoDoes, IsOf}
-use Rattle.lr_laws_targets.specs.Target.{Target, rotation_of}
+use Rattle.lr_laws_targets.specs.Target.{Target, target_entries}
 use Rattle.lr_weave.proofs.Allowed.{HasAll, Allowed, AllowsMore, AllowsLog}
-use Rattle.lr_weave.specs.Parts.{change_of, changes_by, IsPlain, ArePlain}
+use Rattle.lr_weave.specs.Parts.{change_of, changes_by, IsPlainStep, ArePlain}
 use Rattle.lr_weave.specs.Planned.{bare_removal, IsReadyFor, AreReadyFor, HaveLogs}
 use Rattle.lr_weave.proofs.Guarded.{has_front, has_back, has_on, IsGuarded, AreGuarded, EachGuarded, IsGuardedSet, AreGuardedSets, sets_guarded}
 use Rattle.lr_weave.proofs.Halves.{front_of, back_of, halves}
@@ -37,7 +37,7 @@ use Rattle.lr_weave.proofs.Planning.{dir_is, each_every, front_is, back_is, fron
 
 -- ---- steps of one log
 
-plain_as : (P Q : Entry → Type 0) (s : Step) → ((e : Entry) → P e → Q e) → IsPlain P s → IsPlain Q s
+plain_as : (P Q : Entry → Type 0) (s : Step) → ((e : Entry) → P e → Q e) → IsPlainStep P s → IsPlainStep Q s
 plain_as P Q (step.Creates path mode) f i = f (entry.Makes path mode) i
 plain_as P Q (step.MakesDir path mode) f i = f (entry.MakesDir path mode) i
 plain_as P Q (step.Takes path mode) f i = f (entry.Makes path mode) i
@@ -48,10 +48,10 @@ plain_as P Q _ f i = tt
 
 -- the entry is one of the renames and unlinks of the rotation
 abbrev IsTurnOf : Target → Entry → Type 0
-IsTurnOf t e = IsIn e (rotation_of t)
+IsTurnOf t e = IsIn e (target_entries t)
 
-all_turns : (t : Target) → Each (IsTurnOf t) (rotation_of t)
-all_turns t = each_every (IsTurnOf t) (rotation_of t) (λ e i. i)
+all_turns : (t : Target) → Each (IsTurnOf t) (target_entries t)
+all_turns t = each_every (IsTurnOf t) (target_entries t) (λ e i. i)
 
 front_turns : (t : Target) (log : LogPlan) → IsReadyFor t log → Each (IsTurnOf t) (changes_by (rotation log))
 front_turns t log r = subst (Each (IsTurnOf t)) (sym (front_is t log r)) (each_first (IsTurnOf t) (front_of t) (back_of t) (subst (Each (IsTurnOf t)) (sym (halves t)) (all_turns t)))

@@ -10,7 +10,7 @@ use Rattle.lr_chain.specs.Ready.{move_step, dir_calls}
 use Rattle.lr_laws_rotations.specs.Calls.{copy_calls}
 use Rattle.lr_laws_rotations.specs.Steps.{unlinks}
 use Rattle.lr_laws_targets.specs.Calls.{transfer_calls, calls_of}
-use Rattle.lr_laws_targets.specs.Target.{Target, transfer_of, rotation_of}
+use Rattle.lr_laws_targets.specs.Target.{Target, transfer_of, target_entries}
 
 -- ---- its changes of names
 
@@ -41,7 +41,7 @@ back_of t = letting_go t.job t.aside ++ unlinks t.ready.retire
 both_on : (first last whole rest : List Entry) → first ++ last ≡ whole → first ++ (last ++ rest) ≡ whole ++ rest
 both_on first last whole rest e = sym (append_assoc first last rest) ∙ ap (λ es. es ++ rest) e
 
-pub halves : (t : Target) → front_of t ++ back_of t ≡ rotation_of t
+pub halves : (t : Target) → front_of t ++ back_of t ≡ target_entries t
 halves t =
     append_assoc (unlinks t.ready.leftovers) (map move_step t.ready.moves ++ own_way t.ready t.job t.aside) (back_of t)
     ∙ ap (λ es. unlinks t.ready.leftovers ++ es) (append_assoc (map move_step t.ready.moves) (own_way t.ready t.job t.aside) (back_of t)

@@ -29,9 +29,9 @@ use Rattle.lr_plan.specs.Outcomes.{Succeeds, Fails, badly, not_run, maybe_run}
 use Rattle.lr_plan.specs.Course.{Course}
 use Rattle.lr_plan.specs.Cut.{CourseCut, ListCut, LogsCut, in_each, in_last, SetCut, in_first, in_logs, SetsCut}
 use Rattle.lr_plan.specs.Done.{EachDone, LogsDone, is_rotated, if_rotated, SetDone, broke_off, went_on, SetsDone}
-use Rattle.lr_weave.specs.Parts.{takes_name, change_of, changes_by, IsPlain, ArePlain, EachPlain, IsPlainSet, ArePlainSets, MakesOnly, MakesOne, parts_of_set, parts_of_sets, FirstParts, AllOf, ArePlanned}
-use Rattle.lr_weave.specs.Planned.{NoneHas, AreApart}
-use Rattle.lr_laws_targets.specs.Target.{Target, rotation_of}
+use Rattle.lr_weave.specs.Parts.{takes_name, change_of, changes_by, IsPlainStep, ArePlain, EachPlain, IsPlainSet, ArePlainSets, MakesOnly, MakesOne, parts_of_set, parts_of_sets, FirstParts, AllOf, ArePlanned}
+use Rattle.lr_weave.specs.Planned.{NoneHas, LogsDiffer}
+use Rattle.lr_laws_targets.specs.Target.{Target, target_entries}
 use Rattle.lr_laws_targets.specs.AllTurns.{AlsoDoes, IsOf, IsOfSome, IsOfOther, IsOfState, StandsBetween}
 use Rattle.lr_laws_targets.specs.Runs.{AllTurnsBy}
 use Rattle.lr_laws_targets.specs.Seen.{AreLogsSeen}
@@ -50,7 +50,7 @@ bytes_none from to limit count ts w = none_pass takes_name ts (each_all (λ e. t
 broke_none : (from to : Path) (limit : ℕ) (why : BytesStop) (ts : List Entry) → BytesBroke from to limit why ts → filter takes_name ts ≡ []
 broke_none from to limit why ts w = none_pass takes_name ts (each_broke (λ e. takes_name e ≡ false) from to (λ k piece short. refl) (λ piece. refl) limit why ts w)
 
-pub went_changes : (P : Entry → Type 0) (s : Step) (ts : List Entry) → IsPlain P s → Succeeds s ts → filter takes_name ts ≡ change_of s
+pub went_changes : (P : Entry → Type 0) (s : Step) (ts : List Entry) → IsPlainStep P s → Succeeds s ts → filter takes_name ts ≡ change_of s
 went_changes P (step.Runs phase on command) ts i w = changes_are ts _ w
 went_changes P (step.Removes path) ts i w = changes_are ts _ w
 went_changes P (step.Renames from to) ts i w = changes_are ts _ w
@@ -67,7 +67,7 @@ went_changes P _ ts i w = absurd i
 maybe_first : (e : Entry) (ts : List Entry) → (ts ≡ []) ⊎ (ts ≡ e ∷ []) → IsFirstOf (filter takes_name (e ∷ [])) (filter takes_name ts)
 maybe_first e ts h = ⊎_elim (λ nothing. (filter takes_name (e ∷ []), sym (ap (λ us. us ++ filter takes_name (e ∷ [])) (changes_are ts [] nothing)))) (λ one. ([], sym (append-nil (filter takes_name ts) ∙ changes_are ts (e ∷ []) one))) h
 
-pub failed_changes : (P : Entry → Type 0) (s : Step) (f : Fault) (ts : List Entry) → IsPlain P s → Fails s f ts → IsFirstOf (change_of s) (filter takes_name ts)
+pub failed_changes : (P : Entry → Type 0) (s : Step) (f : Fault) (ts : List Entry) → IsPlainStep P s → Fails s f ts → IsFirstOf (change_of s) (filter takes_name ts)
 failed_changes P (step.Runs phase on command) f ts i (badly end ne is one) = ([], sym (append-nil (filter takes_name ts) ∙ changes_are ts _ one))
 failed_changes P (step.Runs phase on command) f ts i (not_run is nothing) = ([], sym (append-nil (filter takes_name ts) ∙ changes_are ts [] nothing))
 failed_changes P (step.Runs phase on command) f ts i (maybe_run end is one) = ([], sym (append-nil (filter takes_name ts) ∙ changes_are ts _ one))
@@ -96,7 +96,7 @@ one_only P e ts i is = subst (Each (MakesOnly P)) (sym is) (i, tt)
 maybe_only : (P : Entry → Type 0) (e : Entry) (ts : List Entry) → MakesOnly P e → (ts ≡ []) ⊎ (ts ≡ e ∷ []) → Each (MakesOnly P) ts
 maybe_only P e ts i h = ⊎_elim (λ none. none_only P ts none) (λ one. one_only P e ts i one) h
 
-pub went_only : (P : Entry → Type 0) (s : Step) (ts : List Entry) → IsPlain P s → Succeeds s ts → Each (MakesOnly P) ts
+pub went_only : (P : Entry → Type 0) (s : Step) (ts : List Entry) → IsPlainStep P s → Succeeds s ts → Each (MakesOnly P) ts
 went_only P (step.Runs phase on command) ts i w = one_only P _ ts tt w
 went_only P (step.Removes path) ts i w = one_only P (entry.Unlinks path) ts tt w
 went_only P (step.Renames from to) ts i w = one_only P (entry.Renames from to) ts tt w
@@ -110,7 +110,7 @@ went_only P (step.SyncsDir path) ts i w = one_only P (entry.SyncsDir path) ts tt
 went_only P (step.Rotated log) ts i w = none_only P ts w
 went_only P _ ts i w = absurd i
 
-pub failed_only : (P : Entry → Type 0) (s : Step) (f : Fault) (ts : List Entry) → IsPlain P s → Fails s f ts → Each (MakesOnly P) ts
+pub failed_only : (P : Entry → Type 0) (s : Step) (f : Fault) (ts : List Entry) → IsPlainStep P s → Fails s f ts → Each (MakesOnly P) ts
 failed_only P (step.Runs phase on command) f ts i (badly end ne is one) = one_only P _ ts tt one
 failed_only P (step.Runs phase on command) f ts i (not_run is nothing) = none_only P ts nothing
 failed_only P (step.Runs phase on command) f ts i (maybe_run end is one) = one_only P _ ts tt one
@@ -415,14 +415,14 @@ none_has log (x ∷ xs) t n (inl is) = subst (λ (y : Target). y.log ≢ log) is
 none_has log (x ∷ xs) t n (inr i) = none_has log xs t n.1 i
 
 -- of logs of which none stands twice
-one_log : (ts : List Target) (x t : Target) → AreApart ts → IsIn x ts → IsIn t ts → x.log ≡ t.log → x ≡ t
+one_log : (ts : List Target) (x t : Target) → LogsDiffer ts → IsIn x ts → IsIn t ts → x.log ≡ t.log → x ≡ t
 one_log [] x t a i j same = absurd i
 one_log (y ∷ ys) x t a (inl is) (inl it) same = sym is ∙ it
 one_log (y ∷ ys) x t a (inl is) (inr j) same = absurd (none_has y.log ys t a.0 j (sym (ap (λ (z : Target). z.log) is ∙ same)))
 one_log (y ∷ ys) x t a (inr i) (inl it) same = absurd (none_has y.log ys x a.0 i (same ∙ sym (ap (λ (z : Target). z.log) it)))
 one_log (y ∷ ys) x t a (inr i) (inr j) same = one_log ys x t a.1 i j same
 
-pub made_between : (state : Path) (ts : List Target) (t : Target) → AreApart ts → IsIn t ts → (e : Entry) → MakesOne ts e → StandsBetween state t ts e
+pub made_between : (state : Path) (ts : List Target) (t : Target) → LogsDiffer ts → IsIn t ts → (e : Entry) → MakesOne ts e → StandsBetween state t ts e
 made_between state ts t a i e h = go (bytes_eq by.0.log t.log) refl
   where
     by : (x : Target) × IsIn x ts × AlsoDoes x e
@@ -455,7 +455,7 @@ turns_by state clock rules looks targets sets ts quiet seen planned f = record {
   all = each_as (IsOfSome targets) (λ e. IsOfSome targets e ⊎ IsOfState state e) (filter is_change ts) (λ e h. inl h) (changes_of_some targets sets ts planned f);
   each = λ t i.
       let o = planned.each t i in
-      let w = one_part (IsOfOther t.log targets) (rotation_of t) o.before o.part o.after (filter takes_name ts) o.first o.woven o.rest (subst (λ ps. FirstParts ps (filter takes_name ts)) o.parts_are f.first) in
+      let w = one_part (IsOfOther t.log targets) (target_entries t) o.before o.part o.after (filter takes_name ts) o.first o.woven o.rest (subst (λ ps. FirstParts ps (filter takes_name ts)) o.parts_are f.first) in
       record {
         made = w.made;
         first = w.first;

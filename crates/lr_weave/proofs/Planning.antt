@@ -28,12 +28,12 @@ use Rattle.lr_plan.specs.Asking.{asks}
 use Rattle.lr_plan.specs.Steps.{on_of, program, removal, removals, directory, move, step_if, copy, transfer, anew, made_anew, rotation_of as rotation, finishing, retirement_of as retirement, steps_of_log, shared_steps, by_logs, steps_of_set}
 use Rattle.lr_laws_family.specs.Weave.{Weave}
 use Rattle.lr_laws_rotations.specs.Steps.{unlinks}
-use Rattle.lr_laws_targets.specs.Target.{Target, source_by, HasWay, rotation_of, IsJob, HasJob}
+use Rattle.lr_laws_targets.specs.Target.{Target, source_by, HasWay, target_entries, IsJob, TargetHasJob}
 use Rattle.lr_laws_targets.specs.AllTurns.{AlsoDoes, IsOf, IsOfSome, IsOfOther}
 use Rattle.lr_laws_targets.proofs.Rotating.{two}
 use Rattle.lr_laws_family.proofs.Weaving.{weave_on, weave_own, weave_others}
 use Rattle.lr_weave.specs.Parts.{change_of, changes_by, ArePlain, EachPlain, IsPlainSet, ArePlainSets, MakesOne, parts_of_set, parts_of_sets, AllOf, InOnePart, ArePlanned}
-use Rattle.lr_weave.specs.Planned.{bare_removal, bare, IsReadyFor, AreReadyFor, HaveLogs, NoneHas, AreApart}
+use Rattle.lr_weave.specs.Planned.{bare_removal, bare, IsReadyFor, AreReadyFor, HaveLogs, NoneHas, LogsDiffer}
 use Rattle.lr_weave.proofs.Halves.{own_way, letting_go, front_of, back_of, halves, own_calls, letting_calls, front_calls}
 use Rattle.lr_weave.proofs.Parting.{none_has, of_other}
 
@@ -181,7 +181,7 @@ back_is t log r =
     retirement_by change_of (λ p on c. refl) (λ x. refl) (λ x y. refl) (λ x mode. refl) (λ x. refl) (λ x mode. []) (λ x mode. refl) log (letting_go log.job log.aside) (finishing_is log.job log.aside)
     ∙ two (by_both t log letting_go r) (retired_as t log r)
 
-pub log_is : (t : Target) (log : LogPlan) → IsReadyFor t log → changes_by (steps_of_log log) ≡ rotation_of t
+pub log_is : (t : Target) (log : LogPlan) → IsReadyFor t log → changes_by (steps_of_log log) ≡ target_entries t
 log_is t log r = log_by change_of (λ p on c. refl) (λ x. refl) (λ x y. refl) (λ x mode. refl) (λ x. refl) (λ x mode. []) (λ x mode. refl) log (front_of t) (back_of t) (front_is t log r) (back_is t log r) ∙ halves t
 
 -- ---- and their calls
@@ -298,10 +298,10 @@ cut_from t job (inr (asked, inl aside)) shape is cut = absurd (cut_none job asid
 cut_from t job (inr (asked, inr taken)) shape is cut = absurd (let none : None ≡ Some job = sym taken.no_job ∙ is in cc)
 
 -- the copy that there is, if any
-own_copy_plain : (P : Entry → Type 0) (t : Target) (job : Job) → OfMaking P t → HasWay t → HasJob t → t.job ≡ Some job → ArePlain P (copy job)
+own_copy_plain : (P : Entry → Type 0) (t : Target) (job : Job) → OfMaking P t → HasWay t → TargetHasJob t → t.job ≡ Some job → ArePlain P (copy job)
 own_copy_plain P t job h way shape is = copy_plain P t job job.stale job.cut h is (λ cut. (cut_from t job way (shape job is) is cut, cut))
 
-transfer_plain : (P : Entry → Type 0) (t : Target) (from target : Path) (j : Option Job) (a : Option Path) → OfMaking P t → HasWay t → HasJob t → t.job ≡ j → ArePlain P (transfer from target j a)
+transfer_plain : (P : Entry → Type 0) (t : Target) (from target : Path) (j : Option Job) (a : Option Path) → OfMaking P t → HasWay t → TargetHasJob t → t.job ≡ j → ArePlain P (transfer from target j a)
 transfer_plain P t from target None a h way shape is = (tt, tt)
 transfer_plain P t from target (Some job) None h way shape is = own_copy_plain P t job h way shape is
 transfer_plain P t from target (Some job) (Some path) h way shape is = (tt, (tt, tt))
@@ -323,7 +323,7 @@ front_plain P t log h r =
     (plain_on P (transfer log.ready.log log.ready.target log.job log.aside) _ (transfer_plain P t log.ready.log log.ready.target log.job log.aside h r.way r.job (sym r.job_is))
     (tt, anew_plain P t log.log log.ready.make log.job log.aside h r.log_is))))
 
-finishing_plain : (P : Entry → Type 0) (t : Target) (j : Option Job) (a : Option Path) → OfMaking P t → HasWay t → HasJob t → t.job ≡ j → ArePlain P (finishing j a)
+finishing_plain : (P : Entry → Type 0) (t : Target) (j : Option Job) (a : Option Path) → OfMaking P t → HasWay t → TargetHasJob t → t.job ≡ j → ArePlain P (finishing j a)
 finishing_plain P t None a h way shape is = tt
 finishing_plain P t (Some job) None h way shape is = tt
 finishing_plain P t (Some job) (Some path) h way shape is = plain_on P (copy job) (step.Removes path ∷ []) (own_copy_plain P t job h way shape is) (tt, tt)
@@ -357,11 +357,11 @@ backs P [] (log ∷ logs) m r = absurd r
 backs P (t ∷ ts) [] m r = absurd r
 backs P (t ∷ ts) (log ∷ logs) m r = let h = backs P ts logs m.1 r.1 in (on (retirement log) (flat_map retirement logs) ∙ two (back_is t log r.0) h.0, plain_on P (retirement log) (flat_map retirement logs) (back_plain P t log m.0 r.0) h.1)
 
-eachs : (P : Entry → Type 0) (ts : List Target) (logs : List LogPlan) → OfMakings P ts → AreReadyFor ts logs → (map changes_by (map steps_of_log logs) ≡ map rotation_of ts) × EachPlain P (map steps_of_log logs)
+eachs : (P : Entry → Type 0) (ts : List Target) (logs : List LogPlan) → OfMakings P ts → AreReadyFor ts logs → (map changes_by (map steps_of_log logs) ≡ map target_entries ts) × EachPlain P (map steps_of_log logs)
 eachs P [] [] m r = (refl, tt)
 eachs P [] (log ∷ logs) m r = absurd r
 eachs P (t ∷ ts) [] m r = absurd r
-eachs P (t ∷ ts) (log ∷ logs) m r = let h = eachs P ts logs m.1 r.1 in (ap (λ x. x ∷ map changes_by (map steps_of_log logs)) (log_is t log r.0) ∙ ap (λ xs. rotation_of t ∷ xs) h.0, (log_plain P t log m.0 r.0, h.1))
+eachs P (t ∷ ts) (log ∷ logs) m r = let h = eachs P ts logs m.1 r.1 in (ap (λ x. x ∷ map changes_by (map steps_of_log logs)) (log_is t log r.0) ∙ ap (λ xs. target_entries t ∷ xs) h.0, (log_plain P t log m.0 r.0, h.1))
 
 shared_is : (P : Entry → Type 0) (set : SetPlan) (ts : List Target) → OfMakings P ts → AreReadyFor ts set.logs → (changes_by (shared_steps set) ≡ flat_map front_of ts ++ flat_map back_of ts) × ArePlain P (shared_steps set)
 shared_is P set ts m r = (
@@ -380,7 +380,7 @@ shared_is P set ts m r = (
 -- the parts of a definition's changes: those of all its logs in one, or each log's in its own
 pub data ArePartsOf (ts : List Target) (ps : List (List Entry)) : Type 0 where
   together : ps ≡ (flat_map front_of ts ++ flat_map back_of ts) ∷ [] ∷ [] → ArePartsOf ts ps
-  by_logs_each : ps ≡ [] ∷ (map rotation_of ts ++ [] ∷ []) → ArePartsOf ts ps
+  by_logs_each : ps ≡ [] ∷ (map target_entries ts ++ [] ∷ []) → ArePartsOf ts ps
 
 three : (a a' : List Entry) (b b' : List (List Entry)) (c c' : List Entry) → a ≡ a' → b ≡ b' → c ≡ c' → a ∷ (b ++ c ∷ []) ≡ a' ∷ (b' ++ c' ∷ [])
 three a a' b b' c c' p q r = ap (λ x. x ∷ (b ++ c ∷ [])) p ∙ (ap (λ x. a' ∷ (x ++ c ∷ [])) q ∙ ap (λ x. a' ∷ (b' ++ x ∷ [])) r)
@@ -393,13 +393,13 @@ set_is P set ts m r = go set.shared set.logs r
     no_logs (u ∷ us) q = absurd q
 
     go : (shared : Bool) (logs : List LogPlan) → AreReadyFor ts logs → ArePartsOf ts (parts_of_set (by_logs shared logs set)) × IsPlainSet P (by_logs shared logs set)
-    go shared [] q = (by_logs_each (ap (λ (us : List Target). [] ∷ (map rotation_of us ++ [] ∷ [])) (sym (no_logs ts q))), record { first = tt; each = tt; last = tt })
+    go shared [] q = (by_logs_each (ap (λ (us : List Target). [] ∷ (map target_entries us ++ [] ∷ [])) (sym (no_logs ts q))), record { first = tt; each = tt; last = tt })
     go true (log ∷ logs) q = (
       together (three (changes_by (shared_steps set)) (flat_map front_of ts ++ flat_map back_of ts) [] [] [] [] (shared_is P set ts m r).0 refl refl),
       record { first = (shared_is P set ts m r).1; each = tt; last = tt },
     )
     go false (log ∷ logs) q = (
-      by_logs_each (three (changes_by (program phase.First set.first)) [] (map changes_by (map steps_of_log set.logs)) (map rotation_of ts) (changes_by (program phase.Last set.last)) [] (program_none phase.First set.first) (eachs P ts set.logs m r).0 (program_none phase.Last set.last)),
+      by_logs_each (three (changes_by (program phase.First set.first)) [] (map changes_by (map steps_of_log set.logs)) (map target_entries ts) (changes_by (program phase.Last set.last)) [] (program_none phase.First set.first) (eachs P ts set.logs m r).0 (program_none phase.Last set.last)),
       record { first = program_plain P phase.First set.first; each = (eachs P ts set.logs m r).1; last = program_plain P phase.Last set.last },
     )
 
@@ -421,21 +421,21 @@ each_end P (x ∷ xs) ys a = each_end P xs ys a.1
 -- P holds of all steps of these logs
 abbrev pub AllLogs : (Entry → Type 0) → List Target → Type 0
 AllLogs P [] = Unit {0}
-AllLogs P (t ∷ ts) = Each P (rotation_of t) × AllLogs P ts
+AllLogs P (t ∷ ts) = Each P (target_entries t) × AllLogs P ts
 
 -- or of all but this log's
 abbrev AllBut : (Entry → Type 0) → Path → List Target → Type 0
 AllBut P log [] = Unit {0}
-AllBut P log (t ∷ ts) = (t.log ≢ log → Each P (rotation_of t)) × AllBut P log ts
+AllBut P log (t ∷ ts) = (t.log ≢ log → Each P (target_entries t)) × AllBut P log ts
 
 all_of : (P : Entry → Type 0) (log : Path) (ts : List Target) → NoneHas log ts → AllBut P log ts → AllLogs P ts
 all_of P log [] n a = tt
 all_of P log (t ∷ ts) n a = (a.0 n.0, all_of P log ts n.1 a.1)
 
-in_front : (P : Entry → Type 0) (t : Target) → Each P (rotation_of t) → Each P (front_of t)
+in_front : (P : Entry → Type 0) (t : Target) → Each P (target_entries t) → Each P (front_of t)
 in_front P t a = each_first P (front_of t) (back_of t) (subst (Each P) (sym (halves t)) a)
 
-in_back : (P : Entry → Type 0) (t : Target) → Each P (rotation_of t) → Each P (back_of t)
+in_back : (P : Entry → Type 0) (t : Target) → Each P (target_entries t) → Each P (back_of t)
 in_back P t a = each_end P (front_of t) (back_of t) (subst (Each P) (sym (halves t)) a)
 
 flat_fronts : (P : Entry → Type 0) (ts : List Target) → AllLogs P ts → Each P (flat_map front_of ts)
@@ -446,7 +446,7 @@ flat_backs : (P : Entry → Type 0) (ts : List Target) → AllLogs P ts → Each
 flat_backs P [] a = tt
 flat_backs P (t ∷ ts) a = each_append P (back_of t) (flat_map back_of ts) (in_back P t a.0) (flat_backs P ts a.1)
 
-map_all : (P : Entry → Type 0) (ts : List Target) → AllLogs P ts → AllOf P (map rotation_of ts)
+map_all : (P : Entry → Type 0) (ts : List Target) → AllLogs P ts → AllOf P (map target_entries ts)
 map_all P [] a = tt
 map_all P (t ∷ ts) a = (a.0, map_all P ts a.1)
 
@@ -457,17 +457,17 @@ all_on P (p ∷ ps) qs a b = (a.0, all_on P ps qs a.1 b)
 -- a definition without the log
 pub set_out : (P : Entry → Type 0) (ts : List Target) (ps : List (List Entry)) → ArePartsOf ts ps → AllLogs P ts → AllOf P ps
 set_out P ts ps (together e) a = subst (AllOf P) (sym e) (each_append P (flat_map front_of ts) (flat_map back_of ts) (flat_fronts P ts a) (flat_backs P ts a), (tt, tt))
-set_out P ts ps (by_logs_each e) a = subst (AllOf P) (sym e) (tt, all_on P (map rotation_of ts) ([] ∷ []) (map_all P ts a) (tt, tt))
+set_out P ts ps (by_logs_each e) a = subst (AllOf P) (sym e) (tt, all_on P (map target_entries ts) ([] ∷ []) (map_all P ts a) (tt, tt))
 
 own_first : (P : Entry → Type 0) (xs ys : List Entry) → Each P ys → Weave P xs (xs ++ ys)
 own_first P xs ys a = subst (λ os. Weave P os (xs ++ ys)) (append-nil xs) (weave_on P xs xs [] ys (weave_own P xs) (weave_others P ys a))
 
-weave_fronts : (P : Entry → Type 0) (ts : List Target) (t : Target) → IsIn t ts → AreApart ts → AllBut P t.log ts → Weave P (front_of t) (flat_map front_of ts)
+weave_fronts : (P : Entry → Type 0) (ts : List Target) (t : Target) → IsIn t ts → LogsDiffer ts → AllBut P t.log ts → Weave P (front_of t) (flat_map front_of ts)
 weave_fronts P [] t i ap a = absurd i
 weave_fronts P (x ∷ xs) t (inl is) ap a = subst (λ (y : Target). AllBut P y.log xs → Weave P (front_of y) (front_of x ++ flat_map front_of xs)) is (λ b. own_first P (front_of x) (flat_map front_of xs) (flat_fronts P xs (all_of P x.log xs ap.0 b))) a.1
 weave_fronts P (x ∷ xs) t (inr i) ap a = weave_on P [] (front_of x) (front_of t) (flat_map front_of xs) (weave_others P (front_of x) (in_front P x (a.0 (λ e. none_has x.log xs t ap.0 i (sym e))))) (weave_fronts P xs t i ap.1 a.1)
 
-weave_backs : (P : Entry → Type 0) (ts : List Target) (t : Target) → IsIn t ts → AreApart ts → AllBut P t.log ts → Weave P (back_of t) (flat_map back_of ts)
+weave_backs : (P : Entry → Type 0) (ts : List Target) (t : Target) → IsIn t ts → LogsDiffer ts → AllBut P t.log ts → Weave P (back_of t) (flat_map back_of ts)
 weave_backs P [] t i ap a = absurd i
 weave_backs P (x ∷ xs) t (inl is) ap a = subst (λ (y : Target). AllBut P y.log xs → Weave P (back_of y) (back_of x ++ flat_map back_of xs)) is (λ b. own_first P (back_of x) (flat_map back_of xs) (flat_backs P xs (all_of P x.log xs ap.0 b))) a.1
 weave_backs P (x ∷ xs) t (inr i) ap a = weave_on P [] (back_of x) (back_of t) (flat_map back_of xs) (weave_others P (back_of x) (in_back P x (a.0 (λ e. none_has x.log xs t ap.0 i (sym e))))) (weave_backs P xs t i ap.1 a.1)
@@ -490,15 +490,15 @@ all_behind P steps ps qs o a = record {
   rest = all_on P o.after qs o.rest a;
 }
 
-one_of_map : (P : Entry → Type 0) (ts : List Target) (t : Target) → IsIn t ts → AreApart ts → AllBut P t.log ts → InOnePart P (rotation_of t) (map rotation_of ts)
+one_of_map : (P : Entry → Type 0) (ts : List Target) (t : Target) → IsIn t ts → LogsDiffer ts → AllBut P t.log ts → InOnePart P (target_entries t) (map target_entries ts)
 one_of_map P [] t i ap a = absurd i
-one_of_map P (x ∷ xs) t (inl is) ap a = subst (λ (y : Target). AllBut P y.log xs → InOnePart P (rotation_of y) (rotation_of x ∷ map rotation_of xs)) is
-    (λ b. record { before = []; part = rotation_of x; after = map rotation_of xs; parts_are = refl; first = tt; woven = weave_own P (rotation_of x); rest = map_all P xs (all_of P x.log xs ap.0 b) }) a.1
-one_of_map P (x ∷ xs) t (inr i) ap a = more_before P (rotation_of t) (rotation_of x) (map rotation_of xs) (a.0 (λ e. none_has x.log xs t ap.0 i (sym e))) (one_of_map P xs t i ap.1 a.1)
+one_of_map P (x ∷ xs) t (inl is) ap a = subst (λ (y : Target). AllBut P y.log xs → InOnePart P (target_entries y) (target_entries x ∷ map target_entries xs)) is
+    (λ b. record { before = []; part = target_entries x; after = map target_entries xs; parts_are = refl; first = tt; woven = weave_own P (target_entries x); rest = map_all P xs (all_of P x.log xs ap.0 b) }) a.1
+one_of_map P (x ∷ xs) t (inr i) ap a = more_before P (target_entries t) (target_entries x) (map target_entries xs) (a.0 (λ e. none_has x.log xs t ap.0 i (sym e))) (one_of_map P xs t i ap.1 a.1)
 
 -- the definition with the log
-set_in : (P : Entry → Type 0) (ts : List Target) (ps : List (List Entry)) (t : Target) → ArePartsOf ts ps → IsIn t ts → AreApart ts → AllBut P t.log ts → InOnePart P (rotation_of t) ps
-set_in P ts ps t (together e) i ap a = subst (InOnePart P (rotation_of t)) (sym e) (record {
+set_in : (P : Entry → Type 0) (ts : List Target) (ps : List (List Entry)) (t : Target) → ArePartsOf ts ps → IsIn t ts → LogsDiffer ts → AllBut P t.log ts → InOnePart P (target_entries t) ps
+set_in P ts ps t (together e) i ap a = subst (InOnePart P (target_entries t)) (sym e) (record {
   before = [];
   part = flat_map front_of ts ++ flat_map back_of ts;
   after = [] ∷ [];
@@ -507,8 +507,8 @@ set_in P ts ps t (together e) i ap a = subst (InOnePart P (rotation_of t)) (sym 
   woven = subst (λ os. Weave P os (flat_map front_of ts ++ flat_map back_of ts)) (halves t) (weave_on P (front_of t) (flat_map front_of ts) (back_of t) (flat_map back_of ts) (weave_fronts P ts t i ap a) (weave_backs P ts t i ap a));
   rest = (tt, tt);
 })
-set_in P ts ps t (by_logs_each e) i ap a = subst (InOnePart P (rotation_of t)) (sym e)
-    (more_before P (rotation_of t) [] (map rotation_of ts ++ [] ∷ []) tt (all_behind P (rotation_of t) (map rotation_of ts) ([] ∷ []) (one_of_map P ts t i ap a) (tt, tt)))
+set_in P ts ps t (by_logs_each e) i ap a = subst (InOnePart P (target_entries t)) (sym e)
+    (more_before P (target_entries t) [] (map target_entries ts ++ [] ∷ []) tt (all_behind P (target_entries t) (map target_entries ts) ([] ∷ []) (one_of_map P ts t i ap a) (tt, tt)))
 
 -- ---- all definitions
 
@@ -519,7 +519,7 @@ nin_append : (log : Path) (xs ys : List Target) → NoneHas log (xs ++ ys) → N
 nin_append log [] ys n = (tt, n)
 nin_append log (x ∷ xs) ys n = let r = nin_append log xs ys n.1 in ((n.0, r.0), r.1)
 
-apart_split : (xs ys : List Target) → AreApart (xs ++ ys) → AreApart xs × AreApart ys
+apart_split : (xs ys : List Target) → LogsDiffer (xs ++ ys) → LogsDiffer xs × LogsDiffer ys
 apart_split [] ys ap = (tt, ap)
 apart_split (x ∷ xs) ys ap = let r = apart_split xs ys ap.1 in (((nin_append x.log xs ys ap.0).0, r.0), r.1)
 
@@ -528,12 +528,12 @@ but_split P log [] ys a = (tt, a)
 but_split P log (x ∷ xs) ys a = let r = but_split P log xs ys a.1 in ((a.0, r.0), r.1)
 
 -- a log of the first isn't among the second, nor the other way
-not_behind : (t : Target) (xs ys : List Target) → AreApart (xs ++ ys) → IsIn t xs → NoneHas t.log ys
+not_behind : (t : Target) (xs ys : List Target) → LogsDiffer (xs ++ ys) → IsIn t xs → NoneHas t.log ys
 not_behind t [] ys ap i = absurd i
 not_behind t (x ∷ xs) ys ap (inl is) = subst (λ (u : Target). NoneHas u.log ys) is (nin_append x.log xs ys ap.0).1
 not_behind t (x ∷ xs) ys ap (inr i) = not_behind t xs ys ap.1 i
 
-not_before : (t : Target) (xs ys : List Target) → AreApart (xs ++ ys) → IsIn t ys → NoneHas t.log xs
+not_before : (t : Target) (xs ys : List Target) → LogsDiffer (xs ++ ys) → IsIn t ys → NoneHas t.log xs
 not_before t [] ys ap i = tt
 not_before t (x ∷ xs) ys ap i = ((λ e. none_has x.log ys t (nin_append x.log xs ys ap.0).1 i (sym e)), not_before t xs ys ap.1 i)
 
@@ -547,15 +547,15 @@ sets_out P (g ∷ gs) (s ∷ sets) h a = let r = logs_split g (flat_map (λ ts. 
     logs_split [] ys a = (tt, a)
     logs_split (x ∷ xs) ys a = let r = logs_split xs ys a.1 in ((a.0, r.0), r.1)
 
-sets_in : (P : Entry → Type 0) (groups : List (List Target)) (sets : List SetPlan) (t : Target) → HaveLogs groups sets → IsIn t (all_targets groups) → AreApart (all_targets groups) → AllBut P t.log (all_targets groups)
-    → InOnePart P (rotation_of t) (parts_of_sets (map steps_of_set sets))
+sets_in : (P : Entry → Type 0) (groups : List (List Target)) (sets : List SetPlan) (t : Target) → HaveLogs groups sets → IsIn t (all_targets groups) → LogsDiffer (all_targets groups) → AllBut P t.log (all_targets groups)
+    → InOnePart P (target_entries t) (parts_of_sets (map steps_of_set sets))
 sets_in P [] sets t h i ap a = absurd i
 sets_in P (g ∷ gs) [] t h i ap a = absurd h
 sets_in P (g ∷ gs) (s ∷ sets) t h i ap a = ⊎_elim
-    (λ here. all_behind P (rotation_of t) (parts_of_set (steps_of_set s)) (parts_of_sets (map steps_of_set sets))
+    (λ here. all_behind P (target_entries t) (parts_of_set (steps_of_set s)) (parts_of_sets (map steps_of_set sets))
     (set_in P g (parts_of_set (steps_of_set s)) t (set_is Anything s g (anything g) h.0).0 here (apart_split g (all_targets gs) ap).0 (but_split P t.log g (all_targets gs) a).0)
     (sets_out P gs sets h.1 (all_of P t.log (all_targets gs) (not_behind t g (all_targets gs) ap here) (but_split P t.log g (all_targets gs) a).1)))
-    (λ there. all_before P (rotation_of t) (parts_of_set (steps_of_set s)) (parts_of_sets (map steps_of_set sets))
+    (λ there. all_before P (target_entries t) (parts_of_set (steps_of_set s)) (parts_of_sets (map steps_of_set sets))
     (set_out P g (parts_of_set (steps_of_set s)) (set_is Anything s g (anything g) h.0).0 (all_of P t.log g (not_before t g (all_targets gs) ap there) (but_split P t.log g (all_targets gs) a).0))
     (sets_in P gs sets t h.1 there (apart_split g (all_targets gs) ap).1 (but_split P t.log g (all_targets gs) a).1))
     (in_append t g (all_targets gs) i)
@@ -576,18 +576,18 @@ pub each_every : (P : Entry → Type 0) (es : List Entry) → ((e : Entry) → I
 each_every P [] f = tt
 each_every P (x ∷ xs) f = (f x (inl refl), each_every P xs (λ e i. f e (inr i)))
 
-of_some : (ts : List Target) (t : Target) (e : Entry) → IsIn t ts → IsIn e (rotation_of t) → IsOfSome ts e
+of_some : (ts : List Target) (t : Target) (e : Entry) → IsIn t ts → IsIn e (target_entries t) → IsOfSome ts e
 of_some [] t e i h = absurd i
 of_some (x ∷ xs) t e (inl is) h = inl (subst (λ (y : Target). IsOf y e) (sym is) (inl h))
 of_some (x ∷ xs) t e (inr i) h = inr (of_some xs t e i h)
 
 others : (log : Path) (all ts : List Target) → ((t : Target) → IsIn t ts → IsIn t all) → AllBut (IsOfOther log all) log ts
 others log all [] f = tt
-others log all (t ∷ ts) f = ((λ ne. each_every (IsOfOther log all) (rotation_of t) (λ e i. of_other log all t e (f t (inl refl)) ne (inl i))), others log all ts (λ x i. f x (inr i)))
+others log all (t ∷ ts) f = ((λ ne. each_every (IsOfOther log all) (target_entries t) (λ e i. of_other log all t e (f t (inl refl)) ne (inl i))), others log all ts (λ x i. f x (inr i)))
 
 somes : (all ts : List Target) → ((t : Target) → IsIn t ts → IsIn t all) → AllLogs (IsOfSome all) ts
 somes all [] f = tt
-somes all (t ∷ ts) f = (each_every (IsOfSome all) (rotation_of t) (λ e i. of_some all t e (f t (inl refl)) i), somes all ts (λ x i. f x (inr i)))
+somes all (t ∷ ts) f = (each_every (IsOfSome all) (target_entries t) (λ e i. of_some all t e (f t (inl refl)) i), somes all ts (λ x i. f x (inr i)))
 
 one_made : (ts : List Target) (t : Target) (e : Entry) → IsIn t ts → AlsoDoes t e → MakesOne ts e
 one_made [] t e i h = absurd i
@@ -599,7 +599,7 @@ own_makings all [] f = tt
 own_makings all (t ∷ ts) f = (λ e h. one_made all t e (f t (inl refl)) h, own_makings all ts (λ x i. f x (inr i)))
 
 -- a plan whose rotations are ready, of logs of which none stands twice, is planned
-pub ready_planned : (groups : List (List Target)) (sets : List SetPlan) → HaveLogs groups sets → AreApart (flat_map (λ ts. ts) groups) → ArePlanned (flat_map (λ ts. ts) groups) (map steps_of_set sets)
+pub ready_planned : (groups : List (List Target)) (sets : List SetPlan) → HaveLogs groups sets → LogsDiffer (flat_map (λ ts. ts) groups) → ArePlanned (flat_map (λ ts. ts) groups) (map steps_of_set sets)
 ready_planned groups sets h ap = record {
   apart = ap;
   plain = sets_plain (MakesOne (flat_map (λ ts. ts) groups)) groups sets (own_makings (flat_map (λ ts. ts) groups) (flat_map (λ ts. ts) groups) (λ t i. i)) h;

@@ -15,13 +15,13 @@ use Rattle.lr_host.proofs.More.{directory_more}
 use Rattle.lr_host.proofs.Quiet.{IsAny, since_any, moment, quiet_more, quiet_still, still_in_order}
 use Rattle.lr_host.proofs.Left.{left_as}
 use Rattle.lr_laws_targets.specs.Target.{Target}
-use Rattle.lr_laws_targets.specs.Apart.{HaveNames}
+use Rattle.lr_laws_targets.specs.Apart.{TargetsHaveNames}
 use Rattle.lr_laws_targets.specs.Seen.{IsLogSeen, AreLogsSeen}
 use Rattle.lr_laws_targets.proofs.CallsFit.{log_can}
 use Rattle.lr_laws_targets.proofs.Directories.{log_dir}
 use Rattle.lr_laws_rotations.proofs.Moments.{saw_one}
 use Rattle.lr_laws_family.specs.Shown.{SawFile}
-use Rattle.lr_weave.specs.Fitting.{AreFit, HaveLogPaths}
+use Rattle.lr_weave.specs.Fitting.{AreFit, TargetsHavePaths}
 
 pub quiet_disk : (p q : Past) → Quiet IsAny p q → IsJournal p → IsJournal q
 quiet_disk p _ here h = h
@@ -38,7 +38,7 @@ seen_makes rules clock t o m valid disk (is_told {j = j} {k = k} {es = es} made 
       (log_dir t at.at valid (quiet_disk (past j) at.at at.since disk) (seen_file (world at.at) (names (world at.at) t.log) saw.0 at.fits saw.1));
 }
 
-pub seen_fit : (rules : Rules) (clock : Clock) (ts : List Target) (o m : Option Journal) → HaveNames ts → HaveLogPaths ts → WhereTold o IsJournal → Left (λ us. AreQuiet us × AreLogsSeen rules clock us ts) o m → AreFit m ts
+pub seen_fit : (rules : Rules) (clock : Clock) (ts : List Target) (o m : Option Journal) → TargetsHaveNames ts → TargetsHavePaths ts → WhereTold o IsJournal → Left (λ us. AreQuiet us × AreLogsSeen rules clock us ts) o m → AreFit m ts
 seen_fit rules clock [] o m h paths disk left = tt
 seen_fit rules clock (t ∷ ts) o m h paths disk left = (
   record { names = h.0; fits = log_can rules clock t o m disk (left_as left (λ us s. (s.0, s.1.0))); anew = seen_makes rules clock t o m (paths t (inl refl)) disk (left_as left (λ us s. (s.0, s.1.0))) },

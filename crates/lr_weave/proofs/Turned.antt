@@ -10,7 +10,7 @@ use Rattle.lr_host.specs.Quiet.{AreQuiet}
 use Rattle.lr_plan.specs.declared.plan.SetPlan.{SetPlan}
 use Rattle.lr_plan.specs.Steps.{steps_of_set}
 use Rattle.lr_plan.specs.Done.{SetsDone}
-use Rattle.lr_laws_targets.specs.Target.{Target, rotation_of}
+use Rattle.lr_laws_targets.specs.Target.{Target, target_entries}
 use Rattle.lr_laws_targets.specs.AllTurns.{IsOfOther, StandsBetween}
 use Rattle.lr_laws_targets.specs.Runs.{AllTurnedBy}
 use Rattle.lr_laws_targets.specs.Seen.{AreLogsSeen}
@@ -24,8 +24,8 @@ abbrev pub done_turned : (state : Path) (clock : Clock) (rules : Rules) (looks :
     → SetsDone (map steps_of_set sets) t [] ts → AllTurnedBy state clock rules (looks ++ ts)
 done_turned state clock rules looks targets sets t ts quiet seen planned d = record {
   turns = done_turns state clock rules looks targets (map steps_of_set sets) t [] ts quiet seen planned d;
-  whole = λ x i. weave_change (StandsBetween state x targets) (rotation_of x) ts
-      (weave_as (IsOfOther x.log targets) (StandsBetween state x targets) (rotation_of x) (filter takes_name ts) (λ e h. inl h)
-      (subst (Weave (IsOfOther x.log targets) (rotation_of x)) (sym (done_whole (MakesOne targets) sets t ts planned.plain d)) (one_joined (IsOfOther x.log targets) (rotation_of x) (parts_of_sets (map steps_of_set sets)) (planned.each x i))))
+  whole = λ x i. weave_change (StandsBetween state x targets) (target_entries x) ts
+      (weave_as (IsOfOther x.log targets) (StandsBetween state x targets) (target_entries x) (filter takes_name ts) (λ e h. inl h)
+      (subst (Weave (IsOfOther x.log targets) (target_entries x)) (sym (done_whole (MakesOne targets) sets t ts planned.plain d)) (one_joined (IsOfOther x.log targets) (target_entries x) (parts_of_sets (map steps_of_set sets)) (planned.each x i))))
       (only_as (MakesOne targets) (StandsBetween state x targets) ts (made_between state targets x planned.apart i) (sets_parts (MakesOne targets) (map steps_of_set sets) t [] ts planned.plain d).only);
 }

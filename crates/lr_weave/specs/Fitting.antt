@@ -28,8 +28,8 @@ AreFit told [] = Unit {0}
 AreFit told (t ∷ ts) = IsFit told t × AreFit told ts
 
 -- the log of each is a path
-abbrev pub HaveLogPaths : List Target → Type 0
-HaveLogPaths ts = (t : Target) → IsIn t ts → path_fault t.log ≡ None
+abbrev pub TargetsHavePaths : List Target → Type 0
+TargetsHavePaths ts = (t : Target) → IsIn t ts → path_fault t.log ≡ None
 
 -- none of these logs meets this one
 abbrev pub NoneMeets : Target → List Target → Type 0

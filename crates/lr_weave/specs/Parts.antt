@@ -10,9 +10,9 @@ use Rattle.lr_plan.specs.declared.step.Step.{Step}
 use Rattle.lr_plan.specs.declared.step.Step.TheVariants.{MakesDir, Creates, Takes, Copies, Appends, Truncates}
 use Rattle.lr_plan.specs.declared.step.SetSteps.{SetSteps}
 use Rattle.lr_plan.specs.Asking.{asks}
-use Rattle.lr_laws_targets.specs.Target.{Target, rotation_of}
+use Rattle.lr_laws_targets.specs.Target.{Target, target_entries}
 use Rattle.lr_laws_targets.specs.AllTurns.{AlsoDoes, IsOfSome, IsOfOther}
-use Rattle.lr_weave.specs.Planned.{AreApart}
+use Rattle.lr_weave.specs.Planned.{LogsDiffer}
 
 -- an entry by which a name goes
 abbrev pub takes_name : Entry → Bool
@@ -29,18 +29,18 @@ abbrev pub changes_by : List Step → List Entry
 changes_by steps = flat_map change_of steps
 
 -- It appends no text; and where it makes a directory or makes, fills or empties a file, P holds of that.
-abbrev pub IsPlain : (Entry → Type 0) → Step → Type 0
-IsPlain P (Creates path mode) = P (entry.Makes path mode)
-IsPlain P (MakesDir path mode) = P (entry.MakesDir path mode)
-IsPlain P (Takes path mode) = P (entry.Makes path mode)
-IsPlain P (Copies from to limit) = (piece : List ℕ) → P (entry.Appends to piece)
-IsPlain P (Appends path text) = ⊥
-IsPlain P (Truncates path) = P (entry.Truncates path)
-IsPlain P _ = Unit {0}
+abbrev pub IsPlainStep : (Entry → Type 0) → Step → Type 0
+IsPlainStep P (Creates path mode) = P (entry.Makes path mode)
+IsPlainStep P (MakesDir path mode) = P (entry.MakesDir path mode)
+IsPlainStep P (Takes path mode) = P (entry.Makes path mode)
+IsPlainStep P (Copies from to limit) = (piece : List ℕ) → P (entry.Appends to piece)
+IsPlainStep P (Appends path text) = ⊥
+IsPlainStep P (Truncates path) = P (entry.Truncates path)
+IsPlainStep P _ = Unit {0}
 
 abbrev pub ArePlain : (Entry → Type 0) → List Step → Type 0
 ArePlain P [] = Unit {0}
-ArePlain P (step ∷ steps) = IsPlain P step × ArePlain P steps
+ArePlain P (step ∷ steps) = IsPlainStep P step × ArePlain P steps
 
 abbrev pub EachPlain : (Entry → Type 0) → List (List Step) → Type 0
 EachPlain P [] = Unit {0}
@@ -98,7 +98,7 @@ pub record InOnePart (P : Entry → Type 0) (steps : List Entry) (parts : List (
 
 -- The changes of the plan are those of the rotations of these logs, of which none stands twice, and what they do besides.
 pub record ArePlanned (targets : List Target) (sets : List SetSteps) : Type 0 where
-  pub apart : AreApart targets
+  pub apart : LogsDiffer targets
   pub plain : ArePlainSets (MakesOne targets) sets
   pub all : AllOf (IsOfSome targets) (parts_of_sets sets)
-  pub each : (t : Target) → IsIn t targets → InOnePart (IsOfOther t.log targets) (rotation_of t) (parts_of_sets sets)
+  pub each : (t : Target) → IsIn t targets → InOnePart (IsOfOther t.log targets) (target_entries t) (parts_of_sets sets)

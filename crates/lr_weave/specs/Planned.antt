@@ -6,7 +6,7 @@ use Rattle.lr_chain.specs.declared.ready.Ready.{Ready}
 use Rattle.lr_plan.specs.Planned.{with_removals}
 use Rattle.lr_plan.specs.declared.plan.LogPlan.{LogPlan}
 use Rattle.lr_plan.specs.declared.plan.SetPlan.{SetPlan}
-use Rattle.lr_laws_targets.specs.Target.{Target, HasWay, HasJob}
+use Rattle.lr_laws_targets.specs.Target.{Target, HasWay, TargetHasJob}
 
 -- the unlink of a file alone, without the programs before it; and a rotation with such removals
 abbrev pub bare_removal : Removal → Removal
@@ -19,7 +19,7 @@ bare ready = with_removals (map bare_removal ready.leftovers) (map bare_removal 
 -- plan does with it, besides the programs.
 pub record IsReadyFor (t : Target) (log : LogPlan) : Type 0 where
   pub way : HasWay t
-  pub job : HasJob t
+  pub job : TargetHasJob t
   pub log_is : log.log ≡ t.log
   pub ready_is : bare log.ready ≡ t.ready
   pub job_is : log.job ≡ t.job
@@ -42,6 +42,6 @@ NoneHas log [] = Unit {0}
 NoneHas log (t ∷ ts) = (t.log ≢ log) × NoneHas log ts
 
 -- no log stands twice
-abbrev pub AreApart : List Target → Type 0
-AreApart [] = Unit {0}
-AreApart (t ∷ ts) = NoneHas t.log ts × AreApart ts
+abbrev pub LogsDiffer : List Target → Type 0
+LogsDiffer [] = Unit {0}
+LogsDiffer (t ∷ ts) = NoneHas t.log ts × LogsDiffer ts

@@ -4,8 +4,8 @@ use Rattle.std.specs.List.{slice_split, onto_first, list_any}
 use Rattle.std.proofs.lemmas.Bool.{and_right}
 use Rattle.std.proofs.lemmas.Bool.Decides.{nat_tests}
 use Rattle.lr_rules.specs.Path.{is_slash, is_kept, kept_parts, behind_slashes as path_parts}
-use Rattle.lr_rules.specs.Match.{is_sign, has_sign, literal_path}
-use Rattle.lr_words.specs.Names.{is_step, behind_slashes, kept_name}
+use Rattle.lr_rules.specs.Match.{is_wild_sign, has_sign, literal_path}
+use Rattle.lr_words.specs.Names.{is_path_part, behind_word_slashes, kept_name}
 
 -- ---- backslashes and slashes
 
@@ -94,7 +94,7 @@ long_kept x _ (some_first y ys) = refl
 dot_no_slash : (c : ℕ) → is_slash c ≡ true → (c == 46) ≡ false
 dot_no_slash c h = grind (arith, nat_tests)
 
-step_kept : (part : List ℕ) → is_step part ≡ is_kept (literal_path part)
+step_kept : (part : List ℕ) → is_path_part part ≡ is_kept (literal_path part)
 step_kept [] = refl
 step_kept (b ∷ []) = refl
 step_kept (b ∷ c ∷ []) = by (b == 92) (is_slash c) refl
@@ -116,12 +116,12 @@ pub data Tail : List ℕ → Type 0 where
   ends : Tail []
   goes_on : (rest : List ℕ) → Tail (47 ∷ rest)
 
-tail_of : (ps : List (List ℕ)) → Tail (behind_slashes ps)
+tail_of : (ps : List (List ℕ)) → Tail (behind_word_slashes ps)
 tail_of [] = ends
-tail_of (p ∷ ps) = by (is_step p) (tail_of ps)
+tail_of (p ∷ ps) = by (is_path_part p) (tail_of ps)
   where
-    by : (s : Bool) → Tail (behind_slashes ps) → Tail (cond s (47 ∷ p) [] ++ behind_slashes ps)
-    by true t = goes_on (p ++ behind_slashes ps)
+    by : (s : Bool) → Tail (behind_word_slashes ps) → Tail (cond s (47 ∷ p) [] ++ behind_word_slashes ps)
+    by true t = goes_on (p ++ behind_word_slashes ps)
     by false t = t
 
 literal_append : (p rest : List ℕ) → Tail rest → literal_path (p ++ rest) ≡ literal_path p ++ literal_path rest
@@ -139,13 +139,13 @@ slash_stays : (bs : List ℕ) → literal_path (47 ∷ bs) ≡ 47 ∷ literal_pa
 slash_stays [] = refl
 slash_stays (b ∷ bs) = refl
 
-literal_parts : (ps : List (List ℕ)) → literal_path (behind_slashes ps) ≡ path_parts (map literal_path ps)
+literal_parts : (ps : List (List ℕ)) → literal_path (behind_word_slashes ps) ≡ path_parts (map literal_path ps)
 literal_parts [] = refl
-literal_parts (p ∷ ps) = ap (λ s. literal_path (cond s (47 ∷ p) [] ++ behind_slashes ps)) (step_kept p) ∙ by (is_kept (literal_path p)) (literal_parts ps)
+literal_parts (p ∷ ps) = ap (λ s. literal_path (cond s (47 ∷ p) [] ++ behind_word_slashes ps)) (step_kept p) ∙ by (is_kept (literal_path p)) (literal_parts ps)
   where
-    by : (s : Bool) → literal_path (behind_slashes ps) ≡ path_parts (map literal_path ps)
-        → literal_path (cond s (47 ∷ p) [] ++ behind_slashes ps) ≡ cond s (47 ∷ literal_path p) [] ++ path_parts (map literal_path ps)
-    by true h = slash_stays (p ++ behind_slashes ps) ∙ ap (λ x. 47 ∷ x) (literal_append p (behind_slashes ps) (tail_of ps) ∙ ap (λ x. literal_path p ++ x) h)
+    by : (s : Bool) → literal_path (behind_word_slashes ps) ≡ path_parts (map literal_path ps)
+        → literal_path (cond s (47 ∷ p) [] ++ behind_word_slashes ps) ≡ cond s (47 ∷ literal_path p) [] ++ path_parts (map literal_path ps)
+    by true h = slash_stays (p ++ behind_word_slashes ps) ∙ ap (λ x. 47 ∷ x) (literal_append p (behind_word_slashes ps) (tail_of ps) ∙ ap (λ x. literal_path p ++ x) h)
     by false h = h
 
 -- the path of a name as a rule has it is the name's, without the parts that a path drops
@@ -158,7 +158,7 @@ or_assoc : (a b c : Bool) → (a || (b || c)) ≡ ((a || b) || c)
 or_assoc true b c = refl
 or_assoc false b c = refl
 
-slash_no_sign : (c : ℕ) → is_slash c ≡ true → is_sign c ≡ false
+slash_no_sign : (c : ℕ) → is_slash c ≡ true → is_wild_sign c ≡ false
 slash_no_sign c h = grind (arith, nat_tests)
 
 slash_no_escape : (c : ℕ) → is_slash c ≡ true → (c == 92) ≡ false
@@ -187,9 +187,9 @@ signs_split true (c ∷ cs) = by (is_slash c) (slice_split is_slash cs) (split_p
 signs_split false (c ∷ cs) = by (is_slash c) refl (slice_split is_slash cs) (split_parts cs) (signs_split false cs) (signs_split (c == 92) cs)
   where
     by : (s : Bool) → is_slash c ≡ s → (ps : List (List ℕ)) → Parts ps → has_sign false cs ≡ in_parts false ps → has_sign (c == 92) cs ≡ in_parts (c == 92) ps
-        → (is_sign c || has_sign (c == 92) cs) ≡ in_parts false (cond s ([] ∷ ps) (onto_first c ps))
+        → (is_wild_sign c || has_sign (c == 92) cs) ≡ in_parts false (cond s ([] ∷ ps) (onto_first c ps))
     by true is _ (parts q qs) plain own = ap (λ b. b || has_sign (c == 92) cs) (slash_no_sign c is) ∙ ap (λ e. has_sign e cs) (slash_no_escape c is) ∙ plain
-    by false is _ (parts q qs) plain own = ap (λ b. is_sign c || b) own ∙ or_assoc (is_sign c) (has_sign (c == 92) q) (list_any (has_sign false) qs)
+    by false is _ (parts q qs) plain own = ap (λ b. is_wild_sign c || b) own ∙ or_assoc (is_wild_sign c) (has_sign (c == 92) q) (list_any (has_sign false) qs)
 
 pub signs_append : (e : Bool) (p rest : List ℕ) → Tail rest → has_sign e (p ++ rest) ≡ (has_sign e p || has_sign false rest)
 signs_append true [] _ ends = refl
@@ -197,7 +197,7 @@ signs_append false [] _ ends = refl
 signs_append true [] _ (goes_on rest) = refl
 signs_append false [] _ (goes_on rest) = refl
 signs_append true (c ∷ cs) rest t = signs_append false cs rest t
-signs_append false (c ∷ cs) rest t = ap (λ b. is_sign c || b) (signs_append (c == 92) cs rest t) ∙ or_assoc (is_sign c) (has_sign (c == 92) cs) (has_sign false rest)
+signs_append false (c ∷ cs) rest t = ap (λ b. is_wild_sign c || b) (signs_append (c == 92) cs rest t) ∙ or_assoc (is_wild_sign c) (has_sign (c == 92) cs) (has_sign false rest)
 
 -- a sign stands in one of the parts
 pub signs_in_parts : (w : List ℕ) → has_sign false w ≡ list_any (has_sign false) (slice_split is_slash w)
@@ -208,14 +208,14 @@ signs_in_parts w = signs_split false w ∙ any (slice_split is_slash w)
     any (q ∷ qs) = refl
 
 -- parts without a sign make a word without one
-signs_parts : (ps : List (List ℕ)) → list_any (has_sign false) ps ≡ false → has_sign false (behind_slashes ps) ≡ false
+signs_parts : (ps : List (List ℕ)) → list_any (has_sign false) ps ≡ false → has_sign false (behind_word_slashes ps) ≡ false
 signs_parts [] h = refl
-signs_parts (p ∷ ps) h = by (is_step p) (has_sign false p) refl h (signs_parts ps)
+signs_parts (p ∷ ps) h = by (is_path_part p) (has_sign false p) refl h (signs_parts ps)
   where
-    by : (s b : Bool) → has_sign false p ≡ b → (b || list_any (has_sign false) ps) ≡ false → (list_any (has_sign false) ps ≡ false → has_sign false (behind_slashes ps) ≡ false)
-        → has_sign false (cond s (47 ∷ p) [] ++ behind_slashes ps) ≡ false
+    by : (s b : Bool) → has_sign false p ≡ b → (b || list_any (has_sign false) ps) ≡ false → (list_any (has_sign false) ps ≡ false → has_sign false (behind_word_slashes ps) ≡ false)
+        → has_sign false (cond s (47 ∷ p) [] ++ behind_word_slashes ps) ≡ false
     by s true is h more = absurd (cc)
-    by true false is h more = signs_append false p (behind_slashes ps) (tail_of ps) ∙ ap (λ b. b || has_sign false (behind_slashes ps)) is ∙ more h
+    by true false is h more = signs_append false p (behind_word_slashes ps) (tail_of ps) ∙ ap (λ b. b || has_sign false (behind_word_slashes ps)) is ∙ more h
     by false false is h more = more h
 
 -- a name that is no pattern is none as a rule has it

@@ -8,24 +8,24 @@ use Rattle.std.proofs.lemmas.List.Elements.{All-nil, All-cons}
 use Rattle.std.proofs.lemmas.List.Folds.{list_any-append}
 use Rattle.std.proofs.lemmas.List.Splits.{slice_split_none, slice_split_at}
 use Rattle.lr_rules.specs.Limits.{is_path_text}
-use Rattle.lr_rules.specs.Names.{is_step, steps_of, path_by, path_from}
-use Rattle.lr_rules.specs.Path.{is_bad, is_slash, is_empty, is_dots, is_absolute, has_bad_byte, has_empty_part, has_dot_part}
+use Rattle.lr_rules.specs.Names.{is_step, word_parts, path_by, path_from}
+use Rattle.lr_rules.specs.Path.{is_bad_byte, is_slash, is_empty, is_dots, is_absolute, has_bad_byte, has_empty_part, has_dot_part}
 use Rattle.lr_words.specs.Words.{is_climb, has_climb}
 
 -- each part behind a slash
 abbrev joined : List (List ℕ) → List ℕ
 joined ps = flat_map (λ name. 47 ∷ name) ps
 
-from_root : (word : List ℕ) → path_from (47 ∷ []) word ≡ path_by (steps_of word)
+from_root : (word : List ℕ) → path_from (47 ∷ []) word ≡ path_by (word_parts word)
 from_root word = by (is_absolute word)
   where
-    by : (a : Bool) → cond a (path_by (steps_of word)) (path_by (steps_of (47 ∷ []) ++ steps_of word)) ≡ path_by (steps_of word)
+    by : (a : Bool) → cond a (path_by (word_parts word)) (path_by (word_parts (47 ∷ []) ++ word_parts word)) ≡ path_by (word_parts word)
     by true = refl
     by false = refl
 
 -- ---- bytes that no path has
 
-slash_good : (b : ℕ) → is_slash b ≡ true → is_bad b ≡ false
+slash_good : (b : ℕ) → is_slash b ≡ true → is_bad_byte b ≡ false
 slash_good b h = grind (arith, nat_tests)
 
 or_assoc : (a b c : Bool) → (a || (b || c)) ≡ ((a || b) || c)
@@ -34,7 +34,7 @@ or_assoc false b c = refl
 
 bad_joined : (ps : List (List ℕ)) → has_bad_byte (joined ps) ≡ list_any has_bad_byte ps
 bad_joined [] = refl
-bad_joined (p ∷ ps) = list_any-append is_bad p (joined ps) ∙ ap (λ b. has_bad_byte p || b) (bad_joined ps)
+bad_joined (p ∷ ps) = list_any-append is_bad_byte p (joined ps) ∙ ap (λ b. has_bad_byte p || b) (bad_joined ps)
 
 -- a list of parts has one at least
 data Parts : List (List ℕ) → Type 0 where
@@ -54,13 +54,13 @@ bad_split [] = refl
 bad_split (b ∷ bs) = by (is_slash b) refl (slice_split is_slash bs) (split_parts bs) (bad_split bs)
   where
     by : (s : Bool) → is_slash b ≡ s → (ps : List (List ℕ)) → Parts ps → list_any has_bad_byte ps ≡ has_bad_byte bs
-        → list_any has_bad_byte (cond s ([] ∷ ps) (onto_first b ps)) ≡ (is_bad b || has_bad_byte bs)
+        → list_any has_bad_byte (cond s ([] ∷ ps) (onto_first b ps)) ≡ (is_bad_byte b || has_bad_byte bs)
     by true is _ (parts q qs) h = h ∙ ap (λ x. x || has_bad_byte bs) (sym (slash_good b is))
-    by false is _ (parts q qs) h = sym (or_assoc (is_bad b) (has_bad_byte q) (list_any has_bad_byte qs)) ∙ ap (λ x. is_bad b || x) h
+    by false is _ (parts q qs) h = sym (or_assoc (is_bad_byte b) (has_bad_byte q) (list_any has_bad_byte qs)) ∙ ap (λ x. is_bad_byte b || x) h
 
 -- ---- parts that a path drops
 
-dot_of : (b : ℕ) → not (false || (b == 46 && true)) ≡ false → (is_bad b || false) ≡ false
+dot_of : (b : ℕ) → not (false || (b == 46 && true)) ≡ false → (is_bad_byte b || false) ≡ false
 dot_of b h = grind (arith, nat_tests)
 
 dropped_good : (p : List ℕ) → is_step p ≡ false → has_bad_byte p ≡ false
@@ -167,6 +167,6 @@ pub from_word : (word : List ℕ) → is_path_text (path_from (47 ∷ []) word) 
 from_word word =
     let ps : List (List ℕ) = slice_split is_slash word in
     ap is_path_text (from_root word)
-    ∙ path_is_text (steps_of word) (good_steps (slice_split is_slash word) (split_plain word))
-    ∙ ap (λ x. not x && not (list_any is_dots (steps_of word))) (bad_steps (slice_split is_slash word) ∙ bad_split word)
+    ∙ path_is_text (word_parts word) (good_steps (slice_split is_slash word) (split_plain word))
+    ∙ ap (λ x. not x && not (list_any is_dots (word_parts word))) (bad_steps (slice_split is_slash word) ∙ bad_split word)
     ∙ ap (λ x. not (has_bad_byte word) && not x) (dots_steps (slice_split is_slash word))

@@ -4,7 +4,7 @@ use Rattle.std.specs.List.{slice_split, list_any}
 use Rattle.std.proofs.lemmas.Bool.{and_parts}
 use Rattle.std.proofs.lemmas.Bool.Decides.{nat_tests}
 use Rattle.lr_rules.specs.Limits.{is_pattern_word, is_literal_word, is_log_word}
-use Rattle.lr_rules.specs.Match.{is_sign, has_sign, is_wildcard}
+use Rattle.lr_rules.specs.Match.{is_wild_sign, has_sign, is_wildcard}
 use Rattle.lr_rules.specs.Path.{is_slash, is_kept, behind_slashes, kept_parts, or_root, cleaned}
 use Rattle.lr_words.specs.Names.{root, names_path, names_pattern}
 use Rattle.lr_words.proofs.KeptNames.{Tail, ends, goes_on, signs_append, signs_in_parts}
@@ -18,7 +18,7 @@ tail_of (p ∷ ps) = by (is_kept p) (tail_of ps)
     by true t = goes_on (p ++ behind_slashes ps)
     by false t = t
 
-dot_no_sign : (b : ℕ) → not (b == 46) ≡ false → (is_sign b || false) ≡ false
+dot_no_sign : (b : ℕ) → not (b == 46) ≡ false → (is_wild_sign b || false) ≡ false
 dot_no_sign b h = grind (arith, nat_tests)
 
 no_more : (e : Bool) → has_sign e [] ≡ false
@@ -28,7 +28,7 @@ no_more false = refl
 -- a part that a path drops has no sign
 dropped : (p : List ℕ) → is_kept p ≡ false → has_sign false p ≡ false
 dropped [] h = refl
-dropped (b ∷ []) h = ap (λ x. is_sign b || x) (no_more (b == 92)) ∙ dot_no_sign b h
+dropped (b ∷ []) h = ap (λ x. is_wild_sign b || x) (no_more (b == 92)) ∙ dot_no_sign b h
 dropped (b ∷ c ∷ bs) h = absurd (cc)
 
 -- the signs of the parts stay

@@ -32,22 +32,22 @@ abbrev pub names_log : List ℕ → Bool
 names_log literal = names_path literal && can_be_log (cleaned root literal)
 
 -- a part of a name that is a part of its path: it is neither empty nor `.`, also with a backslash before the dot
-abbrev pub is_step : List ℕ → Bool
-is_step [] = false
-is_step (b ∷ []) = not (b == 46)
-is_step (b ∷ c ∷ []) = not (b == 92 && c == 46)
-is_step (b ∷ c ∷ d ∷ bs) = true
+abbrev pub is_path_part : List ℕ → Bool
+is_path_part [] = false
+is_path_part (b ∷ []) = not (b == 46)
+is_path_part (b ∷ c ∷ []) = not (b == 92 && c == 46)
+is_path_part (b ∷ c ∷ d ∷ bs) = true
 
-abbrev pub behind_slash : List ℕ → List ℕ
-behind_slash part = if is_step part then 47 ∷ part else []
+abbrev pub behind_word_slash : List ℕ → List ℕ
+behind_word_slash part = if is_path_part part then 47 ∷ part else []
 
-abbrev pub behind_slashes : List (List ℕ) → List ℕ
-behind_slashes [] = []
-behind_slashes (part ∷ parts) = behind_slash part ++ behind_slashes parts
+abbrev pub behind_word_slashes : List (List ℕ) → List ℕ
+behind_word_slashes [] = []
+behind_word_slashes (part ∷ parts) = behind_word_slash part ++ behind_word_slashes parts
 
 -- the name as a rule has it: with its backslashes, without the parts that its path drops
 abbrev pub kept_name : List ℕ → List ℕ
-kept_name word = behind_slashes (slice_split is_slash word)
+kept_name word = behind_word_slashes (slice_split is_slash word)
 
 -- A literal name as a rule has it: no pattern, and its path, without the backslashes that escape, is one that a log can have.
 pub record IsLogWord (word : List ℕ) : Type 0 where

@@ -1,9 +1,10 @@
 // Names of logs.
 ghost use Rattle.std.specs.Prelude.{◌≡◌, ◌++◌, Ok, Err, OnOk, IfOk, length, nat_le, if◌then◌else◌};
 ghost use Rattle.lr_rules.specs.Limits.{can_be_log};
-ghost use Rattle.lr_rules.specs.Match.{is_sign, is_wildcard, literal_path};
+ghost use Rattle.lr_rules.specs.Match.{is_wild_sign, is_wildcard, literal_path};
 ghost use Rattle.lr_rules.specs.declared.fault.ConfKind.TheVariants as kind;
-ghost use Rattle.lr_words.specs.Names.{names_log, is_step, behind_slash, kept_name, literal_value, pattern_value, log_name_value};
+ghost use Rattle.lr_words.specs.Names.{names_log, is_path_part, behind_word_slash, kept_name, literal_value};
+ghost use Rattle.lr_words.specs.Names.{pattern_value, log_name_value};
 
 use crate::ending::has_part_end;
 use crate::escape::literal;
@@ -13,7 +14,7 @@ use lr_rules::{ConfKind, Memory, Path, Text};
 use std::alloc::{AllocError, Global};
 
 fn sign(byte: u8) -> bool
-    ensures { result ≡ is_sign byte }
+    ensures { result ≡ is_wild_sign byte }
 {
     byte == b'*' || byte == b'?' || byte == b'['
 }
@@ -53,7 +54,7 @@ fn names_log(alloc: Global, literal: &[u8]) -> Result<bool, Memory>
 }
 
 fn step(part: &[u8]) -> bool
-    ensures { result ≡ is_step part.now }
+    ensures { result ≡ is_path_part part.now }
 {
     match part {
         [] => false,
@@ -64,7 +65,7 @@ fn step(part: &[u8]) -> bool
 }
 
 fn add_part(into: &mut Vec<u8>, part: &[u8]) -> Result<(), AllocError>
-    ensures { OnOk result (into.new.items ≡ into.old.items ++ behind_slash part.now) }
+    ensures { OnOk result (into.new.items ≡ into.old.items ++ behind_word_slash part.now) }
 {
     if step(part) {
         into.push(b'/')?;

@@ -19,7 +19,7 @@ use Rattle.lr_host.proofs.Counts.{counted_free, free_none, onward_same, onward_o
 use Rattle.lr_plan.proofs.Courses.{course_then}
 use Rattle.lr_acts.specs.Making.{FaultCause}
 use Rattle.lr_acts.proofs.Taking.{made_taken, failed_taken, same_taken, taken_of_more, taken_on}
-use Rattle.lr_writing.specs.Target.{Target}
+use Rattle.lr_writing.specs.Target.{StateTarget}
 use Rattle.lr_writing.specs.Writes.{IsShort, Writes, ComesTo, AddsCourse, part_steps, name_steps}
 use Rattle.lr_writing.proofs.Buffers.{short_on}
 use Rattle.lr_writing.proofs.Causes.{caused_later, counted_one}
@@ -139,9 +139,9 @@ pub map_both : (f : Path → Step) (xs ys : List Path) → map f (xs ++ ys) ≡ 
 map_both f [] ys = refl
 map_both f (x ∷ xs) ys = ap (λ zs. f x ∷ zs) (map_both f xs ys)
 
-pub whole_is : (part state dir : Path) (stale : Bool) (dirs : List Path) (text : List ℕ) (w : Target) → record { state = state; stale = stale } ≡ w → part ≡ state_part state → dir ≡ parent_of state
+pub whole_is : (part state dir : Path) (stale : Bool) (dirs : List Path) (text : List ℕ) (w : StateTarget) → record { state = state; stale = stale } ≡ w → part ≡ state_part state → dir ≡ parent_of state
     → part_steps part stale text ++ (map SyncsDir dirs ++ name_steps part state dir) ≡ state_steps w.state w.stale dirs text
 whole_is part state dir stale dirs text w v p d =
-    subst (λ (x : Target). part_steps part stale text ++ (map SyncsDir dirs ++ name_steps part state dir) ≡ state_steps x.state x.stale dirs text) v
+    subst (λ (x : StateTarget). part_steps part stale text ++ (map SyncsDir dirs ++ name_steps part state dir) ≡ state_steps x.state x.stale dirs text) v
     (subst (λ (q : Path). part_steps q stale text ++ (map SyncsDir dirs ++ name_steps q state dir) ≡ state_steps state stale dirs text) (sym p)
     (subst (λ (e : Path). part_steps (state_part state) stale text ++ (map SyncsDir dirs ++ name_steps (state_part state) state e) ≡ state_steps state stale dirs text) (sym d) (whole_steps state stale dirs text)))

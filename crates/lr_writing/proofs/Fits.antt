@@ -25,7 +25,7 @@ use Rattle.lr_plan.specs.declared.step.Step.TheVariants.{Renames, Takes, Appends
 use Rattle.lr_plan.specs.Appending.{Appended, no_more, piece_more}
 use Rattle.lr_plan.specs.Asking.{CanMake}
 use Rattle.lr_plan.specs.Steps.{state_steps}
-use Rattle.lr_writing.specs.Fits.{AreDirectories, HasPlace, CanBegin}
+use Rattle.lr_writing.specs.Fits.{AreDirectories, StateHasPlace, CanBegin}
 use Rattle.lr_writing.proofs.Named.{part_apart}
 
 -- ---- the part file stands in the state's directory
@@ -61,7 +61,7 @@ dirs_more : (dirs : List Path) → Stays (λ n. AreDirectories n dirs)
 dirs_more [] n n' more h = tt
 dirs_more (d ∷ dirs) n n' more h = (dir_more d n n' more h.0, dirs_more dirs n n' more h.1)
 
-place_more : (state : Path) (dirs : List Path) → Stays (HasPlace state dirs)
+place_more : (state : Path) (dirs : List Path) → Stays (StateHasPlace state dirs)
 place_more state dirs n n' more h = record {
   no_directory = λ is. ⊎_elim (λ same. h.no_directory (sym same ∙ is)) (λ new. file_no_dir (n' state) new.1.0 new.1.1 is) (more state);
   no_other = λ is. ⊎_elim (λ same. h.no_other (sym same ∙ is)) (λ new. let a = new.1.1 in cc) (more state);
@@ -74,7 +74,7 @@ dirs_put n x [] t ne h = tt
 dirs_put n x (d ∷ dirs) t ne h = (dir_put n x d t ne h.0, dirs_put n x dirs t ne h.1)
 
 -- an old part file goes
-place_dropped : (state part : Path) (dirs : List Path) (n : Names) → part ≢ state → IsFileAt n part → HasPlace state dirs n → HasPlace state dirs (put n part thing.Nothing)
+place_dropped : (state part : Path) (dirs : List Path) (n : Names) → part ≢ state → IsFileAt n part → StateHasPlace state dirs n → StateHasPlace state dirs (put n part thing.Nothing)
 place_dropped state part dirs n ne f h =
     let other : put n part thing.Nothing state ≡ n state = put_other n part state thing.Nothing (λ e. ne (sym e)) in record {
       no_directory = λ is. h.no_directory (sym other ∙ is);
@@ -84,7 +84,7 @@ place_dropped state part dirs n ne f h =
     }
 
 abbrev Full : Path → List Path → Names → Type 0
-Full state dirs n = HasPlace state dirs n × IsFileAt n (state_part state)
+Full state dirs n = StateHasPlace state dirs n × IsFileAt n (state_part state)
 
 full_more : (state : Path) (dirs : List Path) → Stays (Full state dirs)
 full_more state dirs n n' more h = (place_more state dirs n n' more h.0, file_more (state_part state) n n' more h.1)
@@ -137,13 +137,13 @@ text_fits state dirs text o h = (
   λ now l. sync_fits state dirs now (left_still (Full state dirs) (full_more state dirs) l (λ ts t. none_named (state_part state) text ts t) h),
 )
 
-part_fits : (state : Path) (dirs : List Path) (text : List ℕ) (o : Option Journal) → WhereTold o (λ p. HasPlace state dirs (names (world p))) → CanMake o (Takes (state_part state) (Some 416) ∷ Appends (state_part state) text ∷ SyncsFile (state_part state) ∷ (map SyncsDir dirs ++ (Renames (state_part state) state ∷ SyncsDir (parent_of state) ∷ [])))
+part_fits : (state : Path) (dirs : List Path) (text : List ℕ) (o : Option Journal) → WhereTold o (λ p. StateHasPlace state dirs (names (world p))) → CanMake o (Takes (state_part state) (Some 416) ∷ Appends (state_part state) text ∷ SyncsFile (state_part state) ∷ (map SyncsDir dirs ++ (Renames (state_part state) state ∷ SyncsDir (parent_of state) ∷ [])))
 part_fits state dirs text o h = (
-  can_by (HasPlace state dirs) (entry.Makes (state_part state) (Some 416)) o (λ n f. subst (λ d. IsDirectoryAt n d) (sym (parent_same state)) f.place) h,
-  λ now l. text_fits state dirs text now (left_one (HasPlace state dirs) (Full state dirs) (place_more state dirs) (full_more state dirs) (entry.Makes (state_part state) (Some 416)) (made_full (state_part state) refl) l h),
+  can_by (StateHasPlace state dirs) (entry.Makes (state_part state) (Some 416)) o (λ n f. subst (λ d. IsDirectoryAt n d) (sym (parent_same state)) f.place) h,
+  λ now l. text_fits state dirs text now (left_one (StateHasPlace state dirs) (Full state dirs) (place_more state dirs) (full_more state dirs) (entry.Makes (state_part state) (Some 416)) (made_full (state_part state) refl) l h),
 )
   where
-    made_full : (part : Path) → part ≡ state_part state → (r : Past) → HasPlace state dirs (names (world r)) → Fits (world r) (entry.Makes part (Some 416)) → Full state dirs (names (world (r ▸ entry.Makes part (Some 416))))
+    made_full : (part : Path) → part ≡ state_part state → (r : Past) → StateHasPlace state dirs (names (world r)) → Fits (world r) (entry.Makes part (Some 416)) → Full state dirs (names (world (r ▸ entry.Makes part (Some 416))))
     made_full part is r h fits =
         let n = names (world r) in (
           place_more state dirs n (names (world (r ▸ entry.Makes part (Some 416)))) (made_more n part (world r).drawn fits.1) h,
@@ -154,8 +154,8 @@ pub writing_fits : (state : Path) (stale : Bool) (dirs : List Path) (text : List
 writing_fits state false dirs text o c = part_fits state dirs text o c.place
 writing_fits state true dirs text o c =
     let part = state_part state in
-    let both = told_both (HasPlace state dirs) (λ n. IsFileAt n (state_part state)) o c.place c.part in (
+    let both = told_both (StateHasPlace state dirs) (λ n. IsFileAt n (state_part state)) o c.place c.part in (
       can_by (Full state dirs) (entry.Unlinks part) o (λ n f. f.1) both,
-      λ now l. part_fits state dirs text now (left_one (Full state dirs) (HasPlace state dirs) (full_more state dirs) (place_more state dirs) (entry.Unlinks part)
+      λ now l. part_fits state dirs text now (left_one (Full state dirs) (StateHasPlace state dirs) (full_more state dirs) (place_more state dirs) (entry.Unlinks part)
           (λ r h fits. place_dropped state (state_part state) dirs (names (world r)) (part_apart state) h.1 h.0) l both),
     )

@@ -16,7 +16,7 @@ use Rattle.lr_plan.specs.Appending.{Appended, no_more, piece_more, AppendBroke, 
 use Rattle.lr_plan.specs.Course.{Course, StepThen}
 use Rattle.lr_plan.specs.Outcomes.{Succeeds, Fails, marks_of}
 use Rattle.lr_plan.specs.Steps.{state_steps}
-use Rattle.lr_writing.specs.Named.{Spares, IsReady, IsNamed, NamedLast, not_named, named}
+use Rattle.lr_writing.specs.Named.{Spares, IsTextReady, StateIsNamed, NamedLast, not_named, named}
 use Rattle.lr_writing.specs.Writes.{part_steps, name_steps}
 use Rattle.lr_writing.proofs.Coming.{whole_steps}
 
@@ -148,7 +148,7 @@ cleared part true text ms ts c =
 cleared part false text ms ts c = record { cleared = []; rest = ts; ts_are = refl; cleared_is = inl refl; is_filled = filled part text ms ts c }
 
 -- the part file was written whole, and then the directories were synced
-is_ready : (state : Path) (dirs : List Path) (text : List ℕ) (ts us : List Entry) → Cleared (state_part state) text ts → us ≡ map entry.SyncsDir dirs → IsReady state dirs text (ts ++ us)
+is_ready : (state : Path) (dirs : List Path) (text : List ℕ) (ts us : List Entry) → Cleared (state_part state) text ts → us ≡ map entry.SyncsDir dirs → IsTextReady state dirs text (ts ++ us)
 is_ready state dirs text ts us c syncs =
     let part = state_part state in
     let f = c.is_filled in
@@ -180,7 +180,7 @@ named_last state stale dirs text fs ts c =
     behind : (after : List Entry) (ms : List Mark) → Course (SyncsDir (parent_of state) ∷ []) ms fs after → Maybe (entry.SyncsDir (parent_of state)) after
     behind after ms d = ⊎_elim (λ stop. stop.failed.1) (λ g. inr (g.entries.joined ∙ (ap (λ us. us ++ g.entries.back) g.entries.first ∙ ap (λ us. entry.SyncsDir (parent_of state) ∷ us) g.entries.second.2))) d
 
-    last : (before back : List Entry) (ms : List Mark) → ts ≡ before ++ back → IsReady state dirs text before → Each (Spares state) before → Course names ms fs back → NamedLast state dirs text ts
+    last : (before back : List Entry) (ms : List Mark) → ts ≡ before ++ back → IsTextReady state dirs text before → Each (Spares state) before → Course names ms fs back → NamedLast state dirs text ts
     last before back ms j ready spared d = ⊎_elim
         (λ stop. ⊎_elim (λ none. not_named (subst (Each (Spares state)) (sym (j ∙ (ap (λ us. before ++ us) none ∙ append-nil before))) spared)) (λ one. named before [] (j ∙ ap (λ us. before ++ us) one) ready spared (inl refl)) stop.failed.1)
         (λ g. named before g.entries.back (j ∙ ap (λ us. before ++ us) (g.entries.joined ∙ ap (λ us. us ++ g.entries.back) g.entries.first)) ready spared (behind g.entries.back g.later g.entries.second)) d
@@ -195,7 +195,7 @@ named_last state stale dirs text fs ts c =
     first (stopped ms f e d) = not_named (course_spares state parts ms fs ts (part_aside state stale text) d)
     first (passed ms ns front back j d e) = second front back j (cleared (state_part state) stale text ms front d) (course_spares state parts ms [] front (part_aside state stale text) d) (split syncs names ns fs back e)
 
-pub named_whole : (state : Path) (stale : Bool) (dirs : List Path) (text : List ℕ) (ts : List Entry) → Course (state_steps state stale dirs text) [] [] ts → IsNamed state dirs text ts
+pub named_whole : (state : Path) (stale : Bool) (dirs : List Path) (text : List ℕ) (ts : List Entry) → Course (state_steps state stale dirs text) [] [] ts → StateIsNamed state dirs text ts
 named_whole state stale dirs text ts c =
     first (split parts (syncs ++ names) [] [] ts (subst (λ (ss : List Step). Course ss [] [] ts) (sym (whole_steps state stale dirs text)) c))
   where
@@ -208,7 +208,7 @@ named_whole state stale dirs text ts c =
     names : List Step
     names = name_steps (state_part state) state (parent_of state)
 
-    last : (before back : List Entry) (ms : List Mark) → ts ≡ before ++ back → IsReady state dirs text before → Each (Spares state) before → Course names ms [] back → IsNamed state dirs text ts
+    last : (before back : List Entry) (ms : List Mark) → ts ≡ before ++ back → IsTextReady state dirs text before → Each (Spares state) before → Course names ms [] back → StateIsNamed state dirs text ts
     last before back ms j ready spared d =
         let g = made (Renames (state_part state) state) (SyncsDir (parent_of state) ∷ []) ms back d in record {
           before = before;
@@ -217,12 +217,12 @@ named_whole state stale dirs text ts c =
           spared = spared;
         }
 
-    second : (front back : List Entry) → ts ≡ front ++ back → Cleared (state_part state) text front → Each (Spares state) front → Split syncs names [] back → IsNamed state dirs text ts
+    second : (front back : List Entry) → ts ≡ front ++ back → Cleared (state_part state) text front → Each (Spares state) front → Split syncs names [] back → StateIsNamed state dirs text ts
     second front back j w spared (stopped ms f e d) = absurd (cc)
     second front back j w spared (passed ms ns middle rest k d e) =
         last (front ++ middle) rest ns (j ∙ (ap (λ us. front ++ us) k ∙ sym (append_assoc front middle rest))) (is_ready state dirs text front middle w (syncs_are dirs ms middle d))
         (spared_on state front middle spared (course_spares state syncs ms [] middle (syncs_aside state dirs) d)) e
 
-    first : Split parts (syncs ++ names) [] ts → IsNamed state dirs text ts
+    first : Split parts (syncs ++ names) [] ts → StateIsNamed state dirs text ts
     first (stopped ms f e d) = absurd (cc)
     first (passed ms ns front back j d e) = second front back j (cleared (state_part state) stale text ms front d) (course_spares state parts ms [] front (part_aside state stale text) d) (split syncs names ns [] back e)

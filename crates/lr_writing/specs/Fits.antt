@@ -15,7 +15,7 @@ AreDirectories n [] = Unit {0}
 AreDirectories n (d ∷ dirs) = IsDirectoryAt n d × AreDirectories n dirs
 
 -- The state's path is that of a file, or free; its directory and the others stand.
-pub record HasPlace (state : Path) (dirs : List Path) (n : Names) : Type 0 where
+pub record StateHasPlace (state : Path) (dirs : List Path) (n : Names) : Type 0 where
   pub no_directory : n state ≢ thing.Directory
   pub no_other : n state ≢ thing.Other
   pub place : IsDirectoryAt n (parent_of state)
@@ -28,5 +28,5 @@ IsThere path false n = Unit {0}
 
 -- Where the journal is told: there is a place for the state, and the old part file that was seen stands.
 pub record CanBegin (told : Option Journal) (state : Path) (stale : Bool) (dirs : List Path) : Type 0 where
-  pub place : WhereTold told (λ p. HasPlace state dirs (names (world p)))
+  pub place : WhereTold told (λ p. StateHasPlace state dirs (names (world p)))
   pub part : WhereTold told (λ p. IsThere (state_part state) stale (names (world p)))

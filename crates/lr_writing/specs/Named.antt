@@ -21,7 +21,7 @@ Spares x _ = Unit {0}
 
 -- Behind these entries the part file has the text, durably, and the name changes in the directories are durable: an old file was
 -- unlinked or there was none; then the new one was made, got the text in pieces, and was synced; and each directory was.
-pub record IsReady (state : Path) (dirs : List Path) (text : List ℕ) (before : List Entry) : Type 0 where
+pub record IsTextReady (state : Path) (dirs : List Path) (text : List ℕ) (before : List Entry) : Type 0 where
   pub cleared : List Entry
   pub pieces : List Entry
   pub before_is : before ≡ cleared ++ (Makes (state_part state) (Some 416) ∷
@@ -30,15 +30,16 @@ pub record IsReady (state : Path) (dirs : List Path) (text : List ℕ) (before :
   pub text_is : Appended (state_part state) text pieces
 
 -- The state's path got a part file that was ready, by the one entry that touches it, and that is durable.
-pub record IsNamed (state : Path) (dirs : List Path) (text : List ℕ) (ts : List Entry) : Type 0 where
+pub record StateIsNamed (state : Path) (dirs : List Path) (text : List ℕ) (ts : List Entry) : Type 0 where
   pub before : List Entry
   pub ts_are : ts ≡ before ++ (Renames (state_part state) state ∷ SyncsDir (parent_of state) ∷ [])
-  pub ready : IsReady state dirs text before
+  pub ready : IsTextReady state dirs text before
   pub spared : Each (Spares state) before
 
 -- The state's path was spared; or one entry touches it, the rename of a part file that was ready, and behind it comes the sync of
 -- the directory, if anything.
 pub data NamedLast (state : Path) (dirs : List Path) (text : List ℕ) (ts : List Entry) : Type 0 where
   not_named : Each (Spares state) ts → NamedLast state dirs text ts
-  named : (before after : List Entry) → ts ≡ before ++ (Renames (state_part state) state ∷ after) → IsReady state dirs text before
+  named : (before after : List Entry) → ts ≡ before ++ (Renames (state_part state) state ∷ after)
+      → IsTextReady state dirs text before
       → Each (Spares state) before → Maybe (SyncsDir (parent_of state)) after → NamedLast state dirs text ts

@@ -57,13 +57,13 @@ abbrev pub faults_in : Result (Unit {0}) Fault → List Fault
 faults_in (Ok done) = []
 faults_in (Err f) = f ∷ []
 
-abbrev pub fault_of : Path → Refused → Fault
-fault_of path (refused.Call kind) = fault.Call kind path
-fault_of path refused.Taken = fault.Taken path
+abbrev pub refusal_fault : Path → Refused → Fault
+refusal_fault path (refused.Call kind) = fault.Call kind path
+refusal_fault path refused.Taken = fault.Taken path
 
 abbrev pub refusal : Path → Result (Unit {0}) Refused → List Fault
 refusal path (Ok done) = []
-refusal path (Err why) = fault_of path why ∷ []
+refusal path (Err why) = refusal_fault path why ∷ []
 
 -- ---- the parts of the writing
 

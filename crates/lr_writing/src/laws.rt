@@ -8,7 +8,7 @@ ghost use Rattle.lr_plan.specs.Steps.{state_steps};
 ghost use Rattle.lr_plan.specs.Course.{Course};
 ghost use Rattle.lr_plan.specs.Asking.{CanMake};
 ghost use Rattle.lr_writing.specs.Fits.{CanBegin};
-ghost use Rattle.lr_writing.specs.Named.{IsNamed, NamedLast};
+ghost use Rattle.lr_writing.specs.Named.{StateIsNamed, NamedLast};
 
 /// Whatever the steps of the writing left, whole or broken off: the state's path is touched by one rename alone, and
 /// before that the part file was made, got the whole text and was synced, and each of the directories was synced.
@@ -20,7 +20,7 @@ pub fn state_is_named_last()
 /// Where no step failed, the state's path has the new file, and that is durable.
 pub fn whole_writing_names_state()
     ensures { (state : Path) (stale : Bool) (dirs : List Path) (text : List ℕ) (ts : List Entry)
-        → Course (state_steps state stale dirs text) [] [] ts → IsNamed state dirs text ts }
+        → Course (state_steps state stale dirs text) [] [] ts → StateIsNamed state dirs text ts }
 {}
 
 /// What `write_state` asks for holds where the state's directory and the others stand, the state's path is that of a file

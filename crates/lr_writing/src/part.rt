@@ -4,7 +4,7 @@ ghost use Rattle.lr_state.specs.Written.{text_of};
 ghost use Rattle.lr_plan.specs.declared.step.Step.TheVariants as step;
 ghost use Rattle.lr_plan.specs.Steps.{step_if};
 ghost use Rattle.lr_plan.specs.Asking.{CanMake};
-ghost use Rattle.lr_writing.specs.Writes.{ComesTo, fault_of, refusal, part_steps};
+ghost use Rattle.lr_writing.specs.Writes.{ComesTo, refusal_fault, refusal, part_steps};
 
 use crate::refused::Refused;
 use crate::text::append_table;
@@ -14,7 +14,7 @@ use lr_state::State;
 
 /// The fault of a refusal at this path.
 pub fn fault_at(path: Path, why: Refused) -> Fault
-    ensures { result ≡ fault_of path why }
+    ensures { result ≡ refusal_fault path why }
 {
     match why {
         Refused::Call(kind) => Fault::Call(kind, path),

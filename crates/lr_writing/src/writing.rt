@@ -22,9 +22,9 @@ impl Model for Writing {
     ghost use Rattle.std.specs.Prelude.{◌≡◌, length};
     ghost use Rattle.lr_rules.specs.Path.{parent_of};
     ghost use Rattle.lr_rules.specs.StatePath.{state_part};
-    ghost use Rattle.lr_writing.specs.Target.{Target};
+    ghost use Rattle.lr_writing.specs.Target.{StateTarget};
 
-    ghost Value = { Target };
+    ghost Value = { StateTarget };
 
     ghost view = { λ w. record { state = w.state; stale = w.stale } };
 

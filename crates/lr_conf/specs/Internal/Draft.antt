@@ -24,10 +24,11 @@ use Rattle.lr_forms.specs.Says.{line_of, closes, said}
 use Rattle.lr_fields.specs.Fields.{last_or}
 use Rattle.lr_fields.specs.Rules.{rule_of}
 use Rattle.lr_fields.specs.Scripts.{script_fault}
-use Rattle.lr_conf.specs.Meaning.{Line, file_of, Read, Spoiled, End, Cut, Past, stands, spoiled, file_ends, breaks_off, Meaning}
+use Rattle.lr_conf.specs.Meaning.{Line, line_file, Read, Spoiled, End, Cut, OutsideLine, stands, spoiled}
+use Rattle.lr_conf.specs.Meaning.{file_ends, breaks_off, Meaning}
 use Rattle.lr_conf.specs.Meaning.{◌and◌, nothing, told, conf, list_of, of_line, of_spoilt, opened, or_line, past, ends, notice_of}
-use Rattle.lr_conf.specs.Meaning.{notice_past, line_faults, fault_of, said_behind, asks, asked, bans, after_bans, banned}
-use Rattle.lr_conf.specs.Stops.{faults_of, include_of}
+use Rattle.lr_conf.specs.Meaning.{notice_past, line_faults, line_fault, said_behind, asks, asked, bans, after_bans, banned}
+use Rattle.lr_conf.specs.Stops.{layer_faults, include_of}
 use Rattle.lr_fields.specs.Setting.{default_fields, with_set}
 
 -- ---- states
@@ -67,7 +68,7 @@ turned false o s = s
 turned true (Some at) s = record s { place = Good; fields = s.defaults; scripts = [] }
 turned true None s = record s { place = Dropped; words = []; first = None }
 
-abbrev pub outside : State → Past → State
+abbrev pub outside : State → OutsideLine → State
 outside s (stands at brace v) = turned brace (opened s.first (stands at brace v)) (spoken s at v)
 outside s (spoiled f) = s
 outside s file_ends = without_names s
@@ -107,7 +108,7 @@ step Dropped s e = dropped s e
 -- ---- what a line gives
 
 abbrev pub said_inside : Path → ℕ → Said → Meaning
-said_inside file at v = record { rules = []; notices = list_of (notice_of file at v); faults = list_of (fault_of file at v) }
+said_inside file at v = record { rules = []; notices = list_of (notice_of file at v); faults = list_of (line_fault file at v) }
 
 abbrev pub first_of : State → ℕ
 first_of s = or_line s.first 0
@@ -121,7 +122,7 @@ gives_good s (End file) = told (conf file kind.NoBrace (first_of s) ∷ [])
 gives_good s Cut = nothing
 
 abbrev pub gives_outside : State → Line → Meaning
-gives_outside s e = of_line (file_of e) s.first (past e)
+gives_outside s e = of_line (line_file e) s.first (past e)
 
 abbrev pub gives : Place → State → Line → Meaning
 gives Outside s e = gives_outside s e
@@ -202,14 +203,14 @@ pub record Unchanged (old : Draft) (new : Draft) : Type 0 where
 abbrev pub Steps : Draft → Draft → Path → Line → Result (Option Include) LayerStop → Type 0
 Steps old new file e (Ok include) = Stepped old new e [] (list_of include)
 Steps old new file e (Err stop.Memory) = Unchanged old new
-Steps old new file e (Err fault) = Stepped old new e (faults_of file fault) (include_of fault)
+Steps old new file e (Err fault) = Stepped old new e (layer_faults file fault) (include_of fault)
 
 -- What a call answered that took a line, and how lines go on behind it.
 abbrev pub TookIn : Draft → Draft → Path → Line → Result (Option Include) LayerStop → Type 0
 TookIn old new file e (Ok include) = (lines : List Line) → coming_from old (e ∷ lines) ≡ coming_from new lines
 TookIn old new file e (Err stop.Memory) = (lines : List Line) → coming_from new lines ≡ coming_from old lines
 TookIn old new file e (Err fault) = (lines : List Line) → coming_from old (e ∷ lines)
-    ≡ (told (faults_of file fault) and coming_from new lines)
+    ≡ (told (layer_faults file fault) and coming_from new lines)
 
 -- the file for which the answer asks is that of the line
 abbrev pub AsksIn : Draft → Draft → Line → Result (Option Include) LayerStop → Type 0
@@ -279,7 +280,8 @@ stray_kind None = Some kind.Stray
 stray_kind (Some first) = None
 
 -- a line outside definitions was taken in
-pub record Spoke (old : Draft) (new : Draft) (file : Path) (p : Past) (faults : List Fault) (includes : List Include) : Type 0 where
+pub record Spoke (old : Draft) (new : Draft) (file : Path) (p : OutsideLine) (faults : List Fault)
+    (includes : List Include) : Type 0 where
   pub state : state_of new ≡ outside (state_of old) p
   pub rules : new.rules.items ≡ old.rules.items
   pub notices : new.notices.items ≡ old.notices.items ++ list_of (notice_past file p)
@@ -288,10 +290,10 @@ pub record Spoke (old : Draft) (new : Draft) (file : Path) (p : Past) (faults : 
   pub includes_are : list_of (asks p) ≡ includes
   pub taboo : new.taboo ≡ after_bans old.taboo (list_of (bans p))
 
-abbrev pub Speaks : Draft → Draft → Path → Past → Result (Option Include) LayerStop → Type 0
+abbrev pub Speaks : Draft → Draft → Path → OutsideLine → Result (Option Include) LayerStop → Type 0
 Speaks old new file p (Ok include) = Spoke old new file p [] (list_of include)
 Speaks old new file p (Err stop.Memory) = Unchanged old new
-Speaks old new file p (Err fault) = Spoke old new file p (faults_of file fault) (include_of fault)
+Speaks old new file p (Err fault) = Spoke old new file p (layer_faults file fault) (include_of fault)
 
 -- names that are pending were let go
 pub record Settled (old : Draft) (new : Draft) (brace : Bool) : Type 0 where
@@ -323,7 +325,7 @@ pub record SaidInside (old : Draft) (new : Draft) (file : Path) (at : ℕ) (v : 
   pub state : state_of new ≡ with_said (state_of old) v
   pub rules : new.rules.items ≡ old.rules.items
   pub notices : new.notices.items ≡ old.notices.items ++ list_of (notice_of file at (said_behind old.scripts.items v))
-  pub faults_are : list_of (fault_of file at (said_behind old.scripts.items v)) ≡ faults
+  pub faults_are : list_of (line_fault file at (said_behind old.scripts.items v)) ≡ faults
   pub table : SameTable old new
 
 abbrev pub SaysInside : Draft → Draft → Path → ℕ → Said → Result (Option Include) LayerStop → Type 0
@@ -331,7 +333,7 @@ SaysInside old new file at v (Ok None) = SaidInside old new file at v []
 SaysInside old new file at v (Ok (Some include)) = ⊥
 SaysInside old new file at v (Err stop.Memory) = Unchanged old new
 SaysInside old new file at v (Err (stop.NoBraceThen first include)) = ⊥
-SaysInside old new file at v (Err fault) = SaidInside old new file at v (faults_of file fault)
+SaysInside old new file at v (Err fault) = SaidInside old new file at v (layer_faults file fault)
 
 -- the end of a file was taken in
 abbrev pub EndsFile : Draft → Draft → Path → Option (ℕ × ConfKind) → Type 0

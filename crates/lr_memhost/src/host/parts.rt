@@ -7,8 +7,9 @@ ghost use Rattle.lr_host.specs.declared.thing.Thing.TheVariants as thing;
 ghost use Rattle.lr_host.specs.World.{world, past, names};
 ghost use Rattle.lr_host.specs.Told.{Onward, Rose, Are, Did, DidWhere, Can};
 ghost use Rattle.lr_memhost.specs.How.{idles};
-ghost use Rattle.lr_memhost.specs.Acts.{counts_of, how_at, one_more, first_end, is_bad, after_end, IsFree, Starved, Unraised};
-ghost use Rattle.lr_memhost.specs.Acts.{Turned, IsSure, IsMaking};
+ghost use Rattle.lr_memhost.specs.Acts.{counts_of, how_at, one_more, first_end, is_bad_ending, after_end};
+ghost use Rattle.lr_memhost.specs.Acts.{LockIsFree, Starved, Unraised};
+ghost use Rattle.lr_memhost.specs.Acts.{CallTurned, IsSure, IsMaking};
 ghost use Rattle.lr_memhost.specs.Calm.{StaysCalm};
 ghost use Rattle.lr_memhost.specs.declared.act.How.TheVariants as way;
 
@@ -19,7 +20,7 @@ use lr_host::{CallFault, Entry};
 use lr_rules::{Ended, Memory, Path};
 
 fn is_bad_end(end: Ended) -> bool
-    ensures { result ≡ is_bad end }
+    ensures { result ≡ is_bad_ending end }
 {
     match end {
         Ended::Exit(code) => code != 0,
@@ -41,7 +42,7 @@ impl MemHost {
     // Lets writers act, numbers the call and says how it is to fail.
     pub(super) fn turn(&mut self) -> Option<How>
         ensures listed { result ≡ how_at self.old }
-        ensures turned { Turned (Are []) self.old self.new }
+        ensures turned { CallTurned (Are []) self.old self.new }
         ensures faults { self.new.faults ≡ self.old.faults }
         ensures starved { self.old.starved ≤ self.new.starved }
         ensures fed { self.new.acts ≡ [] → self.new.starved ≡ self.old.starved }
@@ -78,8 +79,8 @@ impl MemHost {
 
     // Makes a call of `begin` where the lock is taken.
     pub(super) fn begin_locked(&mut self) -> Result<bool, CallFault>
-        requires { ¬ IsFree self.old.rest }
-        ensures turned { Turned (Are []) self.old self.new }
+        requires { ¬ LockIsFree self.old.rest }
+        ensures turned { CallTurned (Are []) self.old self.new }
         ensures cause { OnErr result (Rose self.old.faults self.new.faults) }
         ensures faults { self.old.faults ≤ self.new.faults }
         ensures only { OnErr result (how_at self.old ≢ None) }
@@ -103,14 +104,14 @@ impl MemHost {
         entry: Result<Entry, Memory>,
     ) -> Result<(), CallFault>
         requires { IfOk entry (λ e. IsSure e × Can (Some self.old.journal) e) }
-        ensures turned { (e : Entry) → IfOk entry (λ x. x ≡ e) → Turned (Did result e) self.old self.new }
+        ensures turned { (e : Entry) → IfOk entry (λ x. x ≡ e) → CallTurned (Did result e) self.old self.new }
         ensures cause { OnErr result (Rose self.old.faults self.new.faults) }
         ensures counts { self.old.faults ≤ self.new.faults }
         ensures only { OnErr result ((how ≢ None) ⊎ Starved self.old self.new) }
         ensures listed { how ≢ None → IsErr result }
-        ensures nothing { idles how ≡ true → Turned (Are []) self.old self.new }
+        ensures nothing { idles how ≡ true → CallTurned (Are []) self.old self.new }
         ensures effect { (e : Entry) → IfOk entry (λ x. x ≡ e) → how ≡ Some way.WithEffect
-            → Turned (Are (e ∷ [])) self.old self.new ⊎ Starved self.old self.new }
+            → CallTurned (Are (e ∷ [])) self.old self.new ⊎ Starved self.old self.new }
         ensures steady { OnOk result (Unraised self.old self.new) }
         ensures calm { how ≡ None → StaysCalm self.old self.new }
         ensures rest { self.new.rest ≡ self.old.rest }
@@ -136,15 +137,15 @@ impl MemHost {
         entry: Result<Entry, Memory>,
     ) -> Result<bool, CallFault>
         requires { IfOk entry (λ e. IsMaking path.now e × Can (Some self.old.journal) e) }
-        ensures turned { (e : Entry) → IfOk entry (λ x. x ≡ e) → Turned (DidWhere result e) self.old self.new }
+        ensures turned { (e : Entry) → IfOk entry (λ x. x ≡ e) → CallTurned (DidWhere result e) self.old self.new }
         ensures named { result ≡ Ok false → names (world (past self.new.journal)) path.now ≢ thing.Nothing }
         ensures cause { OnErr result (Rose self.old.faults self.new.faults) }
         ensures counts { self.old.faults ≤ self.new.faults }
         ensures only { OnErr result ((how ≢ None) ⊎ Starved self.old self.new) }
         ensures listed { how ≢ None → IsErr result }
-        ensures nothing { idles how ≡ true → Turned (Are []) self.old self.new }
+        ensures nothing { idles how ≡ true → CallTurned (Are []) self.old self.new }
         ensures effect { (e : Entry) → IfOk entry (λ x. x ≡ e) → how ≡ Some way.WithEffect
-            → Turned (Are (e ∷ [])) self.old self.new ⊎ (names (world (past self.new.journal)) path.now ≢ thing.Nothing)
+            → CallTurned (Are (e ∷ [])) self.old self.new ⊎ (names (world (past self.new.journal)) path.now ≢ thing.Nothing)
             ⊎ Starved self.old self.new }
         ensures steady { OnOk result (Unraised self.old self.new) }
         ensures calm { how ≡ None → StaysCalm self.old self.new }
@@ -165,7 +166,7 @@ impl MemHost {
 
     // Whether somebody has the lock.
     pub(super) fn is_locked(&self) -> bool
-        ensures { IsTrue result ↔ ¬ IsFree self.now.rest }
+        ensures { IsTrue result ↔ ¬ LockIsFree self.now.rest }
     {
         self.mine || self.another
     }

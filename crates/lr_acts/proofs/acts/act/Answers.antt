@@ -8,8 +8,8 @@ use Rattle.lr_plan.specs.Cut.{SetCut, SetsCut}
 use Rattle.lr_plan.specs.Done.{SetDone, SetsDone}
 use Rattle.lr_plan.proofs.Courses.{every_more}
 use Rattle.lr_plan.proofs.Cuts.{list_cut}
-use Rattle.lr_acts.specs.Adding.{Adds, HasRoom}
-use Rattle.lr_acts.specs.Making.{HasProgram, Ends, all_of_set, all_of_sets}
+use Rattle.lr_acts.specs.Adding.{AddsSteps, HasRoom}
+use Rattle.lr_acts.specs.Making.{HasProgram, EndsSo, all_of_set, all_of_sets}
 use Rattle.lr_acts.proofs.Adding.{adds_on, adds_of_more, adds_none, fills_none, fills_on, room_part, room_rest}
 use Rattle.lr_acts.proofs.Parts.{leads, sets_next, sets_rest}
 use Rattle.lr_acts.proofs.Programs.{program_first, program_later, at_error}
@@ -45,7 +45,7 @@ returns-in_err-make_set-clause-told g c =
     let same : into_iter_items c.into_iter-set-iterator.result ≡ c.args.sets = c.into_iter-set-iterator.ensures.into_iter_gives.0 ∙ c.into_vec-set-items.ensures in
     let all : at.yielded ++ x ∷ rest ≡ c.args.sets = sym (ap (λ xs. at.yielded ++ xs) steps) ∙ (at.invariant.all ∙ same) in
     let is : c.from_residual.result ≡ Err c.in_err-make_set.field-0.0 = search rules in
-    subst (λ r. Adds (Ends (SetsDone c.args.sets) (SetsCut c.args.sets) r) (all_of_sets c.args.sets) c.args.progress.now c.make_set.new.progress (g.H.Host.told c.args.host.now) (g.H.Host.told c.make_set.new.host) (g.H.Host.counts c.args.host.now) (g.H.Host.counts c.make_set.new.host)) (sym is)
+    subst (λ r. AddsSteps (EndsSo (SetsDone c.args.sets) (SetsCut c.args.sets) r) (all_of_sets c.args.sets) c.args.progress.now c.make_set.new.progress (g.H.Host.told c.args.host.now) (g.H.Host.told c.make_set.new.host) (g.H.Host.counts c.args.host.now) (g.H.Host.counts c.make_set.new.host)) (sym is)
     (adds_of_more (all_of_sets at.yielded ++ (all_of_set x)) (all_of_sets rest) (all_of_sets c.args.sets) (sym (ap all_of_sets all) ∙ sets_rest at.yielded x rest)
     (adds_on (all_of_sets at.yielded) (all_of_set x) at.invariant.added c.in_err-make_set.ensures.told (λ ms ms' f f' ts ts' p q. list_cut SetDone SetCut at.yielded rest c.args.sets x ms ms' f f' ts ts' (sym all) p q)))
 
@@ -89,7 +89,7 @@ loop-set-preserved g c =
       long = (let was = at.invariant.long in let gone = c.in-Some.ensures.steps.1 in omega arith);
       fits = (subst (CanSets (g.H.Host.told at.host)) steps at.invariant.fits).1 (g.H.Host.told c.make_set.new.host) (leads c.in_ok-make_set.ensures.told (λ ms f ts p. p));
       room = room_rest (length (all_of_set x)) (length (all_of_sets rest)) (length (all_of_sets (into_iter_items at.set-iterator))) at.progress c.make_set.new.progress (omega (arith, size)) at.invariant.room c.make_set.ensures.fills;
-      added = subst (λ (ss : List Step). Adds (SetsDone (at.yielded ++ x ∷ [])) ss c.args.progress.now c.make_set.new.progress (g.H.Host.told c.args.host.now) (g.H.Host.told c.make_set.new.host) (g.H.Host.counts c.args.host.now) (g.H.Host.counts c.make_set.new.host)) (sym (sets_next at.yielded x))
+      added = subst (λ (ss : List Step). AddsSteps (SetsDone (at.yielded ++ x ∷ [])) ss c.args.progress.now c.make_set.new.progress (g.H.Host.told c.args.host.now) (g.H.Host.told c.make_set.new.host) (g.H.Host.counts c.args.host.now) (g.H.Host.counts c.make_set.new.host)) (sym (sets_next at.yielded x))
           (adds_on (all_of_sets at.yielded) (all_of_set x) at.invariant.added c.in_ok-make_set.ensures.told (λ ms ms' f f' ts ts' p q. every_more SetDone at.yielded x ms ms' f f' ts ts' p q));
       fills = fills_on (length (all_of_sets at.yielded)) (length (all_of_set x)) (length (all_of_sets (at.yielded ++ x ∷ []))) c.args.progress.now at.progress c.make_set.new.progress (omega (arith, more)) at.invariant.fills c.make_set.ensures.fills;
     }

@@ -9,7 +9,7 @@ use Rattle.lr_plan.specs.Outcomes.{Succeeds}
 use Rattle.lr_plan.specs.Course.{Course, BrokenOff}
 use Rattle.lr_plan.proofs.Courses.{course_more, course_stops}
 use Rattle.lr_plan.proofs.Cuts.{course_cut}
-use Rattle.lr_acts.specs.Adding.{Adds, HasRoom}
+use Rattle.lr_acts.specs.Adding.{AddsSteps, HasRoom}
 use Rattle.lr_acts.specs.Making.{HasProgram, WasMade, StepsEnd}
 use Rattle.lr_acts.proofs.Adding.{adds_on, adds_of_more, adds_none, fills_none, fills_on, room_rest}
 use Rattle.lr_acts.proofs.Programs.{program_later, at_error}
@@ -37,7 +37,7 @@ returns-in_err-went-clause-told g c =
     let same : into_iter_items c.into_iter-step-iterator.result ≡ c.args.steps = c.into_iter-step-iterator.ensures.into_iter_gives.0 ∙ c.into_vec-step-items.ensures in
     let all : at.yielded ++ x ∷ rest ≡ c.args.steps = sym (ap (λ xs. at.yielded ++ xs) steps) ∙ (at.invariant.all ∙ same) in
     let is : c.from_residual.result ≡ Err c.in_err-went.field-0.0 = search rules in
-    subst (λ r. Adds (StepsEnd c.args.steps r) c.args.steps c.args.progress.now c.take_step.new.progress (g.H.Host.told c.args.host.now) (g.H.Host.told c.take_step.new.host) (g.H.Host.counts c.args.host.now) (g.H.Host.counts c.take_step.new.host)) (sym is)
+    subst (λ r. AddsSteps (StepsEnd c.args.steps r) c.args.steps c.args.progress.now c.take_step.new.progress (g.H.Host.told c.args.host.now) (g.H.Host.told c.take_step.new.host) (g.H.Host.counts c.args.host.now) (g.H.Host.counts c.take_step.new.host)) (sym is)
     (adds_of_more (at.yielded ++ x ∷ []) rest c.args.steps (sym all ∙ sym (append_assoc at.yielded (x ∷ []) rest))
     (adds_on at.yielded (x ∷ []) at.invariant.added c.in_err-went.ensures.told (λ ms ms' f f' ts ts' w n. course_cut at.yielded rest c.args.steps x ms ms' f f' ts ts' (sym all) c.in_err-went.ensures.memory w n)))
 
@@ -60,7 +60,7 @@ returns-then-not-went-clause-told g c =
     let same : into_iter_items c.into_iter-step-iterator.result ≡ c.args.steps = c.into_iter-step-iterator.ensures.into_iter_gives.0 ∙ c.into_vec-step-items.ensures in
     let all : at.yielded ++ x ∷ rest ≡ c.args.steps = sym (ap (λ xs. at.yielded ++ xs) steps) ∙ (at.invariant.all ∙ same) in
     let no : c.in_ok-went.went ≡ false = search rules in
-    subst (λ (xs : List Step). Adds (BrokenOff (Course xs)) xs c.args.progress.now c.take_step.new.progress (g.H.Host.told c.args.host.now) (g.H.Host.told c.take_step.new.host) (g.H.Host.counts c.args.host.now) (g.H.Host.counts c.take_step.new.host)) all
+    subst (λ (xs : List Step). AddsSteps (BrokenOff (Course xs)) xs c.args.progress.now c.take_step.new.progress (g.H.Host.told c.args.host.now) (g.H.Host.told c.take_step.new.host) (g.H.Host.counts c.args.host.now) (g.H.Host.counts c.take_step.new.host)) all
     (adds_of_more (at.yielded ++ x ∷ []) rest (at.yielded ++ x ∷ rest) (sym (append_assoc at.yielded (x ∷ []) rest))
     (adds_on at.yielded (x ∷ []) at.invariant.added (rw no at c.in_ok-went.ensures.told) (λ ms ms' f f' ts ts' w s. course_stops at.yielded rest x ms ms' f f' ts ts' w s)))
 
@@ -71,7 +71,7 @@ loop-step-preserved g c =
     let rest = into_iter_items c.next.new.self in
     let steps : into_iter_items at.step-iterator ≡ x ∷ rest = c.in-Some.ensures.steps.0 in
     let yes : c.in_ok-went.went ≡ true = search rules in
-    let took : Adds (WasMade x) (x ∷ []) at.progress c.take_step.new.progress (g.H.Host.told at.host) (g.H.Host.told c.take_step.new.host) (g.H.Host.counts at.host) (g.H.Host.counts c.take_step.new.host) = rw yes at c.in_ok-went.ensures.told in
+    let took : AddsSteps (WasMade x) (x ∷ []) at.progress c.take_step.new.progress (g.H.Host.told at.host) (g.H.Host.told c.take_step.new.host) (g.H.Host.counts at.host) (g.H.Host.counts c.take_step.new.host) = rw yes at c.in_ok-went.ensures.told in
     let left : Left (Succeeds x) (g.H.Host.told at.host) (g.H.Host.told c.take_step.new.host) = left_as took.entries (λ ts w. w.2) in
     let short : length (into_iter_items at.step-iterator) ≡ length (x ∷ rest) = ap length steps in
     let longer : length (at.yielded ++ x ∷ []) ≡ length at.yielded + length (x ∷ []) = length-append at.yielded (x ∷ []) in record {

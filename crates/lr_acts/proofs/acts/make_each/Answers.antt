@@ -8,8 +8,8 @@ use Rattle.lr_plan.specs.Course.{Course}
 use Rattle.lr_plan.specs.Done.{EachDone}
 use Rattle.lr_plan.proofs.Courses.{every_more}
 use Rattle.lr_plan.proofs.Cuts.{list_cut}
-use Rattle.lr_acts.specs.Adding.{Adds, HasRoom}
-use Rattle.lr_acts.specs.Making.{HasProgram, Ends, all_of_each}
+use Rattle.lr_acts.specs.Adding.{AddsSteps, HasRoom}
+use Rattle.lr_acts.specs.Making.{HasProgram, EndsSo, all_of_each}
 use Rattle.lr_acts.proofs.Adding.{adds_on, adds_of_more, adds_none, fills_none, fills_on, room_part, room_rest}
 use Rattle.lr_acts.proofs.Parts.{course_of, leads, each_next, each_rest}
 use Rattle.lr_acts.proofs.Programs.{program_first, program_later, at_error}
@@ -45,7 +45,7 @@ returns-in_err-_went-clause-told g c =
     let same : into_iter_items c.into_iter-steps-iterator.result ≡ c.args.each = c.into_iter-steps-iterator.ensures.into_iter_gives.0 ∙ c.into_vec-steps-items.ensures in
     let all : at.yielded ++ x ∷ rest ≡ c.args.each = sym (ap (λ xs. at.yielded ++ xs) steps) ∙ (at.invariant.all ∙ same) in
     let is : c.from_residual.result ≡ Err c.in_err-_went.field-0.0 = search rules in
-    subst (λ r. Adds (Ends (EachDone c.args.each) (ListCut Course CourseCut c.args.each) r) (all_of_each c.args.each) c.args.progress.now c.make_all.new.progress (g.H.Host.told c.args.host.now) (g.H.Host.told c.make_all.new.host) (g.H.Host.counts c.args.host.now) (g.H.Host.counts c.make_all.new.host)) (sym is)
+    subst (λ r. AddsSteps (EndsSo (EachDone c.args.each) (ListCut Course CourseCut c.args.each) r) (all_of_each c.args.each) c.args.progress.now c.make_all.new.progress (g.H.Host.told c.args.host.now) (g.H.Host.told c.make_all.new.host) (g.H.Host.counts c.args.host.now) (g.H.Host.counts c.make_all.new.host)) (sym is)
     (adds_of_more (all_of_each at.yielded ++ x) (all_of_each rest) (all_of_each c.args.each) (sym (ap all_of_each all) ∙ each_rest at.yielded x rest)
     (adds_on (all_of_each at.yielded) x at.invariant.added c.in_err-_went.ensures.told (λ ms ms' f f' ts ts' p q. list_cut Course CourseCut at.yielded rest c.args.each x ms ms' f f' ts ts' (sym all) p q)))
 
@@ -89,7 +89,7 @@ loop-steps-preserved g c =
       long = (let was = at.invariant.long in let gone = c.in-Some.ensures.steps.1 in omega arith);
       fits = (subst (CanEach (g.H.Host.told at.host)) steps at.invariant.fits).1 (g.H.Host.told c.make_all.new.host) (leads c.in_ok-_went.ensures.told (course_of x c.in_ok-_went._went));
       room = room_rest (length x) (length (all_of_each rest)) (length (all_of_each (into_iter_items at.steps-iterator))) at.progress c.make_all.new.progress (omega (arith, size)) at.invariant.room c.make_all.ensures.fills;
-      added = subst (λ (ss : List Step). Adds (EachDone (at.yielded ++ x ∷ [])) ss c.args.progress.now c.make_all.new.progress (g.H.Host.told c.args.host.now) (g.H.Host.told c.make_all.new.host) (g.H.Host.counts c.args.host.now) (g.H.Host.counts c.make_all.new.host)) (sym (each_next at.yielded x))
+      added = subst (λ (ss : List Step). AddsSteps (EachDone (at.yielded ++ x ∷ [])) ss c.args.progress.now c.make_all.new.progress (g.H.Host.told c.args.host.now) (g.H.Host.told c.make_all.new.host) (g.H.Host.counts c.args.host.now) (g.H.Host.counts c.make_all.new.host)) (sym (each_next at.yielded x))
           (adds_on (all_of_each at.yielded) x at.invariant.added c.in_ok-_went.ensures.told (λ ms ms' f f' ts ts' p q. every_more Course at.yielded x ms ms' f f' ts ts' p (course_of x c.in_ok-_went._went ms' f' ts' q)));
       fills = fills_on (length (all_of_each at.yielded)) (length x) (length (all_of_each (at.yielded ++ x ∷ []))) c.args.progress.now at.progress c.make_all.new.progress (omega (arith, more)) at.invariant.fills c.make_all.ensures.fills;
     }

@@ -2,7 +2,7 @@ use Rattle.std.proofs.Common.{◌≡◌, ◌++◌, length}
 use Rattle.std.specs.Vec.Iter.{into_iter_items, into_iter_len}
 use Rattle.lr_plan.specs.Asking.{CanEach}
 use Rattle.lr_plan.specs.Done.{EachDone}
-use Rattle.lr_acts.specs.Adding.{Adds, HasRoom, Fills}
+use Rattle.lr_acts.specs.Adding.{AddsSteps, HasRoom, FillsRoom}
 use Rattle.lr_acts.specs.Making.{all_of_each}
 use Rattle.lr_acts.proofs.acts.make_each.Given as goal
 
@@ -14,6 +14,6 @@ invariant-loop-steps g l = record {
   long : into_iter_len l.steps-iterator ≡ length (into_iter_items l.steps-iterator);
   fits : CanEach (g.H.Host.told l.host) (into_iter_items l.steps-iterator);
   room : HasRoom (length (all_of_each (into_iter_items l.steps-iterator))) l.progress;
-  added : Adds (EachDone l.yielded) (all_of_each l.yielded) l.initial.progress l.progress (g.H.Host.told l.initial.host) (g.H.Host.told l.host) (g.H.Host.counts l.initial.host) (g.H.Host.counts l.host);
-  fills : Fills (length (all_of_each l.yielded)) l.initial.progress l.progress;
+  added : AddsSteps (EachDone l.yielded) (all_of_each l.yielded) l.initial.progress l.progress (g.H.Host.told l.initial.host) (g.H.Host.told l.host) (g.H.Host.counts l.initial.host) (g.H.Host.counts l.host);
+  fills : FillsRoom (length (all_of_each l.yielded)) l.initial.progress l.progress;
 }

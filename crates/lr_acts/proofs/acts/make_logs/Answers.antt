@@ -3,8 +3,8 @@ use Rattle.std.proofs.lemmas.List.{length-append}
 use Rattle.lr_plan.specs.Course.{Course}
 use Rattle.lr_plan.specs.Cut.{CourseCut, LogsCut, in_each, in_last}
 use Rattle.lr_plan.specs.Done.{LogsDone}
-use Rattle.lr_acts.specs.Adding.{Adds}
-use Rattle.lr_acts.specs.Making.{Ends, HasProgram, StepsEnd, all_of_each}
+use Rattle.lr_acts.specs.Adding.{AddsSteps}
+use Rattle.lr_acts.specs.Making.{EndsSo, HasProgram, StepsEnd, all_of_each}
 use Rattle.lr_acts.proofs.Adding.{adds_as, adds_of_more, fills_more, fills_on, room_part, room_rest}
 use Rattle.lr_acts.proofs.Parts.{any_added, logs_last, logs_alone, course_of}
 use Rattle.lr_acts.proofs.Programs.{program_first, program_later, at_error}
@@ -18,7 +18,7 @@ make_each-requires-clause-room g c =
 pub returns-in_err-make_each-clause-told : goal.returns-in_err-make_each-clause-told
 returns-in_err-make_each-clause-told g c =
     let is : c.from_residual.result ≡ Err c.in_err-make_each.field-0.0 = search rules in
-    subst (λ r. Adds (Ends (LogsDone c.args.each c.args.last) (LogsCut c.args.each c.args.last) r) (all_of_each c.args.each ++ c.args.last) c.args.progress.now c.make_each.new.progress (g.H.Host.told c.args.host.now) (g.H.Host.told c.make_each.new.host) (g.H.Host.counts c.args.host.now) (g.H.Host.counts c.make_each.new.host)) (sym is)
+    subst (λ r. AddsSteps (EndsSo (LogsDone c.args.each c.args.last) (LogsCut c.args.each c.args.last) r) (all_of_each c.args.each ++ c.args.last) c.args.progress.now c.make_each.new.progress (g.H.Host.told c.args.host.now) (g.H.Host.told c.make_each.new.host) (g.H.Host.counts c.args.host.now) (g.H.Host.counts c.make_each.new.host)) (sym is)
     (adds_of_more (all_of_each c.args.each) c.args.last (all_of_each c.args.each ++ c.args.last) refl (adds_as c.in_err-make_each.ensures.told (λ ms f ts p. in_each p)))
 
 pub returns-in_err-make_each-clause-fills : goal.returns-in_err-make_each-clause-fills
@@ -36,7 +36,7 @@ returns-in_err-_went-clause-told g c =
     let before = ap length c.as_slice-before.ensures.value in
     let some = any_added c.in_ok-make_each.ensures.told true c.as_slice.result.now (length c.as_slice-before.result.now) c.as_slice.ensures.value before (sym c.if-any_rotated.true ∙ c.any_rotated.ensures) in
     let is : c.from_residual-in_err-_went.result ≡ Err c.in_err-_went.field-0.0 = search rules in
-    subst (λ r. Adds (Ends (LogsDone c.args.each c.args.last) (LogsCut c.args.each c.args.last) r) (all_of_each c.args.each ++ c.args.last) c.args.progress.now c.make_all.new.progress (g.H.Host.told c.args.host.now) (g.H.Host.told c.make_all.new.host) (g.H.Host.counts c.args.host.now) (g.H.Host.counts c.make_all.new.host)) (sym is)
+    subst (λ r. AddsSteps (EndsSo (LogsDone c.args.each c.args.last) (LogsCut c.args.each c.args.last) r) (all_of_each c.args.each ++ c.args.last) c.args.progress.now c.make_all.new.progress (g.H.Host.told c.args.host.now) (g.H.Host.told c.make_all.new.host) (g.H.Host.counts c.args.host.now) (g.H.Host.counts c.make_all.new.host)) (sym is)
     (adds_as (logs_last CourseCut CourseCut c.args.each c.args.last c.in_ok-make_each.ensures.told some (λ ms f ts p. p) c.in_err-_went.ensures.told) (λ ms f ts p. in_last p))
 
 pub returns-in_ok-_went-clause-told : goal.returns-in_ok-_went-clause-told

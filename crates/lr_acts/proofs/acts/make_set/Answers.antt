@@ -3,8 +3,8 @@ use Rattle.std.proofs.lemmas.List.{length-append}
 use Rattle.std.proofs.lemmas.Result.{IfErr-weaker}
 use Rattle.lr_plan.specs.Cut.{SetCut, in_first}
 use Rattle.lr_plan.specs.Done.{SetDone, broke_off}
-use Rattle.lr_acts.specs.Adding.{Adds}
-use Rattle.lr_acts.specs.Making.{Ends, HasProgram, all_of_each, all_of_set}
+use Rattle.lr_acts.specs.Adding.{AddsSteps}
+use Rattle.lr_acts.specs.Making.{EndsSo, HasProgram, all_of_each, all_of_set}
 use Rattle.lr_acts.proofs.Adding.{adds_as, adds_of_more, fills_more, fills_on, room_part, room_rest}
 use Rattle.lr_acts.proofs.Parts.{set_ends, leads, course_of}
 use Rattle.lr_acts.proofs.Programs.{program_first, program_later, at_error}
@@ -18,7 +18,7 @@ make_all-requires-clause-room g c =
 pub returns-in_err-went-clause-told : goal.returns-in_err-went-clause-told
 returns-in_err-went-clause-told g c =
     let is : c.from_residual.result ≡ Err c.in_err-went.field-0.0 = search rules in
-    subst (λ r. Adds (Ends (SetDone c.args.set) (SetCut c.args.set) r) (all_of_set c.args.set) c.args.progress.now c.make_all.new.progress (g.H.Host.told c.args.host.now) (g.H.Host.told c.make_all.new.host) (g.H.Host.counts c.args.host.now) (g.H.Host.counts c.make_all.new.host)) (sym is)
+    subst (λ r. AddsSteps (EndsSo (SetDone c.args.set) (SetCut c.args.set) r) (all_of_set c.args.set) c.args.progress.now c.make_all.new.progress (g.H.Host.told c.args.host.now) (g.H.Host.told c.make_all.new.host) (g.H.Host.counts c.args.host.now) (g.H.Host.counts c.make_all.new.host)) (sym is)
     (adds_of_more c.args.set.first (all_of_each c.args.set.each ++ c.args.set.last) (all_of_set c.args.set) refl (adds_as c.in_err-went.ensures.told (λ ms f ts p. in_first p)))
 
 pub returns-in_err-went-clause-fills : goal.returns-in_err-went-clause-fills

@@ -5,7 +5,7 @@ use Rattle.lr_rules.specs.declared.rule.Rule.{Rule}
 use Rattle.lr_plan.specs.declared.looks.LogLook.{LogLook}
 use Rattle.lr_plan.specs.declared.looks.SetLooks.{SetLooks}
 use Rattle.lr_plan.specs.Planned.{CanPlan}
-use Rattle.lr_audited.specs.Lines.{set_lines, sets_lines}
+use Rattle.lr_audited.specs.Lines.{rule_lines, sets_lines}
 use Rattle.lr_audited.proofs.Telling.{as_many, can_at, sets_more}
 use Rattle.lr_audited.proofs.lines.add_sets.Goals as goal
 
@@ -19,7 +19,7 @@ add_set-requires c = subst (All CanPlan) (sym (c.as_slice.ensures ∙ ap (λ (s 
 pub loop-at-preserved : goal.loop-at-preserved
 loop-at-preserved c = record {
   lines = sets_more c.args.rules.now c.args.sets.now c.loop-at.at c.index-rules-at.result c.index-sets-at.result c.args.lines.now.items c.loop-at.lines.items c.add_set.new.lines.items c.loop-at-test.true (as_many c.args.rules.now c.args.sets.now c.requires) c.index-rules-at.is c.index-sets-at.is c.loop-at.invariant.lines
-      (subst (λ (ls : List LogLook). c.add_set.new.lines.items ≡ c.loop-at.lines.items ++ set_lines c.index-rules-at.result ls) (c.as_slice.ensures ∙ ap (λ (s : SetLooks). s.logs) (sym c.index-sets-at.is)) c.in_ok-add_set.ensures);
+      (subst (λ (ls : List LogLook). c.add_set.new.lines.items ≡ c.loop-at.lines.items ++ rule_lines c.index-rules-at.result ls) (c.as_slice.ensures ∙ ap (λ (s : SetLooks). s.logs) (sym c.index-sets-at.is)) c.in_ok-add_set.ensures);
 }
 
 pub returns : goal.returns

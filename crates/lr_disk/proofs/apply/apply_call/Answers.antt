@@ -1,7 +1,7 @@
 use Rattle.std.proofs.Common.{rules, ◌≡◌, to_z, of_z, w64, refl, sym, ap, subst, ◌∙◌}
 use Rattle.lr_host.specs.declared.entry.Entry.TheVariants as entry
 use Rattle.lr_host.specs.World.{effect}
-use Rattle.lr_disk.specs.State.{Shows, made_world}
+use Rattle.lr_disk.specs.State.{ShowsWorld, made_world}
 use Rattle.lr_disk.proofs.StateLemmas.{renames_is, unlinks_is, directory_is, settles_is, starts_is, makes_is, shows_rest}
 use Rattle.lr_disk.proofs.apply.apply_call.Goals as goal
 
@@ -25,16 +25,16 @@ returns-in-Starts c = λ w shows.
 pub returns-in-Makes : goal.returns-in-Makes
 returns-in-Makes c = λ w shows.
     let at : to_z w64 (of_z w64 c.args.state.now.moment) ≡ c.args.state.now.moment = search rules in
-    makes_is c.args.state.now c.draw.new.state w _ c.in-Makes.path c.in-Makes.mode c.in-Makes.is shows c.requires.ready (λ v x can s. subst (λ z. Shows c.draw.new.state (made_world v x z c.in-Makes.mode)) at (c.draw.ensures.made v x can s))
+    makes_is c.args.state.now c.draw.new.state w _ c.in-Makes.path c.in-Makes.mode c.in-Makes.is shows c.requires.ready (λ v x can s. subst (λ z. ShowsWorld c.draw.new.state (made_world v x z c.in-Makes.mode)) at (c.draw.ensures.made v x can s))
 
 pub returns-in-Appends : goal.returns-in-Appends
-returns-in-Appends c = λ w shows. subst (λ e. Shows c.append.new.state (effect w e)) (sym (c.in-Appends.is ∙ ap (λ b. entry.Appends c.in-Appends.path b) (sym c.as_slice.ensures))) (c.append.ensures w shows)
+returns-in-Appends c = λ w shows. subst (λ e. ShowsWorld c.append.new.state (effect w e)) (sym (c.in-Appends.is ∙ ap (λ b. entry.Appends c.in-Appends.path b) (sym c.as_slice.ensures))) (c.append.ensures w shows)
 
 pub returns-in-Truncates : goal.returns-in-Truncates
-returns-in-Truncates c = λ w shows. subst (λ e. Shows c.truncate.new.state (effect w e)) (sym c.in-Truncates.is) (c.truncate.ensures w shows)
+returns-in-Truncates c = λ w shows. subst (λ e. ShowsWorld c.truncate.new.state (effect w e)) (sym c.in-Truncates.is) (c.truncate.ensures w shows)
 
 pub returns-in-SyncsFile : goal.returns-in-SyncsFile
-returns-in-SyncsFile c = λ w shows. subst (λ e. Shows c.sync_file.new.state (effect w e)) (sym c.in-SyncsFile.is) (c.sync_file.ensures w shows)
+returns-in-SyncsFile c = λ w shows. subst (λ e. ShowsWorld c.sync_file.new.state (effect w e)) (sym c.in-SyncsFile.is) (c.sync_file.ensures w shows)
 
 pub returns-in_default : goal.returns-in_default
 returns-in_default c = λ w shows.

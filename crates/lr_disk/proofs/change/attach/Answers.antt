@@ -3,7 +3,7 @@ use Rattle.std.specs.Vec.{with_items}
 use Rattle.std.proofs.lemmas.Int.{to_z-of_z}
 use Rattle.std.proofs.lemmas.List.{with_items_is}
 use Rattle.lr_disk.specs.Names.{named_in}
-use Rattle.lr_disk.specs.State.{Shows, hold_in, made_world}
+use Rattle.lr_disk.specs.State.{ShowsWorld, hold_in, made_world}
 use Rattle.lr_disk.proofs.StateLemmas.{shows_attached, shows_drawn, shows_unattached}
 use Rattle.lr_disk.proofs.change.attach.Goals as goal
 
@@ -13,7 +13,7 @@ returns-in-Nothing c = λ w shows.
     let named : c.thing_at.result ≡ named_in c.args.state.now.tree.names.items c.args.path.now = c.thing_at.ensures ∙ (ap (λ ns. named_in ns c.bytes.result.now) c.deref.ensures.value ∙ ap (named_in c.args.state.now.tree.names.items) c.bytes.ensures.bytes) in
     let size : c.len-identity.result ≡ length c.args.state.now.files.items = c.len-identity.ensures ∙ c.args.state.now.files.ok.0 in
     let holds_is : (with_items r.holds c.set_hold.new.holds).items ≡ c.set_hold.new.holds = with_items_is r.holds c.set_hold.new.holds (c.set_hold.auto.holds ∙ c.deref_mut.ensures.len) in
-    shows_drawn c.args.state.now r _ w c.args.writer c.args.path.now c.args.at (sym named ∙ c.in-Nothing.is) shows (subst (λ z. Shows r (made_world w c.args.path.now z None)) (to_z-of_z w64 c.args.at c.ranges.at) (c.draw.ensures.made w c.args.path.now c.requires.ready.0 shows)) refl refl refl
+    shows_drawn c.args.state.now r _ w c.args.writer c.args.path.now c.args.at (sym named ∙ c.in-Nothing.is) shows (subst (λ z. ShowsWorld r (made_world w c.args.path.now z None)) (to_z-of_z w64 c.args.at c.ranges.at) (c.draw.ensures.made w c.args.path.now c.requires.ready.0 shows)) refl refl refl
     (λ v. ap (λ hs. hold_in hs v) holds_is ∙ (c.set_hold.ensures v ∙ (ap (λ hs. cond (nat_eq c.args.writer v) (Some c.len-identity.result) (hold_in hs v)) c.deref_mut.ensures.value ∙ ap (λ d. cond (nat_eq c.args.writer v) (Some d) (hold_in r.holds.items v)) size)))
 
 pub returns-in-File : goal.returns-in-File

@@ -1,7 +1,7 @@
 use Rattle.std.proofs.Common.{◌≡◌, ◌<◌, ◌≤◌, ◌==◌, [], ◌∷◌, length, count_by, sym, ap, subst, ◌∙◌, Contains, All}
 use Rattle.lr_rules.specs.Path.{parent_of}
 use Rattle.lr_host.specs.Lists.{AreDistinct}
-use Rattle.lr_host.specs.Opening.{paths_of}
+use Rattle.lr_host.specs.Opening.{opening_paths}
 use Rattle.lr_disk.specs.Pairs.{keys}
 use Rattle.lr_disk.proofs.OpenedLemmas.{keys_names}
 use Rattle.lr_disk.proofs.ValidLemmas.{all_keys}
@@ -17,7 +17,7 @@ pub returns-then-not-are_inside : goal.returns-then-not-are_inside
 returns-then-not-are_inside c = (
   (λ t. absurd (cc)),
   (λ v.
-      let paths : keys c.args.names.now ≡ paths_of c.args.opening.now = ap keys c.requires ∙ keys_names c.args.opening.now in
+      let paths : keys c.args.names.now ≡ opening_paths c.args.opening.now = ap keys c.requires ∙ keys_names c.args.opening.now in
       sym c.if-not-are_inside.true
       ∙ c.are_inside.ensures.1 ((all_keys (λ x. Contains c.as_slice-dirs.result.now (parent_of x)) c.args.names.now).1
       (subst (λ ds. All (λ x. Contains ds (parent_of x)) (keys c.args.names.now)) (sym c.as_slice-dirs.ensures)
@@ -33,7 +33,7 @@ returns-then-not-are_named c = (
 
 pub returns : goal.returns
 returns c =
-    let paths : keys c.args.names.now ≡ paths_of c.args.opening.now = ap keys c.requires ∙ keys_names c.args.opening.now in (
+    let paths : keys c.args.names.now ≡ opening_paths c.args.opening.now = ap keys c.requires ∙ keys_names c.args.opening.now in (
       (λ t. record {
         once = subst AreDistinct paths (c.are_once.ensures.0 c.if-not-are_once.false);
         root = subst (λ ds. Contains ds (47 ∷ [])) c.as_slice-dirs.ensures (c.has.ensures.0 c.if-not-has.false);

@@ -2,7 +2,7 @@ use Rattle.std.proofs.Common.{◌≡◌, ◌≤◌, ◌-◌, ◌++◌, ℕ, List
 use Rattle.std.specs.Prelude.{All, Contains}
 use Rattle.std.specs.List.Sorted.{IsPartitionedBy}
 use Rattle.std.proofs.lemmas.List.Sorted.{IsPartitionPoint-from_clause}
-use Rattle.lr_family.specs.Listed.{AreRising}
+use Rattle.lr_family.specs.Listed.{NamesRise}
 use Rattle.lr_family.proofs.Prefixes.{before, begins, before_first, begun_first, StartsAt, EndsAt, rest_is, part_has, part_begins, part_rises}
 use Rattle.lr_family.proofs.prefix.names_with.Goals as goal
 
@@ -30,4 +30,4 @@ returns-clause-begin c = subst (λ (xs : List (List ℕ)). All (λ name. begins 
     (λ k d lt. part_begins c.args.base.now (drop c.partition_point-first.result c.args.names.now) c.partition_point-end.result (found c).1 (fits c) k d lt)
 
 pub returns-clause-rising : goal.returns-clause-rising
-returns-clause-rising c = subst (λ (xs : List (List ℕ)). AreRising (take c.partition_point-end.result xs)) (sym (rest_is c.args.names.now c.partition_point-first.result)) (part_rises c.args.names.now c.partition_point-first.result c.partition_point-end.result c.requires)
+returns-clause-rising c = subst (λ (xs : List (List ℕ)). NamesRise (take c.partition_point-end.result xs)) (sym (rest_is c.args.names.now c.partition_point-first.result)) (part_rises c.args.names.now c.partition_point-first.result c.partition_point-end.result c.requires)

@@ -1,6 +1,6 @@
 use Rattle.std.proofs.Common.{List, ◌++◌, ◌∷◌, [], take, refl, sym, ap, ◌∙◌, subst, arith}
 use Rattle.std.proofs.lemmas.List.{take_more, take_all}
-use Rattle.lr_glob.specs.Gathers.{Gathers, Adds}
+use Rattle.lr_glob.specs.Gathers.{Gathers, AddsPaths}
 use Rattle.lr_glob.specs.Parts.{JoinOf}
 use Rattle.lr_glob.proofs.Gathering.{adds_none, adds_more}
 use Rattle.lr_glob.proofs.picking.join_each.Goals as goal
@@ -13,4 +13,4 @@ loop-dir-preserved c = adds_more (λ dir its. JoinOf dir c.args.name.now its) (t
     (take_more c.args.dirs.now c.loop-dir.dir-index c.dir-item.result c.loop-dir-test.true ∙ ap (λ x. take c.loop-dir.dir-index c.args.dirs.now ++ x ∷ []) (sym c.dir-item.is)) c.loop-dir.invariant c.in_ok-add_join.ensures
 
 pub returns : goal.returns
-returns c = subst (λ (ds : List _). Adds (Gathers (λ dir its. JoinOf dir c.args.name.now its) ds) c.args.into.now.items c.loop-dir.into.items) (take_all c.loop-dir.dir-index c.args.dirs.now (omega arith)) c.loop-dir.invariant
+returns c = subst (λ (ds : List _). AddsPaths (Gathers (λ dir its. JoinOf dir c.args.name.now its) ds) c.args.into.now.items c.loop-dir.into.items) (take_all c.loop-dir.dir-index c.args.dirs.now (omega arith)) c.loop-dir.invariant

@@ -1,7 +1,7 @@
 use Rattle.std.proofs.Common.{◌≡◌, ◌<◌, ◌∙◌, ap, length, arith, subst, sym, true}
 use Rattle.std.specs.Prelude.{Result, Ok, Err, OnErr}
 use Rattle.lr_host.specs.World.{past}
-use Rattle.lr_memhost.specs.Acts.{Came}
+use Rattle.lr_memhost.specs.Acts.{ActsCame}
 use Rattle.lr_memhost.proofs.TurnLemmas.{act_stays, act_comes, all_came, stopped_there}
 use Rattle.lr_memhost.proofs.turn.take_acts.Goals as goal
 
@@ -23,8 +23,8 @@ loop-at-preserved c =
 pub returns-in_err-take_act-clause-err : goal.returns-in_err-take_act-clause-err
 returns-in_err-take_act-clause-err c =
     on_err c.from_residual.result _
-    (subst (λ l. Came c.args.number true (past c.args.disk.now) c.args.acts.now.items (past c.take_act.new.disk) l) (sym c.in_err-take_act.ensures.err.0)
-    (subst (λ j. Came c.args.number true (past c.args.disk.now) c.args.acts.now.items (past j) c.loop-at.acts.items) (sym c.in_err-take_act.ensures.err.1)
+    (subst (λ l. ActsCame c.args.number true (past c.args.disk.now) c.args.acts.now.items (past c.take_act.new.disk) l) (sym c.in_err-take_act.ensures.err.0)
+    (subst (λ j. ActsCame c.args.number true (past c.args.disk.now) c.args.acts.now.items (past j) c.loop-at.acts.items) (sym c.in_err-take_act.ensures.err.1)
     (stopped_there c.args.number (past c.args.disk.now) c.args.acts.now.items (past c.loop-at.disk) c.loop-at.acts.items c.loop-at.at c.loop-at.invariant)))
 
 pub returns-clause-ok : goal.returns-clause-ok

@@ -2,7 +2,7 @@ use Rattle.std.proofs.Common.{◌≡◌, false, sym, subst, rules, FitsSigned, t
 use Rattle.std.specs.Prelude.{◌↔◌}
 use Rattle.std.proofs.lemmas.Int.{to_z-of_z}
 use Rattle.lr_rules.specs.declared.rule.Piece.{Piece}
-use Rattle.lr_stamps.specs.Asked.{AreApart}
+use Rattle.lr_stamps.specs.Asked.{FieldsDiffer}
 use Rattle.lr_rules.specs.Moments.{IsStamp}
 use Rattle.lr_stamps.specs.Serials.{IsCounted}
 use Rattle.lr_stamps.proofs.Formats.{format_apart}
@@ -10,10 +10,10 @@ use Rattle.lr_stamps.proofs.Serials.{Same, reads_plain, reads_serial, reads_none
 use Rattle.lr_stamps.proofs.serial.read_stamp.Goals as goal
 
 pub moment_of-requires : goal.moment_of-requires
-moment_of-requires c = subst AreApart (sym c.as_slice-pieces.ensures) (format_apart c.args.format.now c.requires)
+moment_of-requires c = subst FieldsDiffer (sym c.as_slice-pieces.ensures) (format_apart c.args.format.now c.requires)
 
 pub counted-requires : goal.counted-requires
-counted-requires c = subst AreApart (sym c.as_slice-pieces.ensures) (format_apart c.args.format.now c.requires)
+counted-requires c = subst FieldsDiffer (sym c.as_slice-pieces.ensures) (format_apart c.args.format.now c.requires)
 
 pub returns-in-Some : goal.returns-in-Some
 returns-in-Some c =

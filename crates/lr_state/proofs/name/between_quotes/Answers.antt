@@ -1,7 +1,7 @@
 use Rattle.std.proofs.Common.{◌≡◌, ◌∙◌, ap, sym, subst, refl, ℕ, ◌+◌, ◌-◌, ◌<◌, ◌≤◌, Bool, true, false, List, [], ◌∷◌, ◌++◌, length, drop, take, get_or, Option, Some, None, arith, add-one, drop-cons}
 use Rattle.std.proofs.lemmas.Bool.{cond-false, ne_eqb}
 use Rattle.std.proofs.lemmas.List.{drop_all, append-nil, take_rest}
-use Rattle.lr_state.specs.Reading.{Named, with_front, quoted}
+use Rattle.lr_state.specs.Reading.{NameAndRest, with_front, quoted}
 use Rattle.lr_state.proofs.Names.{front-byte}
 use Rattle.lr_state.proofs.name.between_quotes.Goals as goal
 use Rattle.lr_state.proofs.name.between_quotes.Goals.{then-escape+in_ok-push, else-escape+else-byte-eq34+then-byte-eq92, else-escape+else-byte-eq34+else-byte-eq92+in_ok-push-2}
@@ -28,7 +28,7 @@ step-byte : (text : List ℕ) (at : ℕ) (name : List ℕ) → at < length text 
 unfolding quoted
 step-byte text at name lt quote backslash =
     front-byte name (get_or text at 0) (quoted false (drop (at + 1) text))
-    ∙ ap (λ (o : Option Named). with_front name o) (sym (cond-false _ _ _ (ne_eqb _ 34 quote) ∙ cond-false _ _ _ (ne_eqb _ 92 backslash)))
+    ∙ ap (λ (o : Option NameAndRest). with_front name o) (sym (cond-false _ _ _ (ne_eqb _ 34 quote) ∙ cond-false _ _ _ (ne_eqb _ 92 backslash)))
     ∙ ap (λ (xs : List ℕ). with_front name (quoted false xs)) (sym (here text at lt))
 
 step-quote : (text : List ℕ) (at : ℕ) (name : List ℕ) → at < length text → get_or text at 0 ≡ 34

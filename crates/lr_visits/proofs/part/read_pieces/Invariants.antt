@@ -1,13 +1,13 @@
 use Rattle.std.proofs.Common.{◌≡◌, ◌≤◌, ◌+◌, ◌-◌, [], length}
 use Rattle.lr_host.specs.declared.entry.Entry.TheVariants as entry
 use Rattle.lr_host.specs.Told.{Can, Onward}
-use Rattle.lr_visits.specs.Taken.{IsOpen, TookFrom}
+use Rattle.lr_visits.specs.Taken.{IsUnclosed, TookFrom}
 use Rattle.lr_visits.proofs.part.read_pieces.Given as goal
 
 abbrev pub invariant-loop-how : goal.invariant-loop-how
 invariant-loop-how g l = record {
   took : TookFrom l.path l.taking (g.H.Host.told l.initial.host) (g.H.Host.told l.host);
-  ready : IsOpen l.taking;
+  ready : IsUnclosed l.taking;
   small : l.taking.size ≤ l.room;
   file : Can (g.H.Host.told l.host) (entry.Reads l.path 0 []);
   buffer : length l.buffer ≡ length l.initial.buffer;

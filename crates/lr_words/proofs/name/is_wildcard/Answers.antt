@@ -1,5 +1,5 @@
 use Rattle.std.proofs.Common.{◌≡◌, ℕ, ◌+◌, ◌||◌, ◌==◌, Bool, true, false, List, ◌∷◌, drop, get_or, refl, sym, ap, ◌∙◌}
-use Rattle.lr_rules.specs.Match.{is_sign, has_sign}
+use Rattle.lr_rules.specs.Match.{is_wild_sign, has_sign}
 use Rattle.lr_words.proofs.FromPlace.{from_place}
 use Rattle.lr_words.proofs.name.is_wildcard.Goals as goal
 use Rattle.lr_words.proofs.name.is_wildcard.Goals.{then-escaped, else-escaped+else-sign}
@@ -9,7 +9,7 @@ escaped_step true false x xs _ _ = refl
 escaped_step true true x xs _ h = absurd (cc)
 escaped_step false n x xs h _ = absurd (cc)
 
-plain_step : (e n : Bool) (x : ℕ) (xs : List ℕ) → e ≡ false → is_sign x ≡ false → n ≡ (x == 92) → has_sign e (x ∷ xs) ≡ has_sign n xs
+plain_step : (e n : Bool) (x : ℕ) (xs : List ℕ) → e ≡ false → is_wild_sign x ≡ false → n ≡ (x == 92) → has_sign e (x ∷ xs) ≡ has_sign n xs
 plain_step true n x xs h _ _ = absurd (cc)
 plain_step false n x xs _ plain same = ap (λ b. b || has_sign (x == 92) xs) plain ∙ ap (λ b. has_sign b xs) (sym same)
 

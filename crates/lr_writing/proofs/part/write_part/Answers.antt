@@ -2,7 +2,7 @@ use Rattle.std.proofs.Common.{◌≡◌, refl, sym, subst, rules, [], ◌∷◌,
 use Rattle.lr_state.specs.Written.{text_of}
 use Rattle.lr_plan.specs.declared.step.Step.TheVariants as step
 use Rattle.lr_plan.specs.Steps.{step_if}
-use Rattle.lr_writing.specs.Writes.{ComesTo, fault_of, refusal, part_steps}
+use Rattle.lr_writing.specs.Writes.{ComesTo, refusal_fault, refusal, part_steps}
 use Rattle.lr_writing.proofs.Coming.{comes_on, comes_short, fits_first}
 use Rattle.lr_writing.proofs.part.write_part.Goals as goal
 
@@ -13,14 +13,14 @@ returns-in_err-clear_part g c =
     let clear = step_if c.args.stale (step.Removes x) in
     let is : c.from_residual.result ≡ Err c.in_err-clear_part.field-0.0 = search rules in
     subst (λ r. ComesTo (part_steps x c.args.stale text) (refusal x r) (g.H.Host.told c.args.host.now) (g.H.Host.told c.clear_part.new.host) (g.H.Host.counts c.args.host.now) (g.H.Host.counts c.clear_part.new.host)) (sym is)
-    (comes_short clear (step.Takes x (Some 416) ∷ step.Appends x text ∷ step.SyncsFile x ∷ []) (fault_of x c.in_err-clear_part.field-0.0) c.in_err-clear_part.ensures)
+    (comes_short clear (step.Takes x (Some 416) ∷ step.Appends x text ∷ step.SyncsFile x ∷ []) (refusal_fault x c.in_err-clear_part.field-0.0) c.in_err-clear_part.ensures)
 
 pub returns-in_err-take_part : goal.returns-in_err-take_part
 returns-in_err-take_part g c =
     let x = c.args.part.now in
     let text = text_of c.args.table.now in
     let clear = step_if c.args.stale (step.Removes x) in
-    let f = fault_of x c.in_err-take_part.field-0.0 in
+    let f = refusal_fault x c.in_err-take_part.field-0.0 in
     let is : c.from_residual-in_err-take_part.result ≡ Err c.in_err-take_part.field-0.0 = search rules in
     subst (λ r. ComesTo (part_steps x c.args.stale text) (refusal x r) (g.H.Host.told c.args.host.now) (g.H.Host.told c.take_part.new.host) (g.H.Host.counts c.args.host.now) (g.H.Host.counts c.take_part.new.host)) (sym is)
     (comes_on clear (step.Takes x (Some 416) ∷ step.Appends x text ∷ step.SyncsFile x ∷ []) (f ∷ []) c.in_ok-clear_part.ensures
@@ -38,7 +38,7 @@ returns-in_err-fill_part g c =
     let x = c.args.part.now in
     let text = text_of c.args.table.now in
     let clear = step_if c.args.stale (step.Removes x) in
-    let f = fault_of x c.in_err-fill_part.field-0.0 in
+    let f = refusal_fault x c.in_err-fill_part.field-0.0 in
     let is : c.from_residual-in_err-fill_part.result ≡ Err c.in_err-fill_part.field-0.0 = search rules in
     subst (λ r. ComesTo (part_steps x c.args.stale text) (refusal x r) (g.H.Host.told c.args.host.now) (g.H.Host.told c.fill_part.new.host) (g.H.Host.counts c.args.host.now) (g.H.Host.counts c.fill_part.new.host)) (sym is)
     (comes_on clear (step.Takes x (Some 416) ∷ step.Appends x text ∷ step.SyncsFile x ∷ []) (f ∷ []) c.in_ok-clear_part.ensures

@@ -2,7 +2,7 @@ use Rattle.std.proofs.Common.{◌≡◌, ◌<◌, ◌++◌, Err, sym, ◌∙◌,
 use Rattle.std.specs.Prelude.{OnErr}
 use Rattle.std.specs.List.{flat_map}
 use Rattle.lr_host.specs.Told.{Left}
-use Rattle.lr_state.specs.Written.{line_of, text_of}
+use Rattle.lr_state.specs.Written.{entry_line, text_of}
 use Rattle.lr_writing.specs.Buffer.{Wrote, WriteBroke, HoldsBack}
 use Rattle.lr_writing.proofs.Buffers.{holds_all, holds_more, holds_on, holds_end, holds_broke, holds_stay, broke_more, if_ok, if_err}
 use Rattle.lr_writing.proofs.Tables.{entry_at, text_next, text_rest, text_all}
@@ -27,7 +27,7 @@ returns-in_err-left-clause-broke g c =
     let is : c.from_residual.result ≡ Err c.in_err-left.field-0.0 = search rules in
     subst (λ r. OnErr r (Left (WriteBroke path (text_of table)) (g.H.Host.told c.args.host.now) (g.H.Host.told c.make_room.new.host))) (sym is)
     (subst (λ xs. Left (WriteBroke path xs) (g.H.Host.told c.args.host.now) (g.H.Host.told c.make_room.new.host)) (text_rest table at.k)
-    (broke_more path (text_of (take at.k table)) (flat_map line_of (drop at.k table)) (holds_broke path (text_of (take at.k table)) (take at.held at.buffer) at.invariant.told c.in_err-left.ensures.broke)))
+    (broke_more path (text_of (take at.k table)) (flat_map entry_line (drop at.k table)) (holds_broke path (text_of (take at.k table)) (take at.held at.buffer) at.invariant.told c.in_err-left.ensures.broke)))
 
 pub loop-k-preserved : goal.loop-k-preserved
 loop-k-preserved g c =
@@ -41,8 +41,8 @@ loop-k-preserved g c =
       size = c.add_line-held.ensures.same ∙ at.invariant.size;
       bound = omega (arith, c.add_line-held.ensures.bound, at.invariant.size);
       told = subst (λ xs. HoldsBack path xs (take c.add_line-held.result c.add_line-held.new.buffer) (g.H.Host.told c.args.host.now) (g.H.Host.told c.make_room.new.host)) (sym (text_next table at.k e.0 e.1))
-          (subst (λ xs. HoldsBack path (text_of (take at.k table) ++ line_of e.0) xs (g.H.Host.told c.args.host.now) (g.H.Host.told c.make_room.new.host)) (sym line)
-          (holds_more path (text_of (take at.k table)) left (line_of e.0) (holds_on path (text_of (take at.k table)) (take at.held at.buffer) left at.invariant.told c.in_ok-left.ensures.told)));
+          (subst (λ xs. HoldsBack path (text_of (take at.k table) ++ entry_line e.0) xs (g.H.Host.told c.args.host.now) (g.H.Host.told c.make_room.new.host)) (sym line)
+          (holds_more path (text_of (take at.k table)) left (entry_line e.0) (holds_on path (text_of (take at.k table)) (take at.held at.buffer) left at.invariant.told c.in_ok-left.ensures.told)));
       can = holds_stay path (take at.held at.buffer) left at.invariant.can c.in_ok-left.ensures.told;
       counts = search rules;
     }

@@ -1,7 +1,7 @@
 use Rattle.std.proofs.Common.{refl, subst, sym, arith}
 use Rattle.lr_host.specs.World.{world, past, effect}
 use Rattle.lr_host.specs.Fits.{Fits}
-use Rattle.lr_disk.specs.State.{Shows}
+use Rattle.lr_disk.specs.State.{ShowsWorld}
 use Rattle.lr_disk.proofs.JournalLemmas.{entered_disk, readied}
 use Rattle.lr_disk.proofs.disk.Disk.enter.Goals as goal
 
@@ -17,6 +17,6 @@ apply-requires-clause-tree c = (c.make_ready.ensures.same (world (past c.self.in
 pub invariant_of-self-2 : goal.invariant_of-self-2
 invariant_of-self-2 c =
     entered_disk c.self.inside.state c.apply.new.state c.self.inside.journal c.add.new.entries c.args.entry _ _ _ _ _ c.self.invariant (subst (λ k. Fits (world (past k)) c.args.entry) (sym c.self.view_is) c.requires) c.in_ok-add.ensures
-    (subst (λ e. Shows c.apply.new.state (effect (world (past c.self.inside.journal)) e)) (c.newest.ensures c.self.inside.journal.entries c.args.entry c.in_ok-add.ensures)
+    (subst (λ e. ShowsWorld c.apply.new.state (effect (world (past c.self.inside.journal)) e)) (c.newest.ensures c.self.inside.journal.entries c.args.entry c.in_ok-add.ensures)
     (c.apply.ensures (world (past c.self.inside.journal)) (c.make_ready.ensures.same _ c.self.invariant.shows)))
     c.make_ready.ensures.len (let b = c.len-count.ensures in omega arith) c.in-Ok.ensures.room

@@ -1,7 +1,7 @@
 use Rattle.std.proofs.Common.{◌≡◌, ◌∷◌, Err, sym, ap, subst, ◌∙◌}
 use Rattle.lr_lex.specs.Lines.{line_at}
 use Rattle.lr_lex.specs.Items.{said, script}
-use Rattle.lr_lex.specs.Lexing.{coming, coming_from, ByKind, Gives}
+use Rattle.lr_lex.specs.Lexing.{coming, coming_from, ByKind, LexerGives}
 use Rattle.lr_lex.specs.declared.lexer.Lexer.{Lexer}
 use Rattle.lr_lex.specs.declared.said.Said.TheVariants as says
 use Rattle.lr_lex.proofs.First.{passes, nonempty, step, at_script, at_fault, gives, ToldFine, script-fine}
@@ -50,5 +50,5 @@ returns-in-Script c =
     let first = at_script here behind rest (line_at here.line here.at bytes) s.word s.brace s.stray ended text p (sym s.is ∙ e) c.read_script-ended.ensures in
     let fine = subst ToldFine (sym is) (script-fine here.line s.word s.brace s.stray text ended) in
     let new : Lexer = record { alloc = c.loop-self.self.alloc; place = rest } in
-    subst (Gives c.args.self.now new) (sym c.answer.ensures)
+    subst (LexerGives c.args.self.now new) (sym c.answer.ensures)
     (gives c.args.self.now new t fine (c.loop-self.invariant ∙ first ∙ ap (λ x. x ∷ coming_from rest) (sym is)))

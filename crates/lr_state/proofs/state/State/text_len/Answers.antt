@@ -1,6 +1,6 @@
 use Rattle.std.proofs.Common.{◌∙◌, ap, ◌<◌, length, length-append, take, arith}
 use Rattle.std.specs.List.{flat_map}
-use Rattle.lr_state.specs.Written.{line_of}
+use Rattle.lr_state.specs.Written.{entry_line}
 use Rattle.lr_state.proofs.Lengths.{entry-at, flat-next}
 use Rattle.lr_state.proofs.state.State.text_len.Goals as goal
 
@@ -8,7 +8,7 @@ pub loop-k-preserved : goal.loop-k-preserved
 loop-k-preserved c =
     let lt : c.loop-k.k < length c.args.self.now = omega arith in
     let at = entry-at c.args.self.now c.loop-k.k lt in
-    let total = ap length (flat-next line_of c.args.self.now c.loop-k.k at.0 at.1) ∙ length-append (flat_map line_of (take c.loop-k.k c.args.self.now)) (line_of at.0) in
+    let total = ap length (flat-next entry_line c.args.self.now c.loop-k.k at.0 at.1) ∙ length-append (flat_map entry_line (take c.loop-k.k c.args.self.now)) (entry_line at.0) in
     let line = c.line.ensures.len at.0 at.1 in
     let sum = c.saturating_add-len.ensures in
     let before = c.loop-k.invariant in

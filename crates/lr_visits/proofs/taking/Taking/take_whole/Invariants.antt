@@ -1,12 +1,12 @@
 use Rattle.std.proofs.Common.{◌≡◌, ◌≤◌, [], length}
-use Rattle.lr_stream.specs.Streams.{Stands, still, given}
-use Rattle.lr_visits.specs.Taken.{Keeps}
+use Rattle.lr_stream.specs.Streams.{StreamStands, still, given}
+use Rattle.lr_visits.specs.Taken.{KeepsTold}
 use Rattle.lr_visits.proofs.taking.Taking.take_whole.Given as goal
 
 abbrev pub invariant-loop : goal.invariant-loop
 invariant-loop l = record {
-  stands : Stands l.self.stream;
-  told : Keeps l.initial.self l.self;
+  stands : StreamStands l.self.stream;
+  told : KeepsTold l.initial.self l.self;
   closed : l.self.stream.closed ≡ l.initial.self.stream.closed;
   few : given l.self.stream ≤ given l.initial.self.stream;
   size : l.self.size ≡ l.initial.self.size;

@@ -1,7 +1,7 @@
 use Rattle.std.proofs.Common.{true, ap, ◌∙◌, [], ◌∷◌, refl, sym, subst, arith}
 use Rattle.lr_host.specs.declared.entry.Entry.TheVariants as entry
 use Rattle.lr_host.specs.Told.{Are}
-use Rattle.lr_memhost.specs.Acts.{Turned}
+use Rattle.lr_memhost.specs.Acts.{CallTurned}
 use Rattle.lr_memhost.proofs.TurnLemmas.{turned_left, turned_as, turned_rest, failed_where}
 use Rattle.lr_memhost.proofs.CalmLemmas.{calm_how, calm_lock, with_mine}
 use Rattle.lr_memhost.proofs.host.calls.MemHostHost.begin.Goals as goal
@@ -17,7 +17,7 @@ returns-in_err-change-clause-told c = turned_left (returns-in_err-change-clause-
 pub returns-clause-turned : goal.returns-clause-turned
 returns-clause-turned c =
     let e = entry.Starts c.args.state.now c.args.now.now c.args.rules.now in
-    turned_rest _ (subst (λ m. Turned (Are (e ∷ [])) c.args.self.now m) (sym c.self-2.view_is) (c.in_ok-change.ensures.turned e c.starts-entry.ensures))
+    turned_rest _ (subst (λ m. CallTurned (Are (e ∷ [])) c.args.self.now m) (sym c.self-2.view_is) (c.in_ok-change.ensures.turned e c.starts-entry.ensures))
     (record { acts = refl; failing = refl; calls = refl; down = refl; starved = omega arith }) refl
 
 pub returns-clause-told : goal.returns-clause-told
