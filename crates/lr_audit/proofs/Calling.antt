@@ -30,7 +30,7 @@ use Rattle.lr_include.proofs.AllQuiet.{reads_quiet, lacking_quiet}
 use Rattle.lr_plan.specs.declared.looks.Looks.{Looks}
 use Rattle.lr_looks.specs.Reserved.{reserved_by}
 use Rattle.lr_looks.specs.Shown.{LooksAtAll, ShowsSomeLooks}
-use Rattle.lr_seen.proofs.Quiet.{whole_quiet, part_quiet}
+use Rattle.lr_laws_looks.proofs.Quiet.{whole_quiet, part_quiet}
 use Rattle.lr_clock.specs.declared.clock.ClockStop.{ClockStop}
 use Rattle.lr_clock.specs.declared.clock.ClockStop.TheVariants as stop
 use Rattle.lr_clock.specs.Clock.{ShowsClock, LacksClock, ClockStopped, HasClock, IsClockFault, IsClocked, with_clock, without_clock}

@@ -17,10 +17,10 @@ use Rattle.lr_looks.specs.Found.{FoundLog, HasLogPath, paths_of}
 use Rattle.lr_looks.specs.Sets.{looked_in}
 use Rattle.lr_looks.specs.Shown.{ShowsLooks}
 use Rattle.lr_looks.specs.Choices.{kept_of}
-use Rattle.lr_seen.proofs.Coming.{was_looked, in_looked, in_files, in_kept}
-use Rattle.lr_seen.proofs.Elements.{in_flat}
-use Rattle.lr_seen.proofs.Free.{place_in}
-use Rattle.lr_seen.proofs.Seen.{log_path}
+use Rattle.lr_laws_looks.proofs.Coming.{was_looked, in_looked, in_files, in_kept}
+use Rattle.lr_laws_looks.proofs.Elements.{in_flat}
+use Rattle.lr_laws_looks.proofs.Free.{place_in}
+use Rattle.lr_laws_looks.proofs.Seen.{log_path}
 use Rattle.lr_audit.specs.Dirs.{look_dir, set_dirs, asked_dirs, AreDirs}
 
 module _ {reserved : List Path} (rules : List Rule) (sets : List SetLooks) (faults : List Fault) (ts : List Entry) (s : ShowsLooks reserved rules sets faults ts) where

@@ -17,8 +17,8 @@ use Rattle.lr_host.proofs.Quiet.{quiet_both, quiet_still, still_in_order}
 use Rattle.lr_due.specs.declared.tz.Zone.{Zone}
 use Rattle.lr_include.proofs.AllQuiet.{reads_quiet}
 use Rattle.lr_looks.specs.Sights.{WordSight}
-use Rattle.lr_stood.specs.True.{AreTrue}
-use Rattle.lr_stood.proofs.All.{looks_true}
+use Rattle.lr_laws_looks.specs.True.{AreTrue}
+use Rattle.lr_laws_looks.proofs.All.{looks_true}
 use Rattle.lr_clock.specs.Came.{WhereCame}
 use Rattle.lr_report.specs.declared.outcome.Outcome.{Outcome}
 use Rattle.lr_audited.specs.declared.line.Audit.{Audit}

@@ -22,7 +22,7 @@ use Rattle.lr_clock.specs.declared.clock.ClockStop.{ClockStop}
 use Rattle.lr_clock.specs.declared.clock.ClockStop.TheVariants as stop
 use Rattle.lr_clock.specs.Clock.{ShowsClock, LacksClock, out_of_range, no_text, refused, ClockStopped}
 use Rattle.lr_clock.specs.Zone.{LacksZoneMemory, ShowsZone, LacksText, not_file, too_big, look_failed, read_failed, at_first, at_file}
-use Rattle.lr_seen.proofs.Quiet.{whole_quiet}
+use Rattle.lr_laws_looks.proofs.Quiet.{whole_quiet}
 use Rattle.lr_report.specs.declared.outcome.Outcome.{Outcome}
 use Rattle.lr_audited.specs.declared.line.Audit.{Audit}
 use Rattle.lr_audit.specs.declared.words.Wanted.{Wanted}

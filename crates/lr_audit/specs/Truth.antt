@@ -9,8 +9,8 @@ use Rattle.lr_rules.specs.Path.{joined, path_fault}
 use Rattle.lr_host.specs.Fits.{IsFileAt, IsPart}
 use Rattle.lr_host.specs.Lists.{IsIn}
 use Rattle.lr_host.specs.World.{Past, world, names}
-use Rattle.lr_sought.specs.Finds.{StoodOrCame}
-use Rattle.lr_stood.specs.True.{AreTrue}
+use Rattle.lr_laws_looks.specs.Finds.{StoodOrCame}
+use Rattle.lr_laws_looks.specs.True.{AreTrue}
 use Rattle.lr_audit.specs.Came.{Came}
 
 -- The path is that of a name in the directory.

@@ -48,18 +48,18 @@ use Rattle.lr_laws.proofs.AsideName.{no_numbered, no_dated}
 use Rattle.lr_laws_family.specs.Members.{IsFamily}
 use Rattle.lr_laws_family.specs.Shown.{Shown}
 use Rattle.lr_laws_family.proofs.Picking.{named_all}
-use Rattle.lr_laws_targets.proofs.Own.{named_own}
-use Rattle.lr_laws_targets.specs.Own.{IsBesideLog}
-use Rattle.lr_laws_targets.proofs.PartFile.{part_no_member, part_no_log, part_no_waiting}
-use Rattle.lr_laws_targets.proofs.Waiting.{beside_other}
+use Rattle.lr_laws_rotations.proofs.Own.{named_own}
+use Rattle.lr_laws_rotations.specs.Own.{IsBesideLog}
+use Rattle.lr_laws_rotations.proofs.PartFile.{part_no_member, part_no_log, part_no_waiting}
+use Rattle.lr_laws_rotations.proofs.Waiting.{beside_other}
 use Rattle.lr_plan.specs.Planned.{is_file}
-use Rattle.lr_seen.proofs.Apart.{OffFound, OffLooked, kept_off, looked_pairs}
-use Rattle.lr_seen.proofs.Aside.{SawAside, all_aside}
-use Rattle.lr_seen.proofs.Coming.{IsFrom, came_from, in_kept, in_looked, in_set, in_where}
-use Rattle.lr_seen.proofs.Elements.{in_list, in_flat, in_each, Pairs, pairs_flat, pairs_two}
-use Rattle.lr_seen.proofs.Listed.{WasShown, WasTold, all_shown, all_told}
-use Rattle.lr_seen.proofs.Gives.{all_in}
-use Rattle.lr_seen.proofs.Seen.{log_path, looked_family}
+use Rattle.lr_laws_looks.proofs.Apart.{OffFound, OffLooked, kept_off, looked_pairs}
+use Rattle.lr_laws_looks.proofs.Aside.{SawAside, all_aside}
+use Rattle.lr_laws_looks.proofs.Coming.{IsFrom, came_from, in_kept, in_looked, in_set, in_where}
+use Rattle.lr_laws_looks.proofs.Elements.{in_list, in_flat, in_each, Pairs, pairs_flat, pairs_two}
+use Rattle.lr_laws_looks.proofs.SeenListed.{WasShown, WasTold, all_shown, all_told}
+use Rattle.lr_laws_looks.proofs.Gives.{all_in}
+use Rattle.lr_laws_looks.proofs.Seen.{log_path, looked_family}
 use Rattle.lr_audited.specs.declared.line.Line.{Line}
 use Rattle.lr_audited.specs.Lines.{log_line, part_line, member_lines, waiting_lines, part_lines, family_lines, rule_lines, sets_lines, known_paths}
 use Rattle.lr_audited.proofs.Tracing.{not_in_from, apart_in}

@@ -30,7 +30,7 @@ use Rattle.lr_family.specs.declared.stand.Member.{Member}
 use Rattle.lr_family.specs.declared.stand.Stand.{Stand}
 use Rattle.lr_family.specs.Parts.{IsMember}
 use Rattle.lr_scripts.specs.declared.removal.Removal.{Removal}
-use Rattle.lr_commands.specs.Commands.{with_programs}
+use Rattle.lr_scripts.specs.Commands.{with_programs}
 use Rattle.lr_copy.specs.declared.job.Job.{Job}
 use Rattle.lr_chain.specs.declared.ready.Ready.{Ready}
 use Rattle.lr_chain.specs.DatedReady.{dated_target}
@@ -52,21 +52,21 @@ use Rattle.lr_plan.specs.Steps.{program, rotation_of, retirement_of, steps_of_lo
 use Rattle.lr_looks.specs.Shown.{ShowsLooks}
 use Rattle.lr_laws_family.proofs.Numbers.{rising}
 use Rattle.lr_laws_rotations.proofs.Ready.{have_next}
-use Rattle.lr_laws_targets.specs.AllTurns.{job_part_paths}
-use Rattle.lr_laws_targets.specs.Apart.{HasNames, TargetsHaveNames}
-use Rattle.lr_laws_targets.specs.Rotation.{removal_paths}
-use Rattle.lr_laws_targets.specs.Target.{Target, HasWay}
-use Rattle.lr_laws_targets.proofs.Own.{member_own, named_own, target_member, part_file_own}
-use Rattle.lr_laws_targets.proofs.PartFile.{job_part, job_no_member}
-use Rattle.lr_laws_targets.proofs.Way.{first_own}
-use Rattle.lr_weave.specs.Fitting.{NoneMeets, DontMeet}
-use Rattle.lr_seen.specs.Planned.{target_in, targets_of_sets}
-use Rattle.lr_seen.specs.Targets.{target_of, where_free, targets_of, groups_of, all_targets}
-use Rattle.lr_seen.proofs.Apart.{targets_dont_meet}
-use Rattle.lr_seen.proofs.Elements.{in_flat}
-use Rattle.lr_seen.proofs.Hindrances.{free_of_members}
-use Rattle.lr_seen.proofs.Planned.{plan_targets}
-use Rattle.lr_seen.proofs.Seen.{targets_have_names}
+use Rattle.lr_laws_rotations.specs.AllTurns.{job_part_paths}
+use Rattle.lr_laws_rotations.specs.Apart.{HasNames, TargetsHaveNames}
+use Rattle.lr_laws_rotations.specs.Rotation.{removal_paths}
+use Rattle.lr_laws_rotations.specs.Target.{Target, HasWay}
+use Rattle.lr_laws_rotations.proofs.Own.{member_own, named_own, target_member, part_file_own}
+use Rattle.lr_laws_rotations.proofs.PartFile.{job_part, job_no_member}
+use Rattle.lr_laws_rotations.proofs.Way.{first_own}
+use Rattle.lr_laws_acts.specs.Fitting.{NoneMeets, DontMeet}
+use Rattle.lr_laws_looks.specs.Planned.{target_in, targets_of_sets}
+use Rattle.lr_laws_looks.specs.Targets.{target_of, where_free, targets_of, groups_of, all_targets}
+use Rattle.lr_laws_looks.proofs.Apart.{targets_dont_meet}
+use Rattle.lr_laws_looks.proofs.Elements.{in_flat}
+use Rattle.lr_laws_looks.proofs.Hindrances.{free_of_members}
+use Rattle.lr_laws_looks.proofs.Planned.{plan_targets}
+use Rattle.lr_laws_looks.proofs.Seen.{targets_have_names}
 use Rattle.lr_audited.specs.declared.line.Why.{Why}
 use Rattle.lr_audited.specs.Audits.{going_of}
 use Rattle.lr_audited.specs.Removed.{aside_going, newest_going, left_over, leftovers_of, retired_of, log_removed, set_removed, removed_by}

@@ -42,7 +42,7 @@ use Rattle.lr_laws_family.specs.Numbered.{HasName, HaveNextNames}
 use Rattle.lr_laws_family.proofs.Numbers.{first_named, kept_next, retire_named, at_number, own_at, names_of}
 use Rattle.lr_laws_family.proofs.Picking.{named_all}
 use Rattle.lr_laws_rotations.proofs.Stamped.{next_free}
-use Rattle.lr_laws_targets.specs.Rotation.{removal_paths}
+use Rattle.lr_laws_rotations.specs.Rotation.{removal_paths}
 use Rattle.lr_audited.specs.declared.line.Why.{Why}
 use Rattle.lr_audited.specs.declared.line.Why.TheVariants as why
 use Rattle.lr_audited.specs.Removed.{member_going, log_going, moved_going, dated_going, going_with}

@@ -27,7 +27,7 @@ use Rattle.lr_plan.specs.declared.plan.Plan.{Plan}
 use Rattle.lr_plan.specs.declared.plan.SetPlan.{SetPlan}
 use Rattle.lr_plan.specs.Asked.{Asked, asking}
 use Rattle.lr_plan.specs.Planned.{makes_dir, empty_stand, stand_for, standing, first_path, make_for, hindrances, ready_for, log_plan, none_hinders, plans_of, where_due, log_plans, set_plan, all_plans, decision, plan_of, CanPlan, CanPlanSet, CanPlanAll}
-use Rattle.lr_seen.proofs.Hindrances.{free_of_members}
+use Rattle.lr_laws_looks.proofs.Hindrances.{free_of_members}
 use Rattle.lr_audited.specs.declared.line.Why.{Why}
 use Rattle.lr_audited.specs.Audits.{going_of}
 use Rattle.lr_audited.specs.Removed.{removed_by, IsStamped, AreStamped}

@@ -17,7 +17,7 @@ use Rattle.lr_chain.specs.declared.ready.Move.{Move}
 use Rattle.lr_plan.specs.declared.step.Step.{Step}
 use Rattle.lr_plan.specs.declared.step.Step.TheVariants as step
 use Rattle.lr_plan.specs.Steps.{program, removal, removals, directory, move}
-use Rattle.lr_laws_targets.specs.Rotation.{removal_paths}
+use Rattle.lr_laws_rotations.specs.Rotation.{removal_paths}
 use Rattle.lr_audited.specs.Unlinked.{Origins, without, renamed, behind, unlinks, unlinked}
 
 -- ---- lists

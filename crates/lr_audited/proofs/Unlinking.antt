@@ -15,7 +15,7 @@ use Rattle.lr_host.proofs.Lists.{in_to}
 use Rattle.lr_family.specs.Parts.{part_of, IsMember}
 use Rattle.lr_scripts.specs.declared.command.Command.{Command}
 use Rattle.lr_scripts.specs.declared.removal.Removal.{Removal}
-use Rattle.lr_commands.specs.Commands.{with_programs}
+use Rattle.lr_scripts.specs.Commands.{with_programs}
 use Rattle.lr_copy.specs.declared.job.Job.{Job}
 use Rattle.lr_chain.specs.declared.ready.Ready.{Ready}
 use Rattle.lr_plan.specs.declared.step.Step.{Step}
@@ -23,14 +23,14 @@ use Rattle.lr_plan.specs.declared.step.Step.TheVariants as step
 use Rattle.lr_plan.specs.Planned.{dressed}
 use Rattle.lr_plan.specs.Steps.{program, removals, directory, move, step_if, copy, transfer, anew, made_anew, finishing}
 use Rattle.lr_laws_family.specs.Members.{IsNoMember}
-use Rattle.lr_laws_targets.specs.Apart.{HasNames}
-use Rattle.lr_laws_targets.specs.Rotation.{removal_paths}
-use Rattle.lr_laws_targets.specs.Target.{Target}
-use Rattle.lr_laws_targets.proofs.Own.{member_own, named_own, family_members, target_member, part_file_own}
-use Rattle.lr_laws_targets.proofs.PartFile.{part_no_waiting, job_part, job_no_member}
-use Rattle.lr_laws_targets.proofs.Waiting.{beside_other}
-use Rattle.lr_laws_targets.proofs.Way.{not_aside, aside_is, stays_first, first_apart, aside_apart, first_own, aside_own}
-use Rattle.lr_seen.proofs.Elements.{in_flat}
+use Rattle.lr_laws_rotations.specs.Apart.{HasNames}
+use Rattle.lr_laws_rotations.specs.Rotation.{removal_paths}
+use Rattle.lr_laws_rotations.specs.Target.{Target}
+use Rattle.lr_laws_rotations.proofs.Own.{member_own, named_own, family_members, target_member, part_file_own}
+use Rattle.lr_laws_rotations.proofs.PartFile.{part_no_waiting, job_part, job_no_member}
+use Rattle.lr_laws_rotations.proofs.Waiting.{beside_other}
+use Rattle.lr_laws_rotations.proofs.Way.{not_aside, aside_is, stays_first, first_apart, aside_apart, first_own, aside_own}
+use Rattle.lr_laws_looks.proofs.Elements.{in_flat}
 use Rattle.lr_audited.specs.Removed.{aside_going}
 use Rattle.lr_audited.specs.Unlinked.{Origins, without, renamed, unlinked, going_paths}
 use Rattle.lr_audited.proofs.Retiring.{log_from, ComesBy, landed, brought, Retires}

@@ -11,7 +11,7 @@ use Rattle.lr_plan.specs.declared.step.SetSteps.{SetSteps}
 use Rattle.lr_plan.specs.declared.step.Step.{Step}
 use Rattle.lr_plan.specs.declared.step.Step.TheVariants as step
 use Rattle.lr_plan.specs.Steps.{steps_of_plan}
-use Rattle.lr_laws_targets.specs.AllTurns.{job_part_paths}
+use Rattle.lr_laws_rotations.specs.AllTurns.{job_part_paths}
 use Rattle.lr_audited.specs.declared.line.Why.{Why}
 
 -- the paths of what is told as going

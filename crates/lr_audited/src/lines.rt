@@ -8,10 +8,9 @@ ghost use Rattle.lr_audited.specs.Lines.{part_lines, family_lines, rule_lines, s
 
 use crate::line::{Line, What};
 use lr_family::{Member, Place};
-use lr_naming::aside_path;
 use lr_plan::{LogLook, Looks, SetLooks};
 use lr_planning::is_file;
-use lr_rules::{Count, Memory, Naming, Path, Rule, Rules};
+use lr_rules::{Count, Memory, Naming, Path, Rule, Rules, aside_path};
 use std::alloc::Global;
 
 /// The number of a place, counted from 0; a stamp has none.

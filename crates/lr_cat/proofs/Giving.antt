@@ -12,7 +12,7 @@ use Rattle.lr_host.specs.Lists.{IsIn}
 use Rattle.lr_match.proofs.Ends.{ends_tell}
 use Rattle.lr_glob.specs.Parts.{parts_in}
 use Rattle.lr_glob.proofs.Names.{behind, split_plain, word_behind}
-use Rattle.lr_sought.proofs.Pairs.{Pairs, matches_absolute, parts_match}
+use Rattle.lr_laws_looks.proofs.Pairs.{Pairs, matches_absolute, parts_match}
 use Rattle.lr_rules.specs.Names.{naming_of}
 use Rattle.lr_rules.specs.declared.rule.Naming.{Naming}
 use Rattle.lr_family.specs.declared.family.Family.{Family}

@@ -19,8 +19,8 @@ use Rattle.lr_host.proofs.Lists.{from_reverse, in_front, in_back}
 use Rattle.lr_host.proofs.Looked.{same_file}
 use Rattle.lr_host.proofs.More.{file_same}
 use Rattle.lr_host.proofs.Quiet.{IsAny, Moment, moment, quiet_more, since_any}
-use Rattle.lr_copied.specs.Whole.{Has}
-use Rattle.lr_durable.proofs.Parts.{named_drawn}
+use Rattle.lr_laws_family.specs.Whole.{Has}
+use Rattle.lr_laws.proofs.Parts.{named_drawn}
 use Rattle.lr_laws_family.specs.Beside.{IsNeverAt, IsOn, not_here, nor_then}
 use Rattle.lr_laws_family.specs.Moments.{fed}
 use Rattle.lr_laws_family.proofs.Fed.{IsTurnOrMake, fed_bytes}

@@ -14,7 +14,7 @@ use Rattle.lr_host.specs.Steps.{is_naming}
 use Rattle.lr_host.specs.Told.{Each, Left, Can}
 use Rattle.lr_host.proofs.Each.{each_append}
 use Rattle.lr_host.proofs.Left.{left_first, left_as, left_then, can_stay}
-use Rattle.lr_visits.proofs.Texts.{reads_first, reads_more}
+use Rattle.lr_include.proofs.Texts.{reads_first, reads_more}
 use Rattle.lr_report.specs.Puts.{Took, TookPart}
 use Rattle.lr_report.proofs.PutLemmas.{took_none, took_on, part_on}
 use Rattle.lr_cat.specs.declared.texts.TextStop.{TextStop}

@@ -29,7 +29,7 @@ use Rattle.lr_family.specs.Among.{ShowsMembers}
 use Rattle.lr_family.specs.Standing.{ShowsStand, ShowsStop}
 use Rattle.lr_family.proofs.OnlyLooks.{IsLooking, AreLooking, looking_both, looking_sees, looking_shown_parts}
 use Rattle.lr_family.proofs.Shown.{members_seen}
-use Rattle.lr_seen.proofs.Quiet.{looking_listing, looking_members, looking_none_in, looking_not}
+use Rattle.lr_laws_looks.proofs.Quiet.{looking_listing, looking_members, looking_none_in, looking_not}
 use Rattle.lr_cat.specs.declared.seeing.FileStop.{FileStop}
 use Rattle.lr_cat.specs.declared.seeing.FileStop.TheVariants as files
 use Rattle.lr_cat.specs.declared.seeing.Found.{Found}

@@ -28,7 +28,7 @@ use Rattle.lr_laws_family.proofs.Directory.{IsNameIn, member_in, none_without}
 use Rattle.lr_laws_family.proofs.Picking.{has_or_none}
 use Rattle.lr_laws_family.proofs.Shows.{stand_shown}
 use Rattle.lr_laws_family.proofs.Stood.{quiet_journal}
-use Rattle.lr_stood.specs.True.{HasMember}
+use Rattle.lr_laws_looks.specs.True.{HasMember}
 use Rattle.lr_cat.specs.Saw.{Finds}
 
 -- a look that saw nothing

@@ -18,12 +18,12 @@ use Rattle.lr_host.specs.World.{Past, ◌▸◌}
 use Rattle.lr_host.proofs.Lists.{in_map, in_unmap, in_front, in_back, in_reverse}
 use Rattle.lr_host.proofs.Made.{made_journal}
 use Rattle.lr_host.proofs.Quiet.{IsAny, since_any, still_both, still_reverse}
-use Rattle.lr_durable.proofs.Lists.{At, at, made_prefix}
+use Rattle.lr_laws.proofs.Lists.{At, at, made_prefix}
 use Rattle.lr_conf.specs.Meaning.{Meaning}
 use Rattle.lr_family.specs.declared.stand.Member.{Member}
 use Rattle.lr_laws_family.specs.Members.{IsFamily}
 use Rattle.lr_looks.specs.Inside.{Inside}
-use Rattle.lr_stood.specs.True.{HasMember}
+use Rattle.lr_laws_looks.specs.True.{HasMember}
 use Rattle.lr_cat.specs.declared.outcome.CatOutcome.{CatOutcome}
 use Rattle.lr_cat.specs.declared.words.Wanted.{Wanted}
 use Rattle.lr_cat.specs.Came.{Came, LogEnds, held, short, called, RulesEnd, no_log, lacks, given, ConfsEnd, not_read, broke_off, read, CatEnds, no_clock, no_memory, behind_clock, CatShows, bad_words, no_words, wants}

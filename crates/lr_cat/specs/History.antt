@@ -7,7 +7,7 @@ use Rattle.lr_host.specs.Fits.{IsFileAt}
 use Rattle.lr_host.specs.Lists.{IsIn}
 use Rattle.lr_host.specs.Safe.{IsPrefix}
 use Rattle.lr_host.specs.World.{Past, ◌▸◌, world, names}
-use Rattle.lr_copied.specs.Whole.{Has}
+use Rattle.lr_laws_family.specs.Whole.{Has}
 use Rattle.lr_family.specs.Parts.{IsMember}
 use Rattle.lr_cat.specs.declared.words.Wanted.{Wanted}
 use Rattle.lr_cat.specs.Came.{Came}

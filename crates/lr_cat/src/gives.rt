@@ -12,8 +12,7 @@ ghost use Rattle.lr_cat.specs.First.{AreMatched, IsFound};
 use lr_family::Family;
 use lr_glob::{is_part_file, parts_of};
 use lr_match::matches;
-use lr_naming::naming_of;
-use lr_rules::{Memory, Path, Rule, Rules, Text, is_absolute};
+use lr_rules::{Memory, Path, Rule, Rules, Text, is_absolute, naming_of};
 use lr_words::{is_wildcard, literal};
 use std::alloc::Global;
 

@@ -19,8 +19,7 @@ use crate::texts::put_texts;
 use crate::words::Wanted;
 use lr_family::{DirStop, Family, look_for_dir};
 use lr_host::{Host, Sink};
-use lr_naming::aside_path;
-use lr_rules::{CallKind, Clock, Fault, Memory, Path, Rules};
+use lr_rules::{CallKind, Clock, Fault, Memory, Path, Rules, aside_path};
 use std::alloc::Global;
 
 // Looks at what stands, and puts it out.

@@ -16,9 +16,9 @@ use Rattle.lr_host.specs.Told.{Counts, NoneFell, Left, Rose, WhereTold}
 use Rattle.lr_host.proofs.Left.{left_as, left_first, left_then}
 use Rattle.lr_due.specs.declared.tz.Zone.{Zone}
 use Rattle.lr_host.specs.Counted.{AreCounted, IsAround, NoneAround, Went, WentBy}
-use Rattle.lr_laws_targets.proofs.Safety.{quiet_call_safe}
-use Rattle.lr_laws_targets.specs.Runs.{IsWholeRunBy}
-use Rattle.lr_laws_targets.proofs.RunSafety.{all_safe}
+use Rattle.lr_laws_rotations.proofs.Safety.{quiet_call_safe}
+use Rattle.lr_laws_rotations.specs.Runs.{IsWholeRunBy}
+use Rattle.lr_laws_rotations.proofs.RunSafety.{all_safe}
 use Rattle.lr_plan.specs.declared.plan.Plan.{Plan}
 use Rattle.lr_report.specs.Lines.{lines}
 use Rattle.lr_report.specs.Puts.{Took, TookPart}

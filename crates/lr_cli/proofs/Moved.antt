@@ -13,7 +13,7 @@ use Rattle.lr_host.specs.Quiet.{AreQuiet}
 use Rattle.lr_rules.specs.Names.{aside_path}
 use Rattle.lr_rules.specs.declared.path.Path.{Path}
 use Rattle.lr_run.specs.Runs.{in_acts}
-use Rattle.lr_seen.proofs.Elements.{in_each}
+use Rattle.lr_laws_looks.proofs.Elements.{in_each}
 use Rattle.lr_plan.specs.declared.plan.Plan.{Plan}
 use Rattle.lr_report.specs.declared.outcome.Outcome.{Outcome}
 use Rattle.lr_cli.specs.Called.{Came, call_entries, asked_in, PlanEnds, CallEnds, halted, called}

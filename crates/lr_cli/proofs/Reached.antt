@@ -23,13 +23,13 @@ use Rattle.lr_due.specs.declared.tz.Zone.{Zone}
 use Rattle.lr_due.specs.declared.tz.Zone.TheVariants.{File}
 use Rattle.lr_plan.specs.declared.plan.Plan.{Plan}
 use Rattle.lr_run.specs.Halt.{Halt, OfFaults, OfLock, OfMemory, Halts}
-use Rattle.lr_reached.specs.Ending.{EndsRun, NoneEnds}
-use Rattle.lr_reached.specs.Looked.{behind_start, SawState}
-use Rattle.lr_reached.specs.Tried.{EndsTry}
-use Rattle.lr_reached.proofs.Ends.{last_ends}
-use Rattle.lr_reached.proofs.Reached.{unseen}
-use Rattle.lr_reached.proofs.Start.{behind_quiet, none_behind}
-use Rattle.lr_reached.proofs.Value.{halt_unreached, try_why}
+use Rattle.lr_laws_plan.specs.Ending.{EndsRun, NoneEnds}
+use Rattle.lr_laws_plan.specs.Looked.{behind_start, SawState}
+use Rattle.lr_laws_plan.specs.Tried.{EndsTry}
+use Rattle.lr_laws_plan.proofs.Ends.{last_ends}
+use Rattle.lr_laws_plan.proofs.Reached.{unseen}
+use Rattle.lr_laws_plan.proofs.Start.{behind_quiet, none_behind}
+use Rattle.lr_laws_plan.proofs.Value.{halt_unreached, try_why}
 use Rattle.lr_command.specs.declared.request.Request.{Request}
 use Rattle.lr_clock.specs.declared.clock.ClockStop.TheVariants as stop
 use Rattle.lr_report.specs.declared.outcome.Outcome.{Outcome}

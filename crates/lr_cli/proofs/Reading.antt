@@ -20,8 +20,8 @@ use Rattle.lr_include.specs.Readers.{IsConfOrCall}
 use Rattle.lr_include.specs.Stages.{Reads}
 use Rattle.lr_include.specs.Lacking.{LacksReading}
 use Rattle.lr_include.proofs.AllQuiet.{reads_quiet as confs_quiet, lacking_quiet}
-use Rattle.lr_laws_targets.specs.Runs.{IsWholeRunBy}
-use Rattle.lr_laws_targets.proofs.Shapes.{quiet_run_by}
+use Rattle.lr_laws_rotations.specs.Runs.{IsWholeRunBy}
+use Rattle.lr_laws_rotations.proofs.Shapes.{quiet_run_by}
 use Rattle.lr_report.specs.Reported.{IsOut, HasNoOut}
 use Rattle.lr_cli.proofs.OutAside.{Contains-only}
 

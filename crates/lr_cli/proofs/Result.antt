@@ -21,17 +21,17 @@ use Rattle.lr_host.proofs.Each.{each_as}
 use Rattle.lr_host.proofs.Lists.{in_back}
 use Rattle.lr_host.proofs.Made.{Cut}
 use Rattle.lr_due.specs.declared.tz.Zone.{Zone}
-use Rattle.lr_durable.specs.Renewing.{LeavesAlone, MayRenew, left_alone}
-use Rattle.lr_durable.specs.StateWhole.{KeepsWhole}
+use Rattle.lr_laws.specs.Renewing.{LeavesAlone, MayRenew, left_alone}
+use Rattle.lr_laws.specs.StateWhole.{KeepsWhole}
 use Rattle.lr_copy.specs.declared.job.Job.{Job}
 use Rattle.lr_copy.specs.Fits.{ArePaths}
-use Rattle.lr_emptied.specs.Emptied.{EmptiesCopied, EmptiesWhole}
-use Rattle.lr_emptied.specs.Jobs.{jobs_of}
-use Rattle.lr_emptied.proofs.Entries.{quiet_empties, both_empty, same_empties}
-use Rattle.lr_emptied.proofs.Whole.{empties_whole}
+use Rattle.lr_laws_acts.specs.Emptied.{EmptiesCopied, EmptiesWhole}
+use Rattle.lr_laws_acts.specs.Jobs.{jobs_of}
+use Rattle.lr_laws_acts.proofs.Entries.{quiet_empties, both_empty, same_empties}
+use Rattle.lr_laws_acts.proofs.CopiesWhole.{empties_whole}
 use Rattle.lr_plan.specs.declared.plan.Plan.{Plan}
-use Rattle.lr_seen.specs.Planned.{targets_in}
-use Rattle.lr_seen.proofs.Elements.{in_each}
+use Rattle.lr_laws_looks.specs.Planned.{targets_in}
+use Rattle.lr_laws_looks.proofs.Elements.{in_each}
 use Rattle.lr_run.specs.Copied.{IsCopyBy, NoneOfCopy}
 use Rattle.lr_run.specs.Logs.{AreGivenBy}
 use Rattle.lr_run.specs.Met.{MetNothing}
@@ -46,26 +46,26 @@ use Rattle.lr_run.proofs.Evidence.{faults_of, broken_of}
 use Rattle.lr_run.proofs.Renewing.{left_whole, quiet_alone, behind_quiet as may_behind}
 use Rattle.lr_run.proofs.Scriptless.{never_broke_off}
 use Rattle.lr_run.proofs.Turned.{logs_turned}
-use Rattle.lr_reached.specs.Ending.{NoneEnds}
-use Rattle.lr_reached.specs.Looked.{behind_start, SawState}
-use Rattle.lr_reached.specs.Tried.{NoneEndsTry}
-use Rattle.lr_reached.proofs.Ends.{none_both}
-use Rattle.lr_reached.proofs.Standing.{cut_at}
-use Rattle.lr_reached.proofs.Start.{behind_quiet}
-use Rattle.lr_reached.proofs.Tried.{none_try, try_both}
-use Rattle.lr_reached.proofs.Value.{carried_none, carried_saw, tried_none}
-use Rattle.lr_fulfilled.specs.Fulfilled.{IsFulfilled}
-use Rattle.lr_fulfilled.specs.Rest.{LeavesRest, LeavesSets}
-use Rattle.lr_fulfilled.specs.Truth.{WereTrue}
-use Rattle.lr_fulfilled.proofs.Failing.{logs_met_nothing, run_met_nothing}
-use Rattle.lr_fulfilled.proofs.Fulfilled.{fulfilled}
-use Rattle.lr_fulfilled.proofs.Given.{logs_given}
-use Rattle.lr_fulfilled.proofs.ListsOnce.{run_looks_once}
-use Rattle.lr_fulfilled.proofs.Rest.{done_rest, done_sets, done_only, cut_rest, cut_sets, cut_only}
-use Rattle.lr_fulfilled.proofs.Truth.{run_looks_true}
-use Rattle.lr_spared.specs.Smooth.{IsSmooth, NoneRose}
-use Rattle.lr_spared.proofs.Run.{run_fails_nothing}
-use Rattle.lr_spared.proofs.Smooth.{none_rose}
+use Rattle.lr_laws_plan.specs.Ending.{NoneEnds}
+use Rattle.lr_laws_plan.specs.Looked.{behind_start, SawState}
+use Rattle.lr_laws_plan.specs.Tried.{NoneEndsTry}
+use Rattle.lr_laws_plan.proofs.Ends.{none_both}
+use Rattle.lr_laws_plan.proofs.Standing.{cut_at}
+use Rattle.lr_laws_plan.proofs.Start.{behind_quiet}
+use Rattle.lr_laws_plan.proofs.Tried.{none_try, try_both}
+use Rattle.lr_laws_plan.proofs.Value.{carried_none, carried_saw, tried_none}
+use Rattle.lr_laws_plan.specs.Fulfilled.{IsFulfilled}
+use Rattle.lr_laws_plan.specs.Rest.{LeavesRest, LeavesSets}
+use Rattle.lr_laws_plan.specs.Truth.{WereTrue}
+use Rattle.lr_laws_plan.proofs.Failing.{logs_met_nothing, run_met_nothing}
+use Rattle.lr_laws_plan.proofs.Fulfilled.{fulfilled}
+use Rattle.lr_laws_plan.proofs.Given.{logs_given}
+use Rattle.lr_laws_plan.proofs.ListsOnce.{run_looks_once}
+use Rattle.lr_laws_plan.proofs.Rest.{done_rest, done_sets, done_only, cut_rest, cut_sets, cut_only}
+use Rattle.lr_laws_plan.proofs.Truth.{run_looks_true}
+use Rattle.lr_laws_plan.specs.Smooth.{IsSmooth, NoneRose}
+use Rattle.lr_laws_plan.proofs.Run.{run_fails_nothing}
+use Rattle.lr_laws_plan.proofs.Smooth.{none_rose}
 use Rattle.lr_command.specs.declared.request.Request.{Request}
 use Rattle.lr_clock.specs.Came.{WhereCame}
 use Rattle.lr_report.specs.declared.outcome.Outcome.{Outcome}

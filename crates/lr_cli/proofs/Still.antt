@@ -20,7 +20,7 @@ use Rattle.lr_host.proofs.Reading.{reads_only}
 use Rattle.lr_due.specs.declared.tz.Zone.{Zone}
 use Rattle.lr_due.specs.declared.tz.Zone.TheVariants.{Utc, Rule, File}
 use Rattle.lr_due.specs.declared.zone.ZoneText.{ZoneText}
-use Rattle.lr_visits.specs.Visits.{ReadsBroken, ReadsPartly}
+use Rattle.lr_include.specs.Visits.{ReadsBroken, ReadsPartly}
 use Rattle.lr_include.proofs.AllQuiet.{all_so, lacking_so, some_only}
 use Rattle.lr_plan.specs.declared.plan.Plan.{Plan}
 use Rattle.lr_glob.specs.Looking.{IsSight, AreSights}

@@ -9,9 +9,9 @@ use Rattle.lr_host.specs.declared.entry.Entry.TheVariants as entry
 use Rattle.lr_host.specs.Told.{Each}
 use Rattle.lr_due.specs.declared.tz.Zone.{Zone}
 use Rattle.lr_due.specs.declared.tz.Zone.TheVariants.{File}
-use Rattle.lr_reached.specs.Ending.{EndsRun, NoneEnds, MayEnd}
-use Rattle.lr_reached.specs.Looked.{behind_start, SawState}
-use Rattle.lr_reached.specs.Tried.{EndsTry, MayEndTry}
+use Rattle.lr_laws_plan.specs.Ending.{EndsRun, NoneEnds, MayEnd}
+use Rattle.lr_laws_plan.specs.Looked.{behind_start, SawState}
+use Rattle.lr_laws_plan.specs.Tried.{EndsTry, MayEndTry}
 use Rattle.lr_command.specs.declared.request.Request.{Request}
 use Rattle.lr_report.specs.declared.outcome.Outcome.{Outcome}
 use Rattle.lr_report.specs.declared.outcome.Outcome.TheVariants.{Done}

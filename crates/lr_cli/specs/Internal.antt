@@ -6,7 +6,7 @@ use Rattle.lr_host.specs.declared.entry.Entry.{Entry}
 use Rattle.lr_host.specs.declared.journal.Journal.{Journal}
 use Rattle.lr_host.specs.Quiet.{AreQuiet}
 use Rattle.lr_host.specs.Told.{Left}
-use Rattle.lr_laws_targets.specs.Runs.{IsWholeRunBy}
+use Rattle.lr_laws_rotations.specs.Runs.{IsWholeRunBy}
 use Rattle.lr_plan.specs.declared.plan.Plan.{Plan}
 use Rattle.lr_run.specs.Ran.{TellsNamesOf}
 use Rattle.lr_command.specs.declared.request.Request.{Request}

@@ -5,9 +5,9 @@ use Rattle.lr_host.specs.declared.journal.Journal.{Journal}
 use Rattle.lr_host.specs.Told.{Counts}
 use Rattle.lr_host.specs.World.{past}
 use Rattle.lr_copy.specs.declared.job.Job.{Job}
-use Rattle.lr_emptied.specs.Jobs.{jobs_of}
+use Rattle.lr_laws_acts.specs.Jobs.{jobs_of}
 use Rattle.lr_glob.specs.Listings.{listings_of}
-use Rattle.lr_seen.specs.Planned.{targets_in}
+use Rattle.lr_laws_looks.specs.Planned.{targets_in}
 use Rattle.lr_plan.specs.Done.{rotated_logs}
 use Rattle.lr_run.specs.Copied.{IsCopyBy}
 use Rattle.lr_run.specs.Logs.{AreGivenBy}
@@ -18,14 +18,14 @@ use Rattle.lr_run.specs.Runs.{dirs_in}
 use Rattle.lr_run.specs.Saw.{text_by}
 use Rattle.lr_run.specs.Scripts.{RunNothing}
 use Rattle.lr_run.specs.Work.{act_faults}
-use Rattle.lr_reached.specs.Ending.{NoneEnds}
-use Rattle.lr_reached.specs.Looked.{behind_start, SawState}
-use Rattle.lr_reached.specs.Tried.{NoneEndsTry}
-use Rattle.lr_fulfilled.specs.Fulfilled.{IsFulfilled, NothingFailed}
-use Rattle.lr_fulfilled.specs.Listings.{wildcards_of}
-use Rattle.lr_fulfilled.specs.Rest.{ChangesOnly, LeavesRest, LeavesSets}
-use Rattle.lr_fulfilled.specs.Truth.{WereTrue}
-use Rattle.lr_spared.specs.Smooth.{IsSmooth, NoneRose}
+use Rattle.lr_laws_plan.specs.Ending.{NoneEnds}
+use Rattle.lr_laws_plan.specs.Looked.{behind_start, SawState}
+use Rattle.lr_laws_plan.specs.Tried.{NoneEndsTry}
+use Rattle.lr_laws_plan.specs.Fulfilled.{IsFulfilled, NothingFailed}
+use Rattle.lr_laws_plan.specs.Listings.{wildcards_of}
+use Rattle.lr_laws_plan.specs.Rest.{ChangesOnly, LeavesRest, LeavesSets}
+use Rattle.lr_laws_plan.specs.Truth.{WereTrue}
+use Rattle.lr_laws_plan.specs.Smooth.{IsSmooth, NoneRose}
 use Rattle.lr_command.specs.declared.request.Request.{Request}
 use Rattle.lr_report.specs.declared.outcome.Outcome.{Outcome}
 use Rattle.lr_report.specs.declared.outcome.Outcome.TheVariants.{Done, OutOfMemory}

@@ -6,8 +6,8 @@ use Rattle.lr_host.specs.declared.journal.Journal.{Journal}
 use Rattle.lr_host.specs.Told.{Counts, Left, Rose}
 use Rattle.lr_due.specs.declared.tz.Zone.{Zone}
 use Rattle.lr_clock.specs.Came.{WhereCame}
-use Rattle.lr_durable.specs.StateWhole.{KeepsWhole}
-use Rattle.lr_emptied.specs.Emptied.{EmptiesWhole}
+use Rattle.lr_laws.specs.StateWhole.{KeepsWhole}
+use Rattle.lr_laws_acts.specs.Emptied.{EmptiesWhole}
 use Rattle.lr_plan.specs.declared.plan.Plan.{Plan}
 use Rattle.lr_report.specs.Puts.{Took, TookPart}
 use Rattle.lr_command.specs.declared.request.Request.{Request}

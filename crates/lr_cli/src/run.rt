@@ -3,7 +3,7 @@ ghost use Rattle.std.specs.Prelude.{◌≡◌, ◌≤◌, ◌+◌, [], None, Err
 ghost use Rattle.lr_host.specs.Opening.{IsJournal};
 ghost use Rattle.lr_host.specs.Told.{Left, Onward, Rose, WhereTold};
 ghost use Rattle.lr_host.specs.Counted.{WentBy};
-ghost use Rattle.lr_laws_targets.specs.Runs.{IsWholeRunBy};
+ghost use Rattle.lr_laws_rotations.specs.Runs.{IsWholeRunBy};
 ghost use Rattle.lr_cli.specs.Called.{CallEnds};
 ghost use Rattle.lr_clock.specs.Clock.{IsClocked};
 ghost use Rattle.lr_report.specs.Reported.{AreReported};

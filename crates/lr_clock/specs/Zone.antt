@@ -11,7 +11,7 @@ use Rattle.lr_host.specs.declared.entry.Entry.{Entry}
 use Rattle.lr_host.specs.Told.{Then}
 use Rattle.lr_host.specs.Reading.{ReadsAll}
 use Rattle.lr_host.specs.Looks.{Sees, IsFile}
-use Rattle.lr_visits.specs.Visits.{ReadsBroken, ReadsPartly}
+use Rattle.lr_include.specs.Visits.{ReadsBroken, ReadsPartly}
 use Rattle.lr_due.specs.declared.tz.Zone.{Zone}
 use Rattle.lr_due.specs.declared.tz.Zone.TheVariants.{Utc, Rule, File}
 use Rattle.lr_due.specs.declared.zone.ZoneText.{ZoneText}

@@ -16,8 +16,8 @@ ghost use Rattle.lr_clock.specs.Zone.{IsFileFault, IsTextFault};
 use crate::clock::ClockStop;
 use lr_due::{Zone, ZoneText};
 use lr_host::{CallFault, Host, Kind};
+use lr_include::{ReadStop, read_text};
 use lr_rules::{CallKind, Fault, Listed, Path, Text, ZoneWhy};
-use lr_visits::{ReadStop, read_text};
 use std::alloc::Global;
 
 // A file of more bytes is too big.

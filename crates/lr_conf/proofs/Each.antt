@@ -3,7 +3,7 @@ use Rattle.std.proofs.Common.{Bool, true, false, cond, List, [], ◌∷◌, ◌+
 use Rattle.std.specs.List.{AllByRecursion as Each, filter_map, cons_option}
 use Rattle.std.proofs.lemmas.List.{reverse-append}
 use Rattle.lr_conf.specs.Meaning.{before}
-use Rattle.lr_fields.specs.Fields.{last_or}
+use Rattle.lr_conf.specs.Fields.{last_or}
 
 pub append : {A : Type 0} (P : A → Type 0) (xs ys : List A) → Each P xs → Each P ys → Each P (xs ++ ys)
 append P [] ys a b = b

@@ -6,7 +6,7 @@ use Rattle.std.proofs.lemmas.List.{append-nil, reverse-append}
 use Rattle.lr_lex.specs.declared.item.Item.TheVariants as item
 use Rattle.lr_rules.specs.declared.path.Path.{Path}
 use Rattle.lr_rules.specs.declared.fault.ConfKind.TheVariants as kind
-use Rattle.lr_fields.specs.declared.fields.Fields.{Fields}
+use Rattle.lr_conf.specs.declared.fields.Fields.{Fields}
 use Rattle.lr_conf.specs.declared.place.Place.{Place}
 use Rattle.lr_conf.specs.declared.place.Place.TheVariants.{Outside, Good, Dropped}
 use Rattle.lr_forms.specs.declared.set.Set.{Set}
@@ -16,13 +16,13 @@ use Rattle.lr_forms.specs.declared.set.Set.TheVariants as set
 use Rattle.lr_rules.specs.declared.fault.ConfKind.{ConfKind}
 use Rattle.lr_rules.specs.declared.fault.Phase.{Phase}
 use Rattle.lr_forms.specs.Says.{said}
-use Rattle.lr_fields.specs.Fields.{fields_of}
-use Rattle.lr_fields.specs.Rules.{rule_of}
-use Rattle.lr_fields.specs.Scripts.{script_fault}
+use Rattle.lr_conf.specs.Fields.{fields_of}
+use Rattle.lr_conf.specs.Rules.{rule_of}
+use Rattle.lr_conf.specs.Scripts.{script_fault}
 use Rattle.lr_conf.specs.Meaning.{Line, Read, Spoiled, End, Cut, OutsideLine, stands, spoiled, file_ends, breaks_off, Meaning, ◌and◌, told, conf, list_of, before, through, behind as behind_first, set_of, set_past, settings, names_past, settles, pending, first_line, first_pending, words_pending, past, notice_of, line_fault, script_of, line_script, scripts_in, script_says, said_behind, within, body_of, drops, is_bad_line, set_in, notice_in, fault_in, broken_fault, spoilt_fault, ends, opens, of_end, of_definition, of_body, of_opening, of_line, of_spoilt, meaning, line_file, or_line}
-use Rattle.lr_fields.specs.Setting.{with_set, default_fields}
+use Rattle.lr_conf.specs.Setting.{with_set, default_fields}
 use Rattle.lr_conf.specs.Internal.Draft.{State, run, with_said, scripted, said_inside, outside, turned}
-use Rattle.lr_fields.proofs.Settings.{fields-push}
+use Rattle.lr_conf.proofs.Settings.{fields-push}
 
 -- ---- one more line outside definitions
 

@@ -1,8 +1,10 @@
-pub mod Spoken
-pub mod Law
-pub mod Others
-pub mod Took
 pub mod Each
-pub mod Walk
-pub mod Plain
+pub mod Lasts
+pub mod Law
 pub mod Limits
+pub mod Others
+pub mod Plain
+pub mod Settings
+pub mod Spoken
+pub mod Took
+pub mod Walk

@@ -29,9 +29,9 @@ use Rattle.lr_conf.specs.declared.draft.Draft.{Draft}
 use Rattle.lr_conf.specs.declared.stop.Include.{Include}
 use Rattle.lr_conf.specs.declared.stop.LayerStop.{LayerStop}
 use Rattle.lr_conf.specs.declared.stop.LayerStop.TheVariants as stop
-use Rattle.lr_fields.specs.Fields.{fields_of, last_set, criterion_set, count_set, maxage_set, minage_set, minsize_set, maxsize_set, start_set, extension_set, addextension_set, olddir_set, createolddir_set, create_set, mail_set, pieces_set, dated_set, back_set, serial_set}
-use Rattle.lr_fields.specs.Rules.{pieces_of, rule_of}
-use Rattle.lr_fields.specs.Scripts.{script_fault}
+use Rattle.lr_conf.specs.Fields.{fields_of, last_set, criterion_set, count_set, maxage_set, minage_set, minsize_set, maxsize_set, start_set, extension_set, addextension_set, olddir_set, createolddir_set, create_set, mail_set, pieces_set, dated_set, back_set, serial_set}
+use Rattle.lr_conf.specs.Rules.{pieces_of, rule_of}
+use Rattle.lr_conf.specs.Scripts.{script_fault}
 use Rattle.lr_conf.specs.Meaning.{Line, End, Meaning, ◌and◌, told, conf, script_says, meaning}
 use Rattle.lr_conf.specs.Stops.{layer_faults}
 use Rattle.lr_conf.specs.Internal.Draft.{coming_from, TookIn}

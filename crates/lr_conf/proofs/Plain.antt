@@ -20,9 +20,9 @@ use Rattle.lr_forms.specs.Says.{said}
 use Rattle.lr_forms.specs.Limits.{set_meets, said_meets, NamesSome}
 use Rattle.lr_forms.proofs.Limits.{said_fine}
 use Rattle.lr_forms.proofs.Naming.{said_some}
-use Rattle.lr_fields.specs.Fields.{fields_of, count_set}
-use Rattle.lr_fields.specs.Rules.{rule_of}
-use Rattle.lr_fields.specs.Scripts.{script_fault}
+use Rattle.lr_conf.specs.Fields.{fields_of, count_set}
+use Rattle.lr_conf.specs.Rules.{rule_of}
+use Rattle.lr_conf.specs.Scripts.{script_fault}
 use Rattle.lr_conf.specs.Meaning.{Line, script_says, meaning}
 use Rattle.lr_conf.specs.Plain.{IsRuleWord, IsSmallCount, IsPlainRule}
 use Rattle.lr_conf.proofs.Each.{append, Given}

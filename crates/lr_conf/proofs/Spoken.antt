@@ -10,11 +10,11 @@ use Rattle.lr_forms.specs.declared.set.Set.{Set}
 use Rattle.lr_forms.specs.declared.said.Said.TheVariants as says
 use Rattle.lr_words.specs.declared.taboo.TabooItems.{TabooItems}
 use Rattle.lr_conf.specs.declared.draft.Draft.{Draft}
-use Rattle.lr_fields.specs.declared.fields.Fields.{Fields}
+use Rattle.lr_conf.specs.declared.fields.Fields.{Fields}
 use Rattle.lr_conf.specs.declared.stop.Include.{Include}
 use Rattle.lr_conf.specs.declared.stop.LayerStop.{LayerStop}
 use Rattle.lr_conf.specs.Meaning.{OutsideLine, stands, conf, at_line, stray_at}
-use Rattle.lr_fields.specs.Setting.{with_set}
+use Rattle.lr_conf.specs.Setting.{with_set}
 use Rattle.lr_conf.specs.Internal.Draft.{Spoke, Speaks, Settled, Noticed, Banned, answer_of, asking_answer, state_of, stray_kind, turned, without_names}
 
 abbrev own_faults : Path → ℕ → Option ConfKind → List Fault

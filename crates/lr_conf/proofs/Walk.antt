@@ -9,9 +9,9 @@ use Rattle.lr_forms.specs.declared.set.Set.{Set}
 use Rattle.lr_forms.specs.declared.said.Said.{Said}
 use Rattle.lr_forms.specs.declared.said.Said.TheVariants as says
 use Rattle.lr_forms.specs.Says.{said}
-use Rattle.lr_fields.specs.Fields.{fields_of, last_set}
-use Rattle.lr_fields.specs.Rules.{rule_of}
-use Rattle.lr_fields.specs.Scripts.{script_fault}
+use Rattle.lr_conf.specs.Fields.{fields_of, last_set}
+use Rattle.lr_conf.specs.Rules.{rule_of}
+use Rattle.lr_conf.specs.Scripts.{script_fault}
 use Rattle.lr_conf.specs.Meaning.{Line, Read, Spoiled, End, Cut, OutsideLine, stands, spoiled, file_ends, breaks_off, Meaning, nothing, told, set_of, set_past, settings, names_past, settles, pending, first_line, words_pending, first_pending, words_with, opened, opens, past, before, behind, ends, scripts_in, script_says, said_behind, within, body_of, drops, set_in, broken_fault, of_end, of_body, of_opening, meaning}
 use Rattle.lr_conf.proofs.Each.{append, backwards, front, Given, one_more, mapped, last}
 

@@ -1,5 +1,9 @@
-pub mod Meaning
-pub mod Stops
+pub mod Fields
 pub mod Fold
-pub mod Plain
 pub mod Internal
+pub mod Meaning
+pub mod Plain
+pub mod Rules
+pub mod Scripts
+pub mod Setting
+pub mod Stops

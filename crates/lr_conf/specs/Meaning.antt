@@ -11,7 +11,7 @@ use Rattle.lr_rules.specs.declared.fault.Fault.TheVariants as fault
 use Rattle.lr_rules.specs.declared.fault.Notice.{Notice}
 use Rattle.lr_rules.specs.declared.fault.Phase.{Phase}
 use Rattle.lr_rules.specs.declared.rule.Rule.{Rule}
-use Rattle.lr_fields.specs.declared.fields.Fields.{Fields}
+use Rattle.lr_conf.specs.declared.fields.Fields.{Fields}
 use Rattle.lr_conf.specs.declared.stop.Include.{Include}
 use Rattle.lr_forms.specs.declared.set.Set.{Set}
 use Rattle.lr_forms.specs.declared.set.Set.TheVariants as set
@@ -21,9 +21,9 @@ use Rattle.lr_words.specs.declared.taboo.TabooItems.{TabooItems}
 use Rattle.lr_match.specs.declared.taboo.Taboo.{Taboo}
 use Rattle.lr_match.specs.Taboos.{taboo_after}
 use Rattle.lr_forms.specs.Says.{line_of, has_brace, closes, said}
-use Rattle.lr_fields.specs.Fields.{fields_of}
-use Rattle.lr_fields.specs.Rules.{rule_of}
-use Rattle.lr_fields.specs.Scripts.{script_fault}
+use Rattle.lr_conf.specs.Fields.{fields_of}
+use Rattle.lr_conf.specs.Rules.{rule_of}
+use Rattle.lr_conf.specs.Scripts.{script_fault}
 
 -- ---- lines
 

@@ -2,14 +2,15 @@
 ghost use Rattle.std.specs.Prelude.{◌≡◌, ◌<◌, List, [], ◌∷◌, false, length, IfOk, MatchOption};
 ghost use Rattle.lr_rules.specs.declared.fault.Fault.{Fault};
 ghost use Rattle.lr_match.specs.Taboos.{first_taboo};
-ghost use Rattle.lr_fields.specs.Setting.{default_fields};
+ghost use Rattle.lr_conf.specs.Setting.{default_fields};
 ghost use Rattle.lr_conf.specs.Meaning.{Line, Read, Spoiled, End, Cut, meaning, asked, banned, told, conf, ◌and◌};
 ghost use Rattle.lr_conf.specs.Internal.Draft.{coming_from, asking_from, banning_from, TookIn, AsksIn, BansIn, PassesIn};
 ghost use Rattle.lr_conf.specs.Internal.Draft.{file_of_draft, files_of};
 
+use crate::fields::{Fields, default_fields};
+use crate::files::Files;
 use crate::place::Place;
 use crate::stop::{Include, LayerStop};
-use lr_fields::{Fields, Files, default_fields};
 use lr_lex::Item;
 use lr_match::Taboo;
 use lr_rules::{ConfKind, Memory, Notice, Phase, Rule, Text};

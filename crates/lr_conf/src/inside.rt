@@ -1,14 +1,16 @@
 // Lines in a definition.
 ghost use Rattle.std.specs.Prelude.{◌≡◌, ◌<◌, [], None, length};
-ghost use Rattle.lr_fields.specs.Rules.{format_of, rule_of};
+ghost use Rattle.lr_conf.specs.Rules.{format_of, rule_of};
 ghost use Rattle.lr_conf.specs.declared.place.Place.TheVariants as place;
 ghost use Rattle.lr_forms.specs.declared.said.Said.TheVariants as says;
 ghost use Rattle.lr_conf.specs.Internal.Draft.{SaysInside, Closes, SameRest, file_of_draft, files_of, first_of, state_of};
 
 use crate::draft::Draft;
+use crate::fields::{Fields, default_fields, set_field};
 use crate::place::Place;
+use crate::rule::{format_of, rule_of};
+use crate::scripts::script_fault;
 use crate::stop::{Include, LayerStop};
-use lr_fields::{Fields, default_fields, format_of, rule_of, script_fault, set_field};
 use lr_forms::{Said, Set};
 use lr_rules::{ConfKind, Format, Listed, Path, Phase, Rule, Text};
 use std::mem;

@@ -22,18 +22,34 @@
 //! layer.leave();
 //! let (rules, notices) = layer.finish();
 //! ```
+//!
+//! The fields of one definition are [`Fields`]: [`default_fields`] are those that no line set, [`set_field`] makes one more
+//! setting of them (by the law [`one_more_setting`] the fields of all of them), and [`rule_of`] gives the rule of a definition
+//! that ends with them. [`script_fault`] tells whether a definition takes a script. [`Files`] are those whose lines are being read.
 #![tactic(auto)]
 
+mod copies;
 mod draft;
+mod field_laws;
+mod fields;
+mod files;
 mod inside;
-mod laws;
 mod layer;
 mod outside;
 mod place;
+mod rule;
+mod rule_laws;
+mod scripts;
 mod stop;
 mod taboo;
 mod taking;
 
-pub use laws::rules_of_lines;
+pub use copies::copy_fields;
+pub use field_laws::{last_count, last_criterion, one_more_setting};
+pub use fields::{Fields, default_fields, set_field};
+pub use files::Files;
 pub use layer::Layer;
+pub use rule::{format_of, rule_of};
+pub use rule_laws::rules_of_lines;
+pub use scripts::script_fault;
 pub use stop::{Include, LayerStop};

@@ -6,11 +6,12 @@ ghost use Rattle.lr_conf.specs.Meaning.{stands, or_line};
 ghost use Rattle.lr_conf.specs.Internal.Draft.{Speaks, Noticed, Banned, SameRest, Aside, Unchanged, Settled, answer_of};
 ghost use Rattle.lr_conf.specs.Internal.Draft.{file_of_draft, files_of, without_names, state_of};
 
+use crate::copies::copy_fields;
 use crate::draft::Draft;
+use crate::fields::set_field;
 use crate::place::Place;
 use crate::stop::{Include, LayerStop};
 use crate::taboo::change_list;
-use lr_fields::{copy_fields, set_field};
 use lr_forms::{Said, Set};
 use lr_rules::{ConfKind, Listed, Memory, Notice, Path, Text};
 use lr_words::TabooItems;

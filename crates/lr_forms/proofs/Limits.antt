@@ -15,15 +15,15 @@ use Rattle.lr_rules.specs.declared.rule.Make.TheVariants as make
 use Rattle.lr_rules.specs.Limits.{is_small, is_size, is_count, is_make, is_extension, is_address, is_olddir, is_format, is_log_word}
 use Rattle.lr_tables.specs.declared.directive.Directive.{Directive}
 use Rattle.lr_tables.specs.declared.directive.Directive.TheVariants as is
-use Rattle.lr_values.specs.Numbers.{number_value, count_value, size_value, begins_with_digit, some_mode, mode_value, first_mode_value, names_owner}
-use Rattle.lr_values.specs.Formats.{format_value}
-use Rattle.lr_values.proofs.Limits.{number_meets, count_meets, weekday_meets, size_meets, mode_meets}
-use Rattle.lr_values.proofs.ReadBack.{format_meets}
+use Rattle.lr_words.specs.Numbers.{number_value, count_value, size_value, begins_with_digit, some_mode, mode_value, first_mode_value, names_owner}
+use Rattle.lr_words.specs.Formats.{format_value}
+use Rattle.lr_words.proofs.ValueLimits.{number_meets, count_meets, weekday_meets, size_meets, mode_meets}
+use Rattle.lr_words.proofs.ReadBack.{format_meets}
 use Rattle.lr_words.specs.declared.taboo.TabooItems.{TabooItems}
 use Rattle.lr_words.specs.Lists.{taboo_value}
 use Rattle.lr_words.specs.Names.{log_name_value, include_value}
 use Rattle.lr_words.specs.Words.{extension_value, address_value, olddir_value}
-use Rattle.lr_words.proofs.Limits.{extension_meets, address_meets, olddir_meets}
+use Rattle.lr_words.proofs.WordLimits.{extension_meets, address_meets, olddir_meets}
 use Rattle.lr_words.proofs.LogNames.{log_name_meets}
 use Rattle.lr_forms.specs.declared.form.Form.{Form}
 use Rattle.lr_forms.specs.declared.form.Form.TheVariants as form

@@ -12,7 +12,7 @@ use Rattle.lr_rules.specs.declared.fault.Phase.{Phase}
 use Rattle.lr_rules.specs.declared.rule.Criterion.TheVariants as criterion
 use Rattle.lr_rules.specs.declared.rule.Make.TheVariants as make
 use Rattle.lr_tables.specs.declared.directive.Directive.{Directive}
-use Rattle.lr_values.specs.Numbers.{names_owner}
+use Rattle.lr_words.specs.Numbers.{names_owner}
 use Rattle.lr_words.specs.declared.taboo.TabooItems.{TabooItems}
 use Rattle.lr_words.specs.Lists.{taboo_value}
 use Rattle.lr_words.specs.Names.{log_name_value, include_value}

@@ -5,8 +5,8 @@ use Rattle.lr_rules.specs.declared.fault.ConfKind.{ConfKind}
 use Rattle.lr_rules.specs.declared.rule.Criterion.TheVariants as criterion
 use Rattle.lr_rules.specs.declared.rule.Make.{Make}
 use Rattle.lr_rules.specs.declared.rule.Make.TheVariants as make
-use Rattle.lr_values.specs.Numbers.{number_value, count_value, weekday_value, size_value, first_mode_value, names_owner}
-use Rattle.lr_values.specs.Formats.{format_value}
+use Rattle.lr_words.specs.Numbers.{number_value, count_value, weekday_value, size_value, first_mode_value, names_owner}
+use Rattle.lr_words.specs.Formats.{format_value}
 use Rattle.lr_words.specs.declared.taboo.TabooItems.{TabooItems}
 use Rattle.lr_words.specs.Names.{include_value}
 use Rattle.lr_words.specs.Words.{extension_value, address_value, olddir_value}

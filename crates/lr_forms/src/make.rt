@@ -7,7 +7,7 @@ use crate::said::Said;
 use crate::set::Set;
 use lr_lex::Word;
 use lr_rules::{ConfKind, Make};
-use lr_values::{first_mode, names_owner};
+use lr_words::{first_mode, names_owner};
 
 fn mode_of(values: &[Word]) -> Result<Option<u32>, ConfKind>
     ensures { result ≡ mode_of (texts values.now) }

@@ -1,8 +1,8 @@
 // Values of directives that take one word.
 ghost use Rattle.std.specs.Prelude.{◌≡◌, IfOk, Some};
 ghost use Rattle.lr_rules.specs.declared.rule.Criterion.TheVariants as criterion;
-ghost use Rattle.lr_values.specs.Numbers.{number_value, count_value, size_value};
-ghost use Rattle.lr_values.specs.Formats.{format_value};
+ghost use Rattle.lr_words.specs.Numbers.{number_value, count_value, size_value};
+ghost use Rattle.lr_words.specs.Formats.{format_value};
 ghost use Rattle.lr_words.specs.Words.{extension_value, address_value, olddir_value};
 ghost use Rattle.lr_forms.specs.declared.set.Set.TheVariants as set;
 ghost use Rattle.lr_forms.specs.Says.{texts};
@@ -13,8 +13,7 @@ use crate::said::Said;
 use crate::set::Set;
 use lr_lex::Word;
 use lr_rules::{ConfKind, Criterion, Memory, Text};
-use lr_values::{count, format, number, size, weekday};
-use lr_words::{address, extension, olddir};
+use lr_words::{address, count, extension, format, number, olddir, size, weekday};
 use std::alloc::Global;
 
 // ---- numbers
@@ -120,7 +119,7 @@ fn mail_set(alloc: Global, word: &Text) -> Result<Result<Set, ConfKind>, Memory>
     }
 }
 
-#[tactic(auto, using(lr_values::proofs::ReadBack::one_format))]
+#[tactic(auto, using(lr_words::proofs::ReadBack::one_format))]
 fn format_set(alloc: Global, word: &[u8]) -> Result<Result<Set, ConfKind>, Memory>
     ensures { IfOk result (λ r. r ≡ setting set.DateFormat (format_value word.now)) }
 {

@@ -15,16 +15,16 @@ use Rattle.lr_lex.specs.Items.{Told}
 use Rattle.lr_forms.specs.declared.said.Said.{Said}
 use Rattle.lr_forms.specs.declared.said.Said.TheVariants as says
 use Rattle.lr_forms.specs.declared.set.Set.{Set}
-use Rattle.lr_fields.specs.declared.fields.Fields.{Fields}
-use Rattle.lr_fields.specs.Fields.{fields_of, last_or}
+use Rattle.lr_conf.specs.declared.fields.Fields.{Fields}
+use Rattle.lr_conf.specs.Fields.{fields_of, last_or}
 use Rattle.lr_conf.specs.declared.stop.Include.{Include}
 use Rattle.lr_conf.specs.Meaning.{Line, Read, Spoiled, End, Cut, OutsideLine, stands, spoiled, Meaning, conf, nothing, line_file, first_pending, words_pending, words_with, settings, opened, opens, past, before, through, behind, ends, InsideLine, states, broken, left_open, within, body_of, drops, set_in, line_fault, fault_in, broken_fault, spoilt_fault, told, at_line, left_names, stray_at, own_fault, line_faults, of_end, of_body, of_opening, meaning}
 use Rattle.lr_host.specs.declared.entry.Entry.{Entry}
-use Rattle.lr_visits.specs.declared.part.TextEnd.{TextEnd}
-use Rattle.lr_visits.specs.declared.part.TextEnd.TheVariants as end
-use Rattle.lr_visits.specs.declared.visit.Visit.{Visit}
-use Rattle.lr_visits.specs.declared.visit.Visit.TheVariants as visit
-use Rattle.lr_visits.specs.Visits.{ShowsVisit, look_failed as unseen, nothing as saw_nothing, exposed as saw_exposed, directory as saw_dir, file as saw_file}
+use Rattle.lr_include.specs.declared.part.TextEnd.{TextEnd}
+use Rattle.lr_include.specs.declared.part.TextEnd.TheVariants as end
+use Rattle.lr_include.specs.declared.visit.Visit.{Visit}
+use Rattle.lr_include.specs.declared.visit.Visit.TheVariants as visit
+use Rattle.lr_include.specs.Visits.{ShowsVisit, look_failed as unseen, nothing as saw_nothing, exposed as saw_exposed, directory as saw_dir, file as saw_file}
 use Rattle.lr_include.specs.declared.task.Ask.{Ask}
 use Rattle.lr_include.specs.declared.task.Piece.{Piece}
 use Rattle.lr_include.specs.declared.task.Piece.TheVariants as piece

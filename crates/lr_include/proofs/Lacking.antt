@@ -6,8 +6,8 @@ use Rattle.lr_host.specs.declared.entry.Entry.{Entry}
 use Rattle.lr_host.specs.declared.journal.Journal.{Journal}
 use Rattle.lr_host.specs.Told.{Left}
 use Rattle.lr_host.proofs.Left.{left_first, left_as, left_then}
-use Rattle.lr_visits.specs.declared.visit.Visit.{Visit}
-use Rattle.lr_visits.specs.Visits.{ShowsVisit, PartVisit}
+use Rattle.lr_include.specs.declared.visit.Visit.{Visit}
+use Rattle.lr_include.specs.Visits.{ShowsVisit, PartVisit}
 use Rattle.lr_include.specs.declared.course.Course.{Course}
 use Rattle.lr_include.specs.declared.task.Ask.{Ask}
 use Rattle.lr_include.specs.declared.task.Task.{Task}

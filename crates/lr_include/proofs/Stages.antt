@@ -23,15 +23,15 @@ use Rattle.lr_lex.specs.declared.item.Item.{Item}
 use Rattle.lr_lex.specs.Items.{Told}
 use Rattle.lr_conf.specs.Meaning.{Line, Read, Spoiled, End, Cut, Meaning, meaning, ◌and◌, told, conf, asked, banned, list_of}
 use Rattle.lr_conf.specs.Fold.{coming, asking, banning, entered, file_of_layer, LayerTook, Asks, Bans, Alike, LayerPasses}
-use Rattle.lr_fields.specs.Fields.{last_or}
+use Rattle.lr_conf.specs.Fields.{last_or}
 use Rattle.lr_host.specs.declared.entry.Entry.{Entry}
 use Rattle.lr_host.specs.declared.journal.Journal.{Journal}
 use Rattle.lr_host.specs.Told.{Left, Then}
 use Rattle.lr_host.proofs.Left.{left_first, left_as, left_then}
-use Rattle.lr_visits.specs.declared.visit.Visit.{Visit}
-use Rattle.lr_visits.specs.declared.visit.Visit.TheVariants as visit
-use Rattle.lr_visits.specs.declared.part.TextEnd.TheVariants as end
-use Rattle.lr_visits.specs.Visits.{ShowsVisit, HasFailed}
+use Rattle.lr_include.specs.declared.visit.Visit.{Visit}
+use Rattle.lr_include.specs.declared.visit.Visit.TheVariants as visit
+use Rattle.lr_include.specs.declared.part.TextEnd.TheVariants as end
+use Rattle.lr_include.specs.Visits.{ShowsVisit, HasFailed}
 use Rattle.lr_host.specs.Counted.{RoseBy}
 use Rattle.lr_include.specs.Allowed.{failed_in}
 use Rattle.lr_include.specs.declared.course.Course.{Course}

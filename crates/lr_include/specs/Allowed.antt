@@ -3,11 +3,11 @@ use Rattle.std.specs.Prelude.{◌≡◌, ◌+◌, ℕ, Bool, true, List, [], ◌
 use Rattle.lr_rules.specs.declared.fault.CallKind.TheVariants as call
 use Rattle.lr_rules.specs.declared.fault.Fault.{Fault}
 use Rattle.lr_rules.specs.declared.fault.Fault.TheVariants as fault
-use Rattle.lr_visits.specs.declared.visit.Visit.{Visit}
-use Rattle.lr_visits.specs.declared.visit.Visit.TheVariants as visit
-use Rattle.lr_visits.specs.declared.part.TextEnd.{TextEnd}
-use Rattle.lr_visits.specs.declared.part.TextEnd.TheVariants as end
-use Rattle.lr_visits.specs.Visits.{HasFailed}
+use Rattle.lr_include.specs.declared.visit.Visit.{Visit}
+use Rattle.lr_include.specs.declared.visit.Visit.TheVariants as visit
+use Rattle.lr_include.specs.declared.part.TextEnd.{TextEnd}
+use Rattle.lr_include.specs.declared.part.TextEnd.TheVariants as end
+use Rattle.lr_include.specs.Visits.{HasFailed}
 
 -- a fault of a file or of a line of it, or, where there may be any, a failed call: a look, a listing or a read
 abbrev pub IsAllowed : Bool → Fault → Type 0

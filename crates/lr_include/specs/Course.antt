@@ -13,7 +13,7 @@ use Rattle.lr_conf.specs.Fold.{coming, asking, banning, entered, file_of_layer}
 use Rattle.lr_host.specs.declared.entry.Entry.{Entry}
 use Rattle.lr_host.specs.declared.journal.Journal.{Journal}
 use Rattle.lr_host.specs.Told.{Left}
-use Rattle.lr_visits.specs.declared.visit.Visit.{Visit}
+use Rattle.lr_include.specs.declared.visit.Visit.{Visit}
 use Rattle.lr_include.specs.declared.course.Course.{Course}
 use Rattle.lr_include.specs.declared.task.Piece.{Piece}
 use Rattle.lr_host.specs.Counted.{RoseBy}

@@ -3,8 +3,8 @@ use Rattle.std.specs.Prelude.{◌≡◌, List, [], ◌∷◌, Option}
 use Rattle.lr_rules.specs.declared.path.Path.{Path}
 use Rattle.lr_host.specs.declared.entry.Entry.{Entry}
 use Rattle.lr_host.specs.Told.{Then}
-use Rattle.lr_visits.specs.declared.visit.Visit.{Visit}
-use Rattle.lr_visits.specs.Visits.{PartVisit}
+use Rattle.lr_include.specs.declared.visit.Visit.{Visit}
+use Rattle.lr_include.specs.Visits.{PartVisit}
 use Rattle.lr_include.specs.declared.task.Task.{Task}
 use Rattle.lr_include.specs.declared.task.Task.TheVariants as task
 use Rattle.lr_include.specs.Stages.{Stage, room_for, IsTaboo, at_visits, ShowsVisits, begun}

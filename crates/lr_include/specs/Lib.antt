@@ -1,6 +1,9 @@
-pub mod Course
 pub mod Allowed
+pub mod Course
 pub mod Lacking
 pub mod Lines
 pub mod Readers
 pub mod Stages
+pub mod Taken
+pub mod Visits
+pub mod Whole

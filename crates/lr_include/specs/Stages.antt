@@ -11,17 +11,17 @@ use Rattle.lr_rules.specs.declared.fault.Fault.{Fault}
 use Rattle.lr_rules.specs.declared.fault.Fault.TheVariants as fault
 use Rattle.lr_rules.specs.Path.{path_fault, joined, last_of}
 use Rattle.lr_lex.specs.Items.{Told}
-use Rattle.lr_fields.specs.Fields.{last_or}
+use Rattle.lr_conf.specs.Fields.{last_or}
 use Rattle.lr_match.specs.Taboos.{Bars, first_taboo}
 use Rattle.lr_conf.specs.declared.stop.Include.{Include}
 use Rattle.lr_conf.specs.Meaning.{Line, Read, Spoiled, End, Cut, Meaning, meaning, conf, asked, banned}
 use Rattle.lr_host.specs.declared.entry.Entry.{Entry}
 use Rattle.lr_host.specs.Told.{Then}
-use Rattle.lr_visits.specs.declared.part.TextEnd.{TextEnd}
-use Rattle.lr_visits.specs.declared.part.TextEnd.TheVariants as end
-use Rattle.lr_visits.specs.declared.visit.Visit.{Visit}
-use Rattle.lr_visits.specs.declared.visit.Visit.TheVariants as visit
-use Rattle.lr_visits.specs.Visits.{ShowsVisit}
+use Rattle.lr_include.specs.declared.part.TextEnd.{TextEnd}
+use Rattle.lr_include.specs.declared.part.TextEnd.TheVariants as end
+use Rattle.lr_include.specs.declared.visit.Visit.{Visit}
+use Rattle.lr_include.specs.declared.visit.Visit.TheVariants as visit
+use Rattle.lr_include.specs.Visits.{ShowsVisit}
 use Rattle.lr_include.specs.declared.task.Ask.{Ask}
 use Rattle.lr_include.specs.declared.task.Piece.{Piece}
 use Rattle.lr_include.specs.declared.task.Piece.TheVariants as piece

@@ -5,10 +5,10 @@ ghost use Rattle.lr_conf.specs.Meaning.{conf};
 ghost use Rattle.lr_include.specs.Stages.{piece_of, last_piece};
 
 use crate::kind::conf_kind;
+use crate::part::TextEnd;
 use crate::task::Piece;
 use lr_lex::{Item, LexFault};
 use lr_rules::{CallKind, ConfKind, Fault, Memory, Path};
-use lr_visits::TextEnd;
 use std::alloc::Global;
 
 /// The piece of an item or of the fault of a line.

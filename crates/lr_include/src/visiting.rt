@@ -4,7 +4,7 @@ ghost use Rattle.std.specs.Prelude.{OnOk, OnErr};
 ghost use Rattle.lr_host.specs.Told.{Left, Onward};
 ghost use Rattle.lr_conf.specs.Meaning.{conf};
 ghost use Rattle.lr_conf.specs.Fold.{entered};
-ghost use Rattle.lr_visits.specs.Visits.{IsRead, RoomIsLeft};
+ghost use Rattle.lr_include.specs.Visits.{IsRead, RoomIsLeft};
 ghost use Rattle.lr_include.specs.declared.task.Task.TheVariants as task;
 ghost use Rattle.lr_include.specs.Stages.{Stage, is_shallow, room_of, room_for, limit_kind, telling_exposed, line_tasks};
 ghost use Rattle.lr_include.specs.Stages.{name_tasks, is_name, behind_names, entering, after_ask, after_name, IsTaboo};
@@ -12,12 +12,13 @@ ghost use Rattle.lr_include.specs.Course.{StandsAt, SameButTodo, ToldFault, Goes
 ghost use Rattle.lr_include.specs.Lacking.{LacksFrom};
 
 use crate::course::Course;
+use crate::part::TextEnd;
 use crate::pieces::{last_piece, piece_of};
 use crate::task::{Ask, Task};
+use crate::visit::{Visit, visit_path};
 use lr_host::Host;
 use lr_lex::{Item, LexFault};
 use lr_rules::{CallKind, ConfKind, Fault, Listed, Memory, Path, PathFault, Text};
-use lr_visits::{TextEnd, Visit, visit_path};
 
 /// The bytes of one file that count.
 const FILE_LIMIT: usize = 1_048_576;

@@ -15,8 +15,8 @@ use Rattle.lr_host.proofs.Made.{made_journal}
 use Rattle.lr_laws.proofs.Disk.{leaves_now}
 use Rattle.lr_laws.proofs.Single.{single}
 use Rattle.lr_copy.specs.declared.job.Job.{Job}
-use Rattle.lr_copied.specs.Whole.{Named, IsCopyWhole}
-use Rattle.lr_durable.proofs.Lists.{prefix_on, made_prefix}
+use Rattle.lr_laws_family.specs.Whole.{Named, IsCopyWhole}
+use Rattle.lr_laws.proofs.Lists.{prefix_on, made_prefix}
 use Rattle.lr_laws_family.specs.Beside.{IsOn, IsNeverAt}
 use Rattle.lr_laws_family.specs.Made.{IsJobOf, IsFar}
 use Rattle.lr_laws_family.specs.Moments.{fed}

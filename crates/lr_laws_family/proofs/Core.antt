@@ -27,7 +27,7 @@ use Rattle.lr_family.specs.Parts.{IsMember}
 use Rattle.lr_family.specs.Places.{IsPlaceOf, AreNamed}
 use Rattle.lr_chain.specs.declared.ready.Move.{Move}
 use Rattle.lr_chain.specs.Ready.{move_step}
-use Rattle.lr_durable.proofs.Lists.{Middle, middle}
+use Rattle.lr_laws.proofs.Lists.{Middle, middle}
 use Rattle.lr_laws_family.specs.Beside.{IsOn, IsBeside, IsNeverAt}
 use Rattle.lr_laws_family.specs.Made.{IsFar, IsBetween}
 use Rattle.lr_laws_family.specs.Members.{IsNoMember, IsNewestOf, AreThere}

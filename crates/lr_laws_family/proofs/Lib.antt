@@ -4,16 +4,22 @@ pub mod BehindLooks
 pub mod Bringing
 pub mod Changes
 pub mod Copied
+pub mod CopiesExamples
 pub mod Copy
 pub mod Copying
 pub mod Core
+pub mod Cutting
 pub mod DatedNames
 pub mod Dates
 pub mod Directory
 pub mod Drawn
 pub mod Ending
 pub mod Fed
+mod Filled
 pub mod Given
+mod Logs
+pub mod Moments
+pub mod Named
 pub mod Never
 pub mod Numbers
 pub mod OrMade

@@ -1,2 +1,15 @@
+pub mod AllTurns
+pub mod Apart
+pub mod BesideSets
 pub mod Calls
+pub mod DatedExample
+pub mod Logs
+pub mod OneLog
+pub mod Own
+pub mod Rotation
+pub mod Runs
+pub mod Seen
 pub mod Steps
+pub mod Target
+pub mod TargetCalls
+pub mod TwoLogs

@@ -1,7 +1,12 @@
-pub mod Signs
-pub mod Words
-pub mod Scanning
-pub mod Lines
+pub mod Holding
 pub mod Items
 pub mod Lexing
+pub mod Lines
+pub mod Moved
+pub mod Newlines
 pub mod Pieces
+pub mod Scanning
+pub mod Signs
+pub mod Streams
+pub mod Whole
+pub mod Words

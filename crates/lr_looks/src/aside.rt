@@ -9,8 +9,7 @@ ghost use Rattle.lr_looks.specs.Families.{ShowsAside, ShowsNoAside};
 
 use lr_family::{Family, StandStop};
 use lr_host::{CallFault, Host, Seen};
-use lr_naming::aside_path;
-use lr_rules::{CallKind, Path};
+use lr_rules::{CallKind, Path, aside_path};
 use std::alloc::Global;
 
 // What stands at the path.

@@ -5,8 +5,7 @@ ghost use Rattle.lr_rules.specs.Path.{path_fault, last_of};
 ghost use Rattle.lr_looks.specs.Asked.{CanAsk};
 
 use lr_family::Family;
-use lr_naming::naming_of;
-use lr_rules::{Memory, Path, Rule};
+use lr_rules::{Memory, Path, Rule, naming_of};
 use std::alloc::Global;
 
 /// The family of a log, as its rule names the members.

@@ -19,8 +19,8 @@ use Rattle.lr_copy.specs.declared.job.CopyStop.{CopyStop}
 use Rattle.lr_copy.specs.Copying.{Copied}
 use Rattle.lr_copy.specs.Fits.{ArePaths, CanCopy}
 use Rattle.lr_copy.specs.Stops.{CopyStopped}
-use Rattle.lr_durable.proofs.Lists.{made_prefix, prefix_on}
-use Rattle.lr_copied.specs.Whole.{Named}
+use Rattle.lr_laws.proofs.Lists.{made_prefix, prefix_on}
+use Rattle.lr_laws_family.specs.Whole.{Named}
 use Rattle.lr_move.specs.Finishing.{Finished, IsLastStop, FinishStopped, at_copy, at_last}
 use Rattle.lr_move.specs.Waiting.{StaysWaiting, KeepsWaiting}
 use Rattle.lr_move.proofs.LettingGo.{EndsThere}

@@ -15,8 +15,8 @@ use Rattle.lr_host.specs.Safe.{IsPrefix, whole as all_of, shorter}
 use Rattle.lr_host.specs.Sets.{LogSet}
 use Rattle.lr_host.specs.World.{Past, ◌▸◌, world, names}
 use Rattle.lr_laws.specs.Chain.{log, first, worked_file}
-use Rattle.lr_copied.specs.Whole.{Has}
-use Rattle.lr_durable.proofs.Parts.{named_drawn}
+use Rattle.lr_laws_family.specs.Whole.{Has}
+use Rattle.lr_laws.proofs.Parts.{named_drawn}
 use Rattle.lr_move.specs.Moved.{IsLetGo, LetsGoWhole}
 use Rattle.lr_move.specs.Worked.{tmp, part, waiting, start, filled, bytes_pending, before_file_sync, name_pending, before_dir_sync}
 

@@ -17,11 +17,11 @@ use Rattle.lr_host.proofs.Made.{made_on, made_journal}
 use Rattle.lr_host.proofs.Quiet.{since_before}
 use Rattle.lr_copy.specs.declared.job.Job.{Job}
 use Rattle.lr_copy.specs.Fits.{ArePaths}
-use Rattle.lr_durable.proofs.Lists.{IsOnWay, on_way, each_last}
-use Rattle.lr_durable.proofs.Parts.{named_once}
-use Rattle.lr_copied.specs.Whole.{Named, WritersSpareCopy, IsCopyWhole}
-use Rattle.lr_copied.proofs.Moments.{IsLast, is_last}
-use Rattle.lr_copied.proofs.Named.{whole}
+use Rattle.lr_laws.proofs.Lists.{IsOnWay, on_way, each_last}
+use Rattle.lr_laws.proofs.Parts.{named_once}
+use Rattle.lr_laws_family.specs.Whole.{Named, WritersSpareCopy, IsCopyWhole}
+use Rattle.lr_laws_family.proofs.Moments.{IsLast, is_last}
+use Rattle.lr_laws_family.proofs.Named.{whole}
 use Rattle.lr_move.specs.Moved.{IsLetGo, LetsGoWhole, CopiesAside, LetsGo}
 use Rattle.lr_move.proofs.Sparing.{Spares, spared_named}
 

@@ -17,9 +17,9 @@ use Rattle.lr_copy.specs.Copying.{Copies, clearing, opening, Fills, naming, Copi
 use Rattle.lr_copy.specs.Fits.{ArePaths}
 use Rattle.lr_copy.specs.Stops.{OpenStopped, FillStopped, NameStopped, CutStopped, CloseStopped, at_name, at_cut, CopyStopped, at_open, at_fill, at_close}
 use Rattle.lr_copy.proofs.EachOfBytes.{each_both, each_are, each_all, each_broke}
-use Rattle.lr_copied.specs.Whole.{Named}
-use Rattle.lr_durable.specs.StateWhole.{renamed_paths}
-use Rattle.lr_durable.proofs.Files.{LeavesFile}
+use Rattle.lr_laws_family.specs.Whole.{Named}
+use Rattle.lr_laws.specs.StateWhole.{renamed_paths}
+use Rattle.lr_laws.proofs.Files.{LeavesFile}
 
 -- the entry takes no file from the path, gives it none, and writes to none there
 abbrev pub Spares : Path → Entry → Type 0

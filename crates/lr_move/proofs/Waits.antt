@@ -12,9 +12,9 @@ use Rattle.lr_host.proofs.Looked.{nothing_no_file}
 use Rattle.lr_host.proofs.Made.{made_journal}
 use Rattle.lr_host.proofs.More.{wrote_names}
 use Rattle.lr_laws.proofs.Counting.{IsWritten, whole_on}
-use Rattle.lr_durable.proofs.Files.{LeavesFile}
-use Rattle.lr_durable.proofs.Parts.{named_once}
-use Rattle.lr_durable.proofs.Walks.{tool_same}
+use Rattle.lr_laws.proofs.Files.{LeavesFile}
+use Rattle.lr_laws.proofs.Parts.{named_once}
+use Rattle.lr_laws.proofs.Walks.{tool_same}
 use Rattle.lr_move.proofs.Sparing.{Spares}
 
 -- ---- it has its path

@@ -8,7 +8,7 @@ use Rattle.lr_copy.specs.declared.job.Job.{Job}
 use Rattle.lr_copy.specs.declared.job.CopyStop.{CopyStop}
 use Rattle.lr_copy.specs.declared.job.CopyStop.TheVariants as stop
 use Rattle.lr_copy.specs.Stops.{CopyStopped}
-use Rattle.lr_copied.specs.Whole.{Named}
+use Rattle.lr_laws_family.specs.Whole.{Named}
 
 -- The log is copied, by so many bytes, and its copy gets its final path, durably; only then the path goes where it waited.
 abbrev pub Finished : Job → ℕ → List Entry → Type 0

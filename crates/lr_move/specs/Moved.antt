@@ -13,7 +13,7 @@ use Rattle.lr_host.specs.Steady.{IsSteadyBy}
 use Rattle.lr_host.specs.World.{Past, ◌▸◌, past}
 use Rattle.lr_family.specs.Parts.{IsMembersPart}
 use Rattle.lr_copy.specs.declared.job.Job.{Job}
-use Rattle.lr_copied.specs.Whole.{WritersSpareCopy, IsCopyWhole}
+use Rattle.lr_laws_family.specs.Whole.{WritersSpareCopy, IsCopyWhole}
 
 -- The log may be let go at this moment: a member names another file, which has, now and after each cut that is allowed now, just
 -- the bytes that the log's file had, where it waits, as it was last read there, by a read that gave nothing; what that has besides

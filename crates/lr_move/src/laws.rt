@@ -7,7 +7,7 @@ ghost use Rattle.lr_host.specs.Told.{Made};
 ghost use Rattle.lr_host.specs.World.{Past};
 ghost use Rattle.lr_copy.specs.declared.job.Job.{Job};
 ghost use Rattle.lr_copy.specs.Fits.{ArePaths};
-ghost use Rattle.lr_copied.specs.Whole.{Named, WritersSpareCopy};
+ghost use Rattle.lr_laws_family.specs.Whole.{Named, WritersSpareCopy};
 ghost use Rattle.lr_move.specs.Moved.{CopiesAside, IsLetGo};
 
 /// From the sync of the directory on, while the tool does nothing more, the log may be let go: a member names another file,

@@ -1,5 +1,11 @@
+mod Entries
 mod Fronts
+mod Generations
 mod JudgedLemmas
+mod Lists
 mod LogLemmas
+mod Marked
 mod MonthLemmas
+mod Paths
+mod Sets
 mod WordLemmas

@@ -13,7 +13,7 @@ use Rattle.lr_rules.specs.Names.{IsMemberAt, AreDigits}
 use Rattle.lr_rules.proofs.Digits.{decimal_run}
 use Rattle.lr_family.specs.Kin.{IsKin, is_barred}
 use Rattle.lr_family.specs.declared.family.Family.{Family}
-use Rattle.lr_tally.specs.Summary.{logs_of}
+use Rattle.lr_nights.specs.Summary.{logs_of}
 use Rattle.lr_nights.specs.Opening.{log_path, log_naming, named_log, named_logs_from}
 use Rattle.lr_nights.proofs.Fronts.{moved}
 

@@ -1,5 +1,9 @@
+pub mod Counting
 pub mod Draws
+pub mod Marks
 pub mod Month
 pub mod Opening
 pub mod Printed
+pub mod Summary
 pub mod Trial
+pub mod Walk

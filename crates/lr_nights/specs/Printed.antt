@@ -1,6 +1,6 @@
 -- What a trial prints.
 use Rattle.std.specs.Prelude.{ℕ, List, ◌++◌, codes, decimal}
-use Rattle.lr_tally.specs.declared.summary.Summary.{Summary}
+use Rattle.lr_nights.specs.declared.summary.Summary.{Summary}
 
 -- a name, a space and a number
 abbrev pub number_line : List ℕ → ℕ → List ℕ

@@ -2,8 +2,8 @@
 use Rattle.std.specs.Prelude.{ℕ, All}
 use Rattle.lr_host.specs.declared.journal.Journal.{Journal}
 use Rattle.lr_host.specs.World.{past}
-use Rattle.lr_tally.specs.declared.summary.Summary.{Summary}
-use Rattle.lr_tally.specs.Summary.{IsSummary}
+use Rattle.lr_nights.specs.declared.summary.Summary.{Summary}
+use Rattle.lr_nights.specs.Summary.{IsSummary}
 use Rattle.lr_nights.specs.Month.{drawn_nights, HasStartAt}
 use Rattle.lr_nights.specs.Opening.{named_logs_from}
 

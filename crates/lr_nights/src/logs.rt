@@ -1,7 +1,7 @@
 // The logs of a trial and the names of their members.
 ghost use Rattle.std.specs.Prelude.{◌≡◌, All, None, IfOk};
 ghost use Rattle.lr_nights.specs.Opening.{log_path, log_naming, named_logs_from};
-ghost use Rattle.lr_tally.specs.Summary.{logs_of};
+ghost use Rattle.lr_nights.specs.Summary.{logs_of};
 
 use crate::texts::{log_path, path_of};
 use lr_family::Family;

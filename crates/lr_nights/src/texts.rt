@@ -5,9 +5,9 @@ ghost use Rattle.lr_nights.specs.Printed.{number_line, summary_text};
 ghost use Rattle.lr_nights.specs.Opening.{log_path, definition, definitions_from, create_line, state_line, state_lines_from};
 
 use crate::draws::draw;
+use crate::summary::Summary;
 use itoa::Buffer;
 use lr_rules::{Memory, Path};
-use lr_tally::Summary;
 use std::alloc::Global;
 
 // Adds two pieces.

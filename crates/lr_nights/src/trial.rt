@@ -10,12 +10,13 @@ use crate::judging::{are_fed, has_starts};
 use crate::living::{Run, live};
 use crate::logs::families;
 use crate::month::{Night, draw_nights};
+use crate::summary::Summary;
+use crate::tallying::tally;
 use crate::texts::add_summary;
 use lr_host::{Journal, Sink};
 use lr_memhost::MemHost;
 use lr_report::put_one;
 use lr_rules::Memory;
-use lr_tally::{Summary, tally};
 use std::alloc::Global;
 
 /// Why a trial has no summary.

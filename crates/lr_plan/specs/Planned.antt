@@ -31,7 +31,7 @@ use Rattle.lr_family.specs.declared.stand.Stand.{Stand}
 use Rattle.lr_family.specs.Parts.{part_of}
 use Rattle.lr_family.specs.Places.{AreNamed}
 use Rattle.lr_family.specs.Stands.{AreNewestFirst}
-use Rattle.lr_commands.specs.Commands.{spaced, script, where_so, mail, with_programs}
+use Rattle.lr_scripts.specs.Commands.{spaced, script, where_so, mail, with_programs}
 use Rattle.lr_chain.specs.declared.ready.Ready.{Ready}
 use Rattle.lr_chain.specs.Hindrances.{what_hinders}
 use Rattle.lr_chain.specs.Prepared.{ready_of}

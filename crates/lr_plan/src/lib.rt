@@ -1,5 +1,5 @@
-//! The plan of a run, its steps, and what they leave: the words of the crates that make the plan (`lr_planning`), turn it into
-//! steps (`lr_steps`) and make these (`lr_acts`), as values and as definitions of contracts.
+//! The plan of a run, its steps, and what they leave: the words of the crates that make the plan and turn it into
+//! steps (`lr_planning`) and make these (`lr_acts`), as values and as definitions of contracts.
 //!
 //! Read `specs/Planned.antt` (the plan is a function of the rules, what was seen, the state and the clock), `Steps.antt` (its steps
 //! are one of the plan), `Asking.antt` (what they ask of the disk), `Outcomes.antt` (what one step leaves, made or failed),

@@ -1,3 +1,4 @@
+pub mod Adding
 mod Hindrances
 mod Making
 mod Short

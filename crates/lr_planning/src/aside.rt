@@ -5,9 +5,8 @@ ghost use Rattle.lr_rules.specs.Names.{aside_path};
 ghost use Rattle.lr_plan.specs.Planned.{is_file, takes_up, first_path, aside_by, aside_hinders};
 
 use lr_host::{Kind, Seen};
-use lr_naming::aside_path;
 use lr_plan::LogLook;
-use lr_rules::{Memory, Path, Rule, Way};
+use lr_rules::{Memory, Path, Rule, Way, aside_path};
 use std::alloc::Global;
 
 /// Whether a file was seen.

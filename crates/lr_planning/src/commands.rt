@@ -1,10 +1,9 @@
 // The scripts of a plan, all of which are made before the first of them is run.
 ghost use Rattle.std.specs.Prelude.{◌≡◌, ◌∷◌, [], not, true, IfOk};
-ghost use Rattle.lr_commands.specs.Commands.{script, where_so};
+ghost use Rattle.lr_scripts.specs.Commands.{script, where_so};
 
-use lr_commands::{script_on, script_on_both};
 use lr_rules::{Memory, Path, Rule};
-use lr_scripts::Command;
+use lr_scripts::{Command, script_on, script_on_both};
 use std::alloc::Global;
 
 /// The prerotate and the postrotate of a log that goes to this path, where its definition doesn't share them.

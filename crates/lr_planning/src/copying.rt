@@ -7,9 +7,8 @@ ghost use Rattle.lr_plan.specs.Planned.{has_part, copy_job, from_path, job_by, w
 use crate::aside::is_file;
 use lr_copy::{Job, part_path};
 use lr_family::Stand;
-use lr_naming::aside_path;
 use lr_plan::LogLook;
-use lr_rules::{Memory, Path, Rule, Way};
+use lr_rules::{Memory, Path, Rule, Way, aside_path};
 use std::alloc::Global;
 
 // How many bytes are copied of a log at most.

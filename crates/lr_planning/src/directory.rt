@@ -3,9 +3,8 @@ ghost use Rattle.std.specs.Prelude.{◌≡◌, IfOk};
 ghost use Rattle.lr_plan.specs.Planned.{dir_is_log, makes_dir, dir_of, empty_stand};
 
 use lr_family::Stand;
-use lr_naming::is_aside_path;
 use lr_plan::LogLook;
-use lr_rules::{Listed, Make, Memory, Naming, Path, Rule};
+use lr_rules::{Listed, Make, Memory, Naming, Path, Rule, is_aside_path};
 use std::alloc::Global;
 
 // Whether the family's directory has the log's path, or that where the log waits that is set aside.

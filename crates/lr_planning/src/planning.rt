@@ -10,7 +10,7 @@ ghost use Rattle.lr_plan.specs.Planned.{with_stand, with_log, first_path, aside_
 ghost use Rattle.lr_plan.specs.Planned.{none_hinders, due_faults};
 ghost use Rattle.lr_plan.specs.Planned.{standing, dressed, job_by, plan_with, CanPlan, CanPlanSet, CanPlanAll};
 ghost use Rattle.lr_chain.specs.Ready.{IsCount, with_dir};
-ghost use Rattle.lr_commands.specs.Commands.{spaced, script, where_so, mail};
+ghost use Rattle.lr_scripts.specs.Commands.{spaced, script, where_so, mail};
 ghost use Rattle.lr_chain.specs.Hindrances.{what_hinders, IsHindered};
 ghost use Rattle.lr_chain.specs.Prepared.{ready_of};
 
@@ -19,15 +19,15 @@ use crate::commands::{outer_scripts, own_scripts, shared_scripts};
 use crate::copying::job_of;
 use crate::directory::{empty_stand, made_dir, makes_dir};
 use lr_chain::{PrepareStop, Ready, prepare};
-use lr_commands::{mail_of, spaced, with_programs};
 use lr_copy::Job;
 use lr_due::{Due, due};
 use lr_family::Stand;
 use lr_host::Seen;
-use lr_naming::aside_path;
 use lr_plan::{LogLook, LogPlan, Looks, Plan, SetLooks, SetPlan};
-use lr_rules::{Clock, Fault, Listed, Make, Memory, Moment, Naming, Path, Rule, Rules, Settings};
-use lr_scripts::Command;
+use lr_rules::{
+    Clock, Fault, Listed, Make, Memory, Moment, Naming, Path, Rule, Rules, Settings, aside_path,
+};
+use lr_scripts::{Command, mail_of, spaced, with_programs};
 use lr_state::State;
 use std::alloc::Global;
 

@@ -9,7 +9,7 @@ use lr_family::{Family, are_kin};
 use lr_rows_line::{Trouble, small};
 use lr_rows_read::Cursor;
 use lr_rules::{Back, Format, Naming};
-use lr_values::format;
+use lr_words::format;
 
 fn stamp(cursor: &mut Cursor, word: &[u8]) -> Result<Format, Trouble>
     ensures { IfOk result (λ stamp. is_format stamp ≡ true) }

@@ -3,7 +3,7 @@ use crate::answers::Answer;
 use lr_rows_line::Trouble;
 use lr_rows_read::Cursor;
 use lr_rules::ConfKind;
-use lr_values::{first_mode, mode, names_owner};
+use lr_words::{first_mode, mode, names_owner};
 
 // The mode, in decimal, and whether another word stands.
 fn put_made(said: Result<Option<u32>, ConfKind>, words: usize, out: &mut Answer) {

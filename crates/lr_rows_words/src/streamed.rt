@@ -1,11 +1,11 @@
 // Items and faults of texts that come in pieces.
 ghost use Rattle.std.specs.Prelude.{◌≡◌, ◌<◌, ◌≤◌, ◌+◌, ◌^◌, false, length};
-ghost use Rattle.lr_stream.specs.Streams.{StreamStands, given};
+ghost use Rattle.lr_lex.specs.Streams.{StreamStands, given};
 
 use crate::answers::Answer;
 use crate::lex::put_told;
+use lr_lex::Stream;
 use lr_rows_line::Trouble;
-use lr_stream::Stream;
 use std::alloc::Global;
 
 // What is whole so far, 64 items and faults at most.

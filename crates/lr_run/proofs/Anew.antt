@@ -28,20 +28,20 @@ use Rattle.lr_plan.specs.Steps.{steps_of_set, steps_of_plan}
 use Rattle.lr_acts.specs.Making.{all_of_sets}
 use Rattle.lr_acts.specs.Named.{PathIsNamed, OneCreates, LastsBehind, IsCreated, TellCreated, KeepsNames}
 use Rattle.lr_looks.specs.Shown.{ShowsLooks, LooksAtAll}
-use Rattle.lr_laws_targets.proofs.LogSeen.{log_among}
-use Rattle.lr_reading.specs.declared.remembered.Remembered.{Remembered}
+use Rattle.lr_laws_rotations.proofs.LogSeen.{log_among}
+use Rattle.lr_state.specs.declared.remembered.Remembered.{Remembered}
 use Rattle.lr_looks.specs.Reserved.{reserved_by}
-use Rattle.lr_seen.specs.Free.{IsFreeOf}
-use Rattle.lr_seen.specs.Targets.{groups_of, all_targets}
-use Rattle.lr_seen.proofs.Apart.{targets_dont_meet}
-use Rattle.lr_seen.proofs.Elements.{in_each}
-use Rattle.lr_seen.proofs.Free.{targets_free}
-use Rattle.lr_seen.proofs.Ready.{plans_have_logs}
-use Rattle.lr_seen.proofs.Seen.{targets_seen}
+use Rattle.lr_laws_looks.specs.Free.{IsFreeOf}
+use Rattle.lr_laws_looks.specs.Targets.{groups_of, all_targets}
+use Rattle.lr_laws_looks.proofs.Apart.{targets_dont_meet}
+use Rattle.lr_laws_looks.proofs.Elements.{in_each}
+use Rattle.lr_laws_looks.proofs.Free.{targets_free}
+use Rattle.lr_laws_looks.proofs.Ready.{plans_have_logs}
+use Rattle.lr_laws_looks.proofs.Seen.{targets_seen}
 use Rattle.lr_state.specs.Written.{text_of}
-use Rattle.lr_laws_targets.specs.Target.{Target}
-use Rattle.lr_weave.specs.Planned.{AreReadyFor}
-use Rattle.lr_record.specs.After.{after}
+use Rattle.lr_laws_rotations.specs.Target.{Target}
+use Rattle.lr_laws_acts.specs.Planned.{AreReadyFor}
+use Rattle.lr_state.specs.After.{after}
 use Rattle.lr_run.specs.Internal.{plan_for, steps_of_writing}
 use Rattle.lr_run.specs.Work.{Acts}
 use Rattle.lr_run.proofs.Keeping.{writing_keeps}

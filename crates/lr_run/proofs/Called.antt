@@ -28,8 +28,8 @@ use Rattle.lr_plan.specs.Planned.{plan_of}
 use Rattle.lr_plan.specs.Steps.{steps_of_plan}
 use Rattle.lr_host.proofs.Counts.{calls_on, scripts_on}
 use Rattle.lr_acts.specs.Making.{all_of_sets}
-use Rattle.lr_synced.specs.Synced.{all_to_make_of}
-use Rattle.lr_synced.proofs.Telling.{MakesAmong, EachAmong, plan_among}
+use Rattle.lr_writing.specs.Synced.{all_to_make_of}
+use Rattle.lr_writing.proofs.Telling.{MakesAmong, EachAmong, plan_among}
 use Rattle.lr_run.specs.Copied.{IsOfCopy, NoneOfCopy}
 use Rattle.lr_run.specs.Met.{IsNoOther, MetNothing}
 use Rattle.lr_run.specs.Runs.{Worked, plan_in, dirs_in}

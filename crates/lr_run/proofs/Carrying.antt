@@ -27,7 +27,7 @@ use Rattle.lr_acts.specs.declared.progress.Progress.{Progress}
 use Rattle.lr_acts.specs.Adding.{AddsSteps}
 use Rattle.lr_acts.specs.Making.{all_of_sets}
 use Rattle.lr_acts.proofs.Taking.{taken_on}
-use Rattle.lr_record.specs.After.{is_among, stamped}
+use Rattle.lr_state.specs.After.{is_among, stamped}
 use Rattle.lr_writing.specs.Writes.{AddsCourse}
 use Rattle.lr_run.specs.declared.ready.Ready.{Ready}
 use Rattle.lr_run.specs.Internal.{AreBehind, CanWrite, ActsAndWrites, SomeActs, writing_steps}

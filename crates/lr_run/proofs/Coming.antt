@@ -29,14 +29,14 @@ use Rattle.lr_acts.specs.Making.{all_of_sets}
 use Rattle.lr_acts.specs.Taken.{SparesPath}
 use Rattle.lr_acts.proofs.Taking.{taken_later, taken_before}
 use Rattle.lr_looks.specs.Shown.{LooksAtAll}
-use Rattle.lr_reading.specs.declared.remembered.Remembered.{Remembered}
-use Rattle.lr_reading.specs.Answers.{ReadsState, TextSaysOnly}
-use Rattle.lr_record.specs.After.{after}
-use Rattle.lr_record.specs.Measured.{measured_text}
+use Rattle.lr_state.specs.declared.remembered.Remembered.{Remembered}
+use Rattle.lr_state.specs.Known.{ReadsState, TextSaysOnly}
+use Rattle.lr_state.specs.After.{after}
+use Rattle.lr_state.specs.Measured.{measured_text}
 use Rattle.lr_state.specs.Table.{Entry as Row}
 use Rattle.lr_state.specs.Written.{text_of}
 use Rattle.lr_looks.specs.Reserved.{reserved_by}
-use Rattle.lr_synced.specs.Synced.{AreSynced}
+use Rattle.lr_writing.specs.Synced.{AreSynced}
 use Rattle.lr_run.specs.Internal.{plan_for, steps_of_writing, ActsBy, outgrew, acted, Carries, CameTo, WorksTo, SeesTooBig, LooksAndActs, saw_too_big, came_to, IsKnownBefore, KnowsText, WorksOn, knows_none, knows, EndsWork, Begun, Goes, begun}
 use Rattle.lr_run.specs.Ran.{TellsNames, TellsNamesOf}
 use Rattle.lr_run.specs.Runs.{logs_in}

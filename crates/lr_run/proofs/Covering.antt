@@ -17,22 +17,22 @@ use Rattle.lr_host.specs.Steps.{is_change}
 use Rattle.lr_host.specs.Told.{Each, IsTools}
 use Rattle.lr_host.proofs.Quiet.{no_disk_change}
 use Rattle.lr_laws.specs.Follow.{changed_paths}
-use Rattle.lr_durable.specs.Renewing.{LeavesAlone, IsWithinDirs}
-use Rattle.lr_durable.specs.StateWhole.{renamed_paths}
+use Rattle.lr_laws.specs.Renewing.{LeavesAlone, IsWithinDirs}
+use Rattle.lr_laws.specs.StateWhole.{renamed_paths}
 use Rattle.lr_family.specs.declared.stand.Member.{Member}
 use Rattle.lr_chain.specs.declared.ready.Ready.{Ready}
 use Rattle.lr_chain.specs.Prepared.{ready_by, ready_of}
-use Rattle.lr_laws_targets.specs.AllTurns.{IsItsDir, IsOf, IsOfSome}
-use Rattle.lr_laws_targets.specs.Apart.{HasNames, TargetsHaveNames}
-use Rattle.lr_laws_targets.specs.Own.{MakesItsDir, IsOfFamily}
-use Rattle.lr_laws_targets.specs.Seen.{IsLogSeen}
-use Rattle.lr_laws_targets.specs.Target.{Target, IsReadyBy}
-use Rattle.lr_laws_targets.proofs.LogSeen.{any_names}
-use Rattle.lr_laws_targets.proofs.Waiting.{parent_same}
-use Rattle.lr_laws_targets.proofs.Own.{target_member, family_change, any_change}
-use Rattle.lr_laws_targets.proofs.PartFile.{member_parent, part_parent}
+use Rattle.lr_laws_rotations.specs.AllTurns.{IsItsDir, IsOf, IsOfSome}
+use Rattle.lr_laws_rotations.specs.Apart.{HasNames, TargetsHaveNames}
+use Rattle.lr_laws_rotations.specs.Own.{MakesItsDir, IsOfFamily}
+use Rattle.lr_laws_rotations.specs.Seen.{IsLogSeen}
+use Rattle.lr_laws_rotations.specs.Target.{Target, IsReadyBy}
+use Rattle.lr_laws_rotations.proofs.LogSeen.{any_names}
+use Rattle.lr_laws_rotations.proofs.Waiting.{parent_same}
+use Rattle.lr_laws_rotations.proofs.Own.{target_member, family_change, any_change}
+use Rattle.lr_laws_rotations.proofs.PartFile.{member_parent, part_parent}
 use Rattle.lr_looks.specs.Reserved.{reserved_by}
-use Rattle.lr_seen.specs.Free.{AreFreeOf}
+use Rattle.lr_laws_looks.specs.Free.{AreFreeOf}
 
 -- ---- entries that change nothing
 

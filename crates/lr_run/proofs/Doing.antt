@@ -27,8 +27,8 @@ use Rattle.lr_acts.specs.declared.progress.Progress.{Progress}
 use Rattle.lr_acts.specs.Making.{all_of_sets}
 use Rattle.lr_acts.specs.Named.{KeepsNames}
 use Rattle.lr_acts.specs.Taken.{TakenOnly}
-use Rattle.lr_reading.specs.declared.remembered.Remembered.{Remembered}
-use Rattle.lr_record.proofs.After.{stamps}
+use Rattle.lr_state.specs.declared.remembered.Remembered.{Remembered}
+use Rattle.lr_state.proofs.After.{stamps}
 use Rattle.lr_writing.specs.Target.{StateTarget}
 use Rattle.lr_run.specs.declared.ready.Ready.{Ready}
 use Rattle.lr_run.specs.Internal.{ReadyFor, SeenBefore, ActsAndWrites, writing_steps, plan_for, measured_for, steps_of_writing, ActsBy, outgrew, acted, Carries}

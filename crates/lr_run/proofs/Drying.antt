@@ -16,9 +16,9 @@ use Rattle.lr_host.specs.Told.{Each}
 use Rattle.lr_state.specs.Table.{Entry as Row}
 use Rattle.lr_plan.specs.Asked.{Asked}
 use Rattle.lr_plan.specs.declared.plan.Plan.{Plan}
-use Rattle.lr_emptied.specs.Emptied.{EmptiesCopied}
-use Rattle.lr_emptied.proofs.Entries.{quiet_empties}
-use Rattle.lr_seen.proofs.Quiet.{whole_looking, part_looking}
+use Rattle.lr_laws_acts.specs.Emptied.{EmptiesCopied}
+use Rattle.lr_laws_acts.proofs.Entries.{quiet_empties}
+use Rattle.lr_laws_looks.proofs.Quiet.{whole_looking, part_looking}
 use Rattle.lr_run.specs.declared.answer.RunStop.TheVariants as stop
 use Rattle.lr_run.specs.Answers.{RunLeaves, Lacks}
 use Rattle.lr_run.specs.Copied.{IsCopyBy}

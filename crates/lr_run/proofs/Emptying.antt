@@ -21,7 +21,7 @@ use Rattle.lr_host.specs.Quiet.{AreQuiet}
 use Rattle.lr_host.specs.Told.{Left, not_told, is_told}
 use Rattle.lr_host.specs.World.{past}
 use Rattle.lr_host.proofs.Lists.{in_append, in_front, in_back, in_to}
-use Rattle.lr_reading.proofs.Quiet.{state_quiet}
+use Rattle.lr_state.proofs.Quiet.{state_quiet}
 use Rattle.lr_kept.specs.declared.choice.Choice.TheVariants.{Kept}
 use Rattle.lr_kept.proofs.Elements.{same_read}
 use Rattle.lr_due.specs.declared.answer.Due.{Due}
@@ -34,29 +34,29 @@ use Rattle.lr_plan.specs.declared.plan.Plan.{Plan}
 use Rattle.lr_plan.specs.declared.plan.SetPlan.{SetPlan}
 use Rattle.lr_plan.specs.Planned.{standing, job_by, decision, all_plans}
 use Rattle.lr_plan.specs.Steps.{steps_of_plan}
-use Rattle.lr_emptied.specs.Emptied.{IsJobIn, EmptiesCopied, EmptiesWhole}
-use Rattle.lr_emptied.specs.Jobs.{job_in, jobs_in, jobs_of}
-use Rattle.lr_emptied.proofs.Acts.{sets_copying, sets_cut_copying, state_copying}
-use Rattle.lr_emptied.proofs.Entries.{none_empties, quiet_empties, both_empty, same_empties}
-use Rattle.lr_emptied.proofs.Jobs.{cut_way}
-use Rattle.lr_emptied.proofs.Steps.{plan_copied}
-use Rattle.lr_emptied.proofs.Whole.{empties_whole}
+use Rattle.lr_laws_acts.specs.Emptied.{IsJobIn, EmptiesCopied, EmptiesWhole}
+use Rattle.lr_laws_acts.specs.Jobs.{job_in, jobs_in, jobs_of}
+use Rattle.lr_laws_acts.proofs.Acts.{sets_copying, sets_cut_copying, state_copying}
+use Rattle.lr_laws_acts.proofs.Entries.{none_empties, quiet_empties, both_empty, same_empties}
+use Rattle.lr_laws_acts.proofs.Jobs.{cut_way}
+use Rattle.lr_laws_acts.proofs.Steps.{plan_copied}
+use Rattle.lr_laws_acts.proofs.CopiesWhole.{empties_whole}
 use Rattle.lr_looks.specs.Families.{LookedLog}
 use Rattle.lr_looks.specs.Choices.{kept_of}
 use Rattle.lr_looks.specs.Sets.{looked_in}
 use Rattle.lr_looks.specs.Shown.{ShowsLooks}
-use Rattle.lr_laws_targets.specs.Target.{Target, IsJob, HasWay, source_by, source_of}
-use Rattle.lr_laws_targets.specs.Seen.{IsLogSeen, AreLogsSeen}
-use Rattle.lr_laws_targets.proofs.CallsFit.{log_paths}
-use Rattle.lr_laws_targets.proofs.LogSeen.{any_names}
-use Rattle.lr_weave.specs.Planned.{AreReadyFor, HaveLogs}
-use Rattle.lr_seen.specs.Targets.{groups_of, all_targets}
-use Rattle.lr_seen.proofs.Apart.{kept_at}
-use Rattle.lr_seen.proofs.Coming.{Comes, comes_from, was_looked, IsFrom, came_from}
-use Rattle.lr_seen.proofs.Elements.{in_list}
-use Rattle.lr_seen.proofs.Gives.{gives_kept}
-use Rattle.lr_seen.proofs.Ready.{plans_have_logs}
-use Rattle.lr_seen.proofs.Seen.{targets_seen}
+use Rattle.lr_laws_rotations.specs.Target.{Target, IsJob, HasWay, source_by, source_of}
+use Rattle.lr_laws_rotations.specs.Seen.{IsLogSeen, AreLogsSeen}
+use Rattle.lr_laws_rotations.proofs.CallsFit.{log_paths}
+use Rattle.lr_laws_rotations.proofs.LogSeen.{any_names}
+use Rattle.lr_laws_acts.specs.Planned.{AreReadyFor, HaveLogs}
+use Rattle.lr_laws_looks.specs.Targets.{groups_of, all_targets}
+use Rattle.lr_laws_looks.proofs.Apart.{kept_at}
+use Rattle.lr_laws_looks.proofs.Coming.{Comes, comes_from, was_looked, IsFrom, came_from}
+use Rattle.lr_laws_looks.proofs.Elements.{in_list}
+use Rattle.lr_laws_looks.proofs.Gives.{gives_kept}
+use Rattle.lr_laws_looks.proofs.Ready.{plans_have_logs}
+use Rattle.lr_laws_looks.proofs.Seen.{targets_seen}
 use Rattle.lr_run.specs.declared.answer.Ran.{Ran}
 use Rattle.lr_run.specs.declared.answer.RunStop.{RunStop}
 use Rattle.lr_run.specs.declared.answer.RunStop.TheVariants as stop

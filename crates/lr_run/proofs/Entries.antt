@@ -12,7 +12,7 @@ use Rattle.lr_host.proofs.Each.{each_append, each_as}
 use Rattle.lr_plan.specs.Asked.{Asked}
 use Rattle.lr_plan.specs.declared.plan.Plan.{Plan}
 use Rattle.lr_plan.specs.Steps.{steps_of_plan}
-use Rattle.lr_reading.specs.Sights.{StateSights, ShowsState}
+use Rattle.lr_state.specs.Sights.{StateSights, ShowsState}
 use Rattle.lr_run.specs.Internal.{SomeWork, some_seen, some_done}
 use Rattle.lr_run.specs.Runs.{Looked, plan_in, Worked, Works, not_known, too_big, worked, SomeSeen, BrokeOff}
 use Rattle.lr_run.proofs.Shape.{looked_parts, in_parts}

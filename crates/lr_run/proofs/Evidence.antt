@@ -24,10 +24,10 @@ use Rattle.lr_plan.specs.Done.{SetsDone, rotated_logs}
 use Rattle.lr_plan.specs.Steps.{steps_of_plan, state_steps}
 use Rattle.lr_acts.specs.Making.{HasProgram, all_of_sets}
 use Rattle.lr_looks.specs.Found.{FoundLog, paths_of}
-use Rattle.lr_reading.specs.Answers.{TextSaysOnly}
-use Rattle.lr_record.specs.After.{after}
-use Rattle.lr_record.specs.Measured.{measured_text}
-use Rattle.lr_synced.specs.Synced.{AreSynced}
+use Rattle.lr_state.specs.Known.{TextSaysOnly}
+use Rattle.lr_state.specs.After.{after}
+use Rattle.lr_state.specs.Measured.{measured_text}
+use Rattle.lr_writing.specs.Synced.{AreSynced}
 use Rattle.lr_run.specs.declared.answer.Ran.{Ran}
 use Rattle.lr_run.specs.declared.answer.RunStop.{RunStop}
 use Rattle.lr_run.specs.declared.answer.RunStop.TheVariants as stop

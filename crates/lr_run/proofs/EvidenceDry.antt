@@ -8,7 +8,7 @@ use Rattle.lr_host.specs.declared.entry.Entry.{Entry}
 use Rattle.lr_state.specs.Table.{Entry as Row}
 use Rattle.lr_plan.specs.Asked.{Asked}
 use Rattle.lr_plan.specs.declared.plan.Plan.{Plan}
-use Rattle.lr_reading.specs.Answers.{TextSaysOnly}
+use Rattle.lr_state.specs.Known.{TextSaysOnly}
 use Rattle.lr_looks.specs.Found.{FoundLog, paths_of}
 use Rattle.lr_run.specs.Dry as old
 use Rattle.lr_run.specs.Dry.{PlanFollows, Plans, Tries}

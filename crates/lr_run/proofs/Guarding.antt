@@ -15,8 +15,8 @@ use Rattle.lr_host.specs.Steps.{is_change}
 use Rattle.lr_host.specs.Told.{Each}
 use Rattle.lr_host.proofs.Each.{each_as}
 use Rattle.lr_host.proofs.Lists.{in_append, in_front, in_back}
-use Rattle.lr_durable.specs.Renewing.{IsWithinDirs}
-use Rattle.lr_durable.specs.StateWhole.{renamed_paths}
+use Rattle.lr_laws.specs.Renewing.{IsWithinDirs}
+use Rattle.lr_laws.specs.StateWhole.{renamed_paths}
 use Rattle.lr_chain.specs.declared.ready.Ready.{Ready}
 use Rattle.lr_plan.specs.declared.mark.Mark.{Mark}
 use Rattle.lr_plan.specs.declared.mark.Mark.TheVariants as mark
@@ -24,18 +24,18 @@ use Rattle.lr_plan.specs.declared.plan.LogPlan.{LogPlan}
 use Rattle.lr_plan.specs.declared.plan.SetPlan.{SetPlan}
 use Rattle.lr_plan.specs.Done.{SetsDone}
 use Rattle.lr_plan.specs.Steps.{steps_of_set}
-use Rattle.lr_laws_targets.specs.AllTurns.{IsItsDir, IsOf}
-use Rattle.lr_laws_targets.specs.Target.{Target, IsDirSeenBy}
-use Rattle.lr_laws_targets.specs.Seen.{IsLogSeen, AreLogsSeen}
-use Rattle.lr_laws_targets.proofs.LogSeen.{log_among}
-use Rattle.lr_weave.proofs.Allowed.{HasAll, Allowed, AllowsMore, AllowsLog}
-use Rattle.lr_weave.specs.Planned.{IsReadyFor, AreReadyFor, HaveLogs}
-use Rattle.lr_weave.proofs.Guarding.{acts_guarded}
-use Rattle.lr_weave.proofs.Planning.{dir_is}
-use Rattle.lr_synced.specs.Synced.{changed_of, all_changed_of, made_of, to_make_of, all_to_make_of, made_in, is_unmade, AreSynced}
-use Rattle.lr_synced.proofs.Laws.{IsTouched, mark_made, made_mark, unmade_is, made_isnt, other_isnt, has_parent}
-use Rattle.lr_placed.proofs.Lasting.{Says}
-use Rattle.lr_placed.proofs.Listed.{says_seen, says_own, was_missing, says_parent}
+use Rattle.lr_laws_rotations.specs.AllTurns.{IsItsDir, IsOf}
+use Rattle.lr_laws_rotations.specs.Target.{Target, IsDirSeenBy}
+use Rattle.lr_laws_rotations.specs.Seen.{IsLogSeen, AreLogsSeen}
+use Rattle.lr_laws_rotations.proofs.LogSeen.{log_among}
+use Rattle.lr_laws_acts.proofs.Allowed.{HasAll, Allowed, AllowsMore, AllowsLog}
+use Rattle.lr_laws_acts.specs.Planned.{IsReadyFor, AreReadyFor, HaveLogs}
+use Rattle.lr_laws_acts.proofs.Guarding.{acts_guarded}
+use Rattle.lr_laws_acts.proofs.Planning.{dir_is}
+use Rattle.lr_writing.specs.Synced.{changed_of, all_changed_of, made_of, to_make_of, all_to_make_of, made_in, is_unmade, AreSynced}
+use Rattle.lr_writing.proofs.SyncedLaws.{IsTouched, mark_made, made_mark, unmade_is, made_isnt, other_isnt, has_parent}
+use Rattle.lr_laws_looks.proofs.Lasting.{Says}
+use Rattle.lr_laws_looks.proofs.PlacedListed.{says_seen, says_own, was_missing, says_parent}
 use Rattle.lr_run.proofs.Covering.{IsPlaced, log_placed}
 use Rattle.lr_run.proofs.Made.{DontClash}
 

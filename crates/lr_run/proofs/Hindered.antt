@@ -44,7 +44,7 @@ use Rattle.lr_plan.specs.declared.mark.Mark.{Mark}
 use Rattle.lr_plan.specs.Course.{Course}
 use Rattle.lr_plan.specs.Done.{SetsDone}
 use Rattle.lr_plan.specs.Planned.{is_made, dir_is_log, makes_dir, empty_stand, stand_for, due_faults, where_due, log_faults, all_faults, all_plans}
-use Rattle.lr_seen.proofs.Hindrances.{faults_so, free_of_members}
+use Rattle.lr_laws_looks.proofs.Hindrances.{faults_so, free_of_members}
 use Rattle.lr_plan.specs.Steps.{steps_of_set, state_steps}
 use Rattle.lr_acts.specs.Named.{PathIsNamed}
 use Rattle.lr_acts.specs.Taken.{SparesPath, WasTaken}
@@ -54,24 +54,24 @@ use Rattle.lr_looks.specs.Families.{LookedLog, looked_at, looked_of}
 use Rattle.lr_looks.specs.Found.{FoundLog}
 use Rattle.lr_looks.specs.Sets.{looked_in}
 use Rattle.lr_looks.specs.Shown.{ShowsLooks}
-use Rattle.lr_laws_targets.specs.AllTurns.{IsOf, IsOfSome, IsOfState}
-use Rattle.lr_laws_targets.specs.Target.{Target}
+use Rattle.lr_laws_rotations.specs.AllTurns.{IsOf, IsOfSome, IsOfState}
+use Rattle.lr_laws_rotations.specs.Target.{Target}
 use Rattle.lr_laws_family.specs.Shown.{WasSeen, Shown}
 use Rattle.lr_laws_family.proofs.Stood.{file_stands}
-use Rattle.lr_laws_targets.specs.Apart.{HasNames, TargetsHaveNames}
-use Rattle.lr_laws_targets.proofs.Own.{member_own}
-use Rattle.lr_weave.proofs.Parting.{done_some}
-use Rattle.lr_weave.proofs.Planning.{ready_planned}
+use Rattle.lr_laws_rotations.specs.Apart.{HasNames, TargetsHaveNames}
+use Rattle.lr_laws_rotations.proofs.Own.{member_own}
+use Rattle.lr_laws_acts.proofs.Parting.{done_some}
+use Rattle.lr_laws_acts.proofs.Planning.{ready_planned}
 use Rattle.lr_looks.specs.Reserved.{reserved_by}
-use Rattle.lr_seen.specs.Targets.{groups_of, all_targets}
-use Rattle.lr_seen.proofs.Apart.{OffLooked, kept_off, looked_pairs, targets_apart}
-use Rattle.lr_seen.proofs.Coming.{Comes, comes_from, was_looked, in_looked}
-use Rattle.lr_seen.proofs.Elements.{in_flat, pairs_two}
-use Rattle.lr_seen.proofs.Kept.{kept_has_none}
-use Rattle.lr_seen.proofs.Listed.{WasShown, all_shown}
-use Rattle.lr_seen.proofs.Quiet.{whole_quiet}
-use Rattle.lr_seen.proofs.Ready.{plans_have_logs}
-use Rattle.lr_seen.proofs.Seen.{targets_have_names}
+use Rattle.lr_laws_looks.specs.Targets.{groups_of, all_targets}
+use Rattle.lr_laws_looks.proofs.Apart.{OffLooked, kept_off, looked_pairs, targets_apart}
+use Rattle.lr_laws_looks.proofs.Coming.{Comes, comes_from, was_looked, in_looked}
+use Rattle.lr_laws_looks.proofs.Elements.{in_flat, pairs_two}
+use Rattle.lr_laws_looks.proofs.Kept.{kept_has_none}
+use Rattle.lr_laws_looks.proofs.SeenListed.{WasShown, all_shown}
+use Rattle.lr_laws_looks.proofs.Quiet.{whole_quiet}
+use Rattle.lr_laws_looks.proofs.Ready.{plans_have_logs}
+use Rattle.lr_laws_looks.proofs.Seen.{targets_have_names}
 use Rattle.lr_run.proofs.Owned.{unlinked_own}
 use Rattle.lr_run.proofs.Stating.{state_writing, changes_of_state}
 

@@ -12,7 +12,7 @@ use Rattle.lr_host.specs.Told.{Are, Each, Left}
 use Rattle.lr_plan.specs.Course.{Course}
 use Rattle.lr_plan.specs.Steps.{state_steps}
 use Rattle.lr_acts.specs.Named.{PathIsNamed}
-use Rattle.lr_laws_targets.specs.AllTurns.{IsOfState}
+use Rattle.lr_laws_rotations.specs.AllTurns.{IsOfState}
 use Rattle.lr_acts.proofs.Keeping.{KeepsName, left_keeps}
 use Rattle.lr_run.proofs.Stating.{state_writing, changes_of_state}
 

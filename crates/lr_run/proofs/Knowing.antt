@@ -5,10 +5,10 @@ use Rattle.lr_rules.specs.declared.path.Path.{Path}
 use Rattle.lr_host.specs.declared.entry.Entry.{Entry}
 use Rattle.lr_state.specs.Grammar.{Said}
 use Rattle.lr_state.specs.Table.{Entry as Row}
-use Rattle.lr_reading.specs.declared.look.LookStop.{LookStop}
-use Rattle.lr_reading.specs.declared.remembered.Remembered.{Remembered}
-use Rattle.lr_reading.specs.Answers.{IsKnown, IsKnownBehind, IsKnownBy, IsKnownOf, TextSaysOnly, known_of, text_read}
-use Rattle.lr_reading.specs.Sights.{StateSights, ShowsState, found}
+use Rattle.lr_state.specs.declared.look.LookStop.{LookStop}
+use Rattle.lr_state.specs.declared.remembered.Remembered.{Remembered}
+use Rattle.lr_state.specs.Known.{IsKnown, IsKnownBehind, IsKnownBy, IsKnownOf, TextSaysOnly, known_of, text_read}
+use Rattle.lr_state.specs.Sights.{StateSights, ShowsState, found}
 use Rattle.lr_run.specs.Saw.{ShowsStateText}
 
 -- The entries show a text that says this.

@@ -22,10 +22,10 @@ use Rattle.lr_plan.specs.declared.step.Step.TheVariants as step
 use Rattle.lr_plan.specs.Steps.{on_of, program, removal, removals, directory, move, step_if, copy, transfer, anew, made_anew, finishing, rotation_of, retirement_of, steps_of_log, shared_steps, by_logs, steps_of_set}
 use Rattle.lr_acts.specs.Making.{all_of_each, all_of_set, all_of_sets}
 use Rattle.lr_acts.specs.Named.{KeepName, CreatesAt, OneCreates, LastsBehind}
-use Rattle.lr_laws_targets.specs.Target.{Target}
-use Rattle.lr_laws_targets.proofs.Own.{member_own}
-use Rattle.lr_weave.specs.Fitting.{DontMeet}
-use Rattle.lr_weave.specs.Planned.{bare_removal, IsReadyFor, AreReadyFor}
+use Rattle.lr_laws_rotations.specs.Target.{Target}
+use Rattle.lr_laws_rotations.proofs.Own.{member_own}
+use Rattle.lr_laws_acts.specs.Fitting.{DontMeet}
+use Rattle.lr_laws_acts.specs.Planned.{bare_removal, IsReadyFor, AreReadyFor}
 use Rattle.lr_run.proofs.Courses.{OfLog, sets_so, set_so, all_set, all_sets}
 use Rattle.lr_run.proofs.Members.{part_no_log, waits_no_log, AreOfMembers, TakeMembers, HasMembers, HaveMembers, part_own, meets_none}
 

@@ -19,14 +19,14 @@ use Rattle.lr_host.specs.Quiet.{AreQuiet}
 use Rattle.lr_host.proofs.Each.{each_append}
 use Rattle.lr_run.proofs.Made.{AreMade}
 use Rattle.lr_run.proofs.Shape.{sees_quiet}
-use Rattle.lr_durable.specs.Renewing.{LeavesAlone, IsWithinDirs, MayRenew, left_alone}
+use Rattle.lr_laws.specs.Renewing.{LeavesAlone, IsWithinDirs, MayRenew, left_alone}
 use Rattle.lr_state.specs.Written.{text_of}
 use Rattle.lr_looks.specs.Found.{FoundLog, paths_of}
-use Rattle.lr_record.specs.After.{after}
+use Rattle.lr_state.specs.After.{after}
 use Rattle.lr_plan.specs.Asked.{Asked}
 use Rattle.lr_plan.specs.declared.plan.Plan.{Plan}
 use Rattle.lr_plan.specs.Done.{rotated_logs}
-use Rattle.lr_seen.proofs.Quiet.{whole_looking}
+use Rattle.lr_laws_looks.proofs.Quiet.{whole_looking}
 use Rattle.lr_run.specs.Answers.{RunLeaves, Holds, Lacks}
 use Rattle.lr_run.specs.Dry as dry
 use Rattle.lr_run.specs.Dry.{Tries}

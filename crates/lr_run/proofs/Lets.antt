@@ -22,12 +22,12 @@ use Rattle.lr_host.proofs.Steady.{none_attached_by, steady_before_by}
 use Rattle.lr_laws.specs.Forward.{IsForwardFor}
 use Rattle.lr_plan.specs.Asked.{Asked}
 use Rattle.lr_plan.specs.declared.plan.Plan.{Plan}
-use Rattle.lr_emptied.specs.LetGo.{UnlinksCopied}
-use Rattle.lr_emptied.proofs.Letting.{both_copied}
+use Rattle.lr_laws_acts.specs.LetGo.{UnlinksCopied}
+use Rattle.lr_laws_acts.proofs.Letting.{both_copied}
 use Rattle.lr_move.specs.Moved.{KeepsMovedWhere}
 use Rattle.lr_laws_rotations.proofs.Still.{quiet_safe_on}
-use Rattle.lr_laws_targets.specs.Runs.{IsWholeRunBy}
-use Rattle.lr_laws_targets.proofs.RunSafety.{all_safe_aside}
+use Rattle.lr_laws_rotations.specs.Runs.{IsWholeRunBy}
+use Rattle.lr_laws_rotations.proofs.RunSafety.{all_safe_aside}
 use Rattle.lr_run.specs.declared.answer.Ran.{Ran}
 use Rattle.lr_run.specs.declared.answer.RunStop.{RunStop}
 use Rattle.lr_run.specs.Answers.{Answers}

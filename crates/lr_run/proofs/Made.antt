@@ -18,7 +18,7 @@ use Rattle.lr_host.proofs.Made.{Cut, cut, made_journal, made_tools}
 use Rattle.lr_host.proofs.More.{dir_before, nothing_before}
 use Rattle.lr_host.proofs.Quiet.{IsAny, Moment, moment, quiet_more, quiet_still, since_any, still_reverse}
 use Rattle.lr_laws_family.proofs.Stood.{quiet_journal}
-use Rattle.lr_placed.proofs.Lasting.{Says}
+use Rattle.lr_laws_looks.proofs.Lasting.{Says}
 
 -- The tool left these entries, in order, on a disk.
 pub record AreMade (ts : List Entry) : Type 0 where

@@ -14,20 +14,20 @@ use Rattle.lr_family.specs.Parts.{part_of, IsMember, IsMembersPart}
 use Rattle.lr_scripts.specs.declared.removal.Removal.{Removal}
 use Rattle.lr_copy.specs.declared.job.Job.{Job}
 use Rattle.lr_chain.specs.declared.ready.Move.{Move}
-use Rattle.lr_laws_targets.specs.Apart.{HasNames}
-use Rattle.lr_laws_targets.specs.Rotation.{removal_paths}
-use Rattle.lr_laws_targets.specs.Seen.{IsLogSeen}
-use Rattle.lr_laws_targets.specs.Target.{Target, source_of, HasWay, HasDir, TargetHasJob}
-use Rattle.lr_laws_targets.proofs.LogSeen.{any_names}
-use Rattle.lr_laws_targets.proofs.Own.{named_own, target_member}
-use Rattle.lr_laws_targets.proofs.PartFile.{part_no_member}
-use Rattle.lr_laws_targets.proofs.Plan.{plan_is_one}
-use Rattle.lr_laws_targets.proofs.Waiting.{beside_other}
-use Rattle.lr_laws_targets.proofs.Way.{aside_is, first_own, aside_own, source_apart}
+use Rattle.lr_laws_rotations.specs.Apart.{HasNames}
+use Rattle.lr_laws_rotations.specs.Rotation.{removal_paths}
+use Rattle.lr_laws_rotations.specs.Seen.{IsLogSeen}
+use Rattle.lr_laws_rotations.specs.Target.{Target, source_of, HasWay, HasDir, TargetHasJob}
+use Rattle.lr_laws_rotations.proofs.LogSeen.{any_names}
+use Rattle.lr_laws_rotations.proofs.Own.{named_own, target_member}
+use Rattle.lr_laws_rotations.proofs.PartFile.{part_no_member}
+use Rattle.lr_laws_rotations.proofs.Plan.{plan_is_one}
+use Rattle.lr_laws_rotations.proofs.Waiting.{beside_other}
+use Rattle.lr_laws_rotations.proofs.Way.{aside_is, first_own, aside_own, source_apart}
 use Rattle.lr_plan.specs.declared.plan.SetPlan.{SetPlan}
-use Rattle.lr_weave.specs.Fitting.{NoneMeets}
-use Rattle.lr_weave.specs.Planned.{AreReadyFor, HaveLogs}
-use Rattle.lr_seen.proofs.Ready.{ready_both}
+use Rattle.lr_laws_acts.specs.Fitting.{NoneMeets}
+use Rattle.lr_laws_acts.specs.Planned.{AreReadyFor, HaveLogs}
+use Rattle.lr_laws_looks.proofs.Ready.{ready_both}
 
 -- each of these removals is of a member
 abbrev pub AreOfMembers : Naming → List Removal → Type 0

@@ -33,18 +33,18 @@ use Rattle.lr_host.proofs.Lists.{in_front, in_back}
 use Rattle.lr_host.proofs.Made.{Cut, cut, made_journal, made_on}
 use Rattle.lr_host.proofs.Quiet.{since_as, since_before, since_behind}
 use Rattle.lr_laws.proofs.Outside.{apart_outside}
-use Rattle.lr_durable.proofs.Lists.{IsOnWay, on_way, made_prefix}
+use Rattle.lr_laws.proofs.Lists.{IsOnWay, on_way, made_prefix}
 use Rattle.lr_family.specs.Parts.{part_of, IsMember, IsMembersPart}
 use Rattle.lr_scripts.specs.declared.removal.Removal.{Removal}
 use Rattle.lr_copy.specs.declared.job.Job.{Job}
 use Rattle.lr_copy.specs.Fits.{ArePaths}
-use Rattle.lr_copied.specs.Whole.{Named, WritersSpareCopy}
-use Rattle.lr_copied.proofs.Moments.{IsLast, is_last}
+use Rattle.lr_laws_family.specs.Whole.{Named, WritersSpareCopy}
+use Rattle.lr_laws_family.proofs.Moments.{IsLast, is_last}
 use Rattle.lr_chain.specs.declared.ready.Ready.{Ready}
 use Rattle.lr_move.specs.Moved.{CopiesAside, IsLetGo, LetsGoWhole, WritersSpareCopies, KeepsMovedWhere}
 use Rattle.lr_move.proofs.LettingGo.{may_go}
 use Rattle.lr_due.specs.declared.answer.Due.{Due}
-use Rattle.lr_reading.proofs.Quiet.{state_quiet}
+use Rattle.lr_state.proofs.Quiet.{state_quiet}
 use Rattle.lr_plan.specs.declared.looks.LogLook.{LogLook}
 use Rattle.lr_plan.specs.declared.plan.Plan.{Plan}
 use Rattle.lr_plan.specs.declared.plan.LogPlan.{LogPlan}
@@ -52,22 +52,22 @@ use Rattle.lr_plan.specs.declared.plan.SetPlan.{SetPlan}
 use Rattle.lr_plan.specs.Asked.{Asked}
 use Rattle.lr_plan.specs.Planned.{decision}
 use Rattle.lr_plan.specs.Steps.{steps_of_plan}
-use Rattle.lr_emptied.specs.LetGo.{CopiedFrom, UnlinksCopied, AreElsewhere, MayLetGo, MayAllLetGo}
-use Rattle.lr_emptied.proofs.Letting.{Spares, both_copied, same_copied, spared_copied, plan_lets, sets_letting, sets_cut_letting, state_letting}
-use Rattle.lr_emptied.proofs.Whole.{whole_since}
+use Rattle.lr_laws_acts.specs.LetGo.{CopiedFrom, UnlinksCopied, AreElsewhere, MayLetGo, MayAllLetGo}
+use Rattle.lr_laws_acts.proofs.Letting.{Spares, both_copied, same_copied, spared_copied, plan_lets, sets_letting, sets_cut_letting, state_letting}
+use Rattle.lr_laws_acts.proofs.CopiesWhole.{whole_since}
 use Rattle.lr_laws_rotations.proofs.SetMembers.{keyless_no_member}
-use Rattle.lr_laws_targets.specs.Rotation.{removal_paths}
-use Rattle.lr_laws_targets.specs.Target.{Target, IsJob, HasWay, source_by}
-use Rattle.lr_laws_targets.proofs.Reached.{IsKnownFor, waits_at}
-use Rattle.lr_laws_targets.proofs.RunSafety.{known_targets, part_apart}
-use Rattle.lr_laws_targets.proofs.Safety.{quiet_call_safe_by}
-use Rattle.lr_laws_targets.proofs.Own.{family_members, target_member, member_own, named_own}
-use Rattle.lr_laws_targets.proofs.PartFile.{part_no_waiting, job_part}
-use Rattle.lr_laws_targets.proofs.Way.{aside_own}
-use Rattle.lr_weave.specs.Planned.{bare_removal, IsReadyFor, AreReadyFor, HaveLogs}
-use Rattle.lr_seen.specs.Targets.{groups_of, all_targets}
-use Rattle.lr_seen.proofs.Ready.{plans_have_logs}
-use Rattle.lr_seen.proofs.Seen.{targets_seen}
+use Rattle.lr_laws_rotations.specs.Rotation.{removal_paths}
+use Rattle.lr_laws_rotations.specs.Target.{Target, IsJob, HasWay, source_by}
+use Rattle.lr_laws_rotations.proofs.Reached.{IsKnownFor, waits_at}
+use Rattle.lr_laws_rotations.proofs.RunSafety.{known_targets, part_apart}
+use Rattle.lr_laws_rotations.proofs.Safety.{quiet_call_safe_by}
+use Rattle.lr_laws_rotations.proofs.Own.{family_members, target_member, member_own, named_own}
+use Rattle.lr_laws_rotations.proofs.PartFile.{part_no_waiting, job_part}
+use Rattle.lr_laws_rotations.proofs.Way.{aside_own}
+use Rattle.lr_laws_acts.specs.Planned.{bare_removal, IsReadyFor, AreReadyFor, HaveLogs}
+use Rattle.lr_laws_looks.specs.Targets.{groups_of, all_targets}
+use Rattle.lr_laws_looks.proofs.Ready.{plans_have_logs}
+use Rattle.lr_laws_looks.proofs.Seen.{targets_seen}
 use Rattle.lr_run.specs.declared.answer.Ran.{Ran}
 use Rattle.lr_run.specs.declared.answer.RunStop.{RunStop}
 use Rattle.lr_run.specs.declared.answer.RunStop.TheVariants as stop

@@ -11,9 +11,9 @@ use Rattle.lr_chain.specs.declared.ready.Ready.{Ready}
 use Rattle.lr_chain.specs.Hindrances.{what_hinders}
 use Rattle.lr_chain.specs.Serials.{next_serial}
 use Rattle.lr_chain.proofs.Either.{ready_dates, target_at}
-use Rattle.lr_laws_targets.specs.Apart.{HasNames}
-use Rattle.lr_laws_targets.specs.Target.{Target, IsReadyBy}
-use Rattle.lr_laws_targets.proofs.Plan.{plan_is_one}
+use Rattle.lr_laws_rotations.specs.Apart.{HasNames}
+use Rattle.lr_laws_rotations.specs.Target.{Target, IsReadyBy}
+use Rattle.lr_laws_rotations.proofs.Plan.{plan_is_one}
 use Rattle.lr_run.specs.Copied.{IsNewestBy, IsNewest}
 use Rattle.lr_family.specs.declared.stand.Member.{Member}
 use Rattle.lr_laws_family.specs.Members.{IsNewestOf}

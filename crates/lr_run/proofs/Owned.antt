@@ -6,11 +6,11 @@ use Rattle.lr_host.specs.declared.entry.Entry.{Entry}
 use Rattle.lr_host.specs.declared.entry.Entry.TheVariants as entry
 use Rattle.lr_host.specs.Lists.{IsIn}
 use Rattle.lr_laws.specs.Follow.{changed_paths}
-use Rattle.lr_laws_targets.specs.AllTurns.{IsItsDir, IsOf}
-use Rattle.lr_laws_targets.specs.Apart.{HasNames}
-use Rattle.lr_laws_targets.specs.Target.{Target}
-use Rattle.lr_laws_targets.specs.Own.{MakesItsDir}
-use Rattle.lr_laws_targets.proofs.Own.{own_or_makes}
+use Rattle.lr_laws_rotations.specs.AllTurns.{IsItsDir, IsOf}
+use Rattle.lr_laws_rotations.specs.Apart.{HasNames}
+use Rattle.lr_laws_rotations.specs.Target.{Target}
+use Rattle.lr_laws_rotations.specs.Own.{MakesItsDir}
+use Rattle.lr_laws_rotations.proofs.Own.{own_or_makes}
 
 -- ---- what is done to a log
 

@@ -15,12 +15,12 @@ use Rattle.lr_plan.specs.Planned.{decision}
 use Rattle.lr_plan.specs.Steps.{state_steps}
 use Rattle.lr_acts.specs.declared.progress.Progress.{Progress}
 use Rattle.lr_looks.specs.Shown.{LooksAtAll}
-use Rattle.lr_reading.specs.declared.remembered.Remembered.{Remembered}
+use Rattle.lr_state.specs.declared.remembered.Remembered.{Remembered}
 use Rattle.lr_writing.specs.Target.{StateTarget}
 use Rattle.lr_writing.proofs.Fits.{writing_fits}
 use Rattle.lr_looks.specs.Reserved.{reserved_by}
-use Rattle.lr_seen.proofs.Free.{targets_free}
-use Rattle.lr_placed.proofs.Placed.{AllAreFree, state_placed}
+use Rattle.lr_laws_looks.proofs.Free.{targets_free}
+use Rattle.lr_laws_looks.proofs.Placed.{AllAreFree, state_placed}
 use Rattle.lr_run.specs.declared.ready.Ready.{Ready}
 use Rattle.lr_run.specs.Internal.{ReadyFor, CanWrite, KnownBefore, SeenBefore, plan_for}
 use Rattle.lr_run.proofs.Works.{make_at, make_none}

@@ -20,9 +20,9 @@ use Rattle.lr_host.specs.Steps.{is_change}
 use Rattle.lr_host.specs.Told.{Each, IsTools, Left, not_told, is_told, Maybe}
 use Rattle.lr_host.specs.World.{past}
 use Rattle.lr_host.proofs.Each.{each_append, each_as, each_first}
-use Rattle.lr_durable.specs.Renewing.{LeavesAlone, IsWithinDirs, MayRenew, left_alone, renewed}
-use Rattle.lr_durable.specs.StateWhole.{KeepsWhole}
-use Rattle.lr_durable.proofs.Whole.{whole_at}
+use Rattle.lr_laws.specs.Renewing.{LeavesAlone, IsWithinDirs, MayRenew, left_alone, renewed}
+use Rattle.lr_laws.specs.StateWhole.{KeepsWhole}
+use Rattle.lr_laws.proofs.Whole.{whole_at}
 use Rattle.lr_due.specs.declared.answer.Due.{Due}
 use Rattle.lr_plan.specs.Asked.{Asked}
 use Rattle.lr_plan.specs.declared.looks.LogLook.{LogLook}
@@ -31,21 +31,21 @@ use Rattle.lr_plan.specs.declared.mark.Mark.{Mark}
 use Rattle.lr_plan.specs.Done.{SetsDone, rotated_logs}
 use Rattle.lr_plan.specs.Planned.{decision}
 use Rattle.lr_plan.specs.Steps.{steps_of_set}
-use Rattle.lr_laws_targets.specs.AllTurns.{IsOfSome}
-use Rattle.lr_laws_targets.specs.Apart.{TargetsHaveNames}
-use Rattle.lr_laws_targets.specs.Target.{Target}
-use Rattle.lr_weave.specs.Parts.{ArePlanned}
-use Rattle.lr_weave.specs.Planned.{HaveLogs}
-use Rattle.lr_weave.proofs.Parting.{done_some, cut_some}
-use Rattle.lr_weave.proofs.Planning.{ready_planned, each_end}
-use Rattle.lr_seen.specs.Targets.{groups_of, all_targets}
-use Rattle.lr_seen.proofs.Apart.{targets_apart}
-use Rattle.lr_seen.proofs.Free.{targets_free}
-use Rattle.lr_seen.proofs.Ready.{plans_have_logs}
-use Rattle.lr_seen.proofs.Quiet.{whole_quiet}
-use Rattle.lr_seen.proofs.Seen.{targets_seen, targets_have_names, targets_have_paths}
-use Rattle.lr_reading.proofs.Quiet.{state_quiet}
-use Rattle.lr_synced.specs.Synced.{AreSynced}
+use Rattle.lr_laws_rotations.specs.AllTurns.{IsOfSome}
+use Rattle.lr_laws_rotations.specs.Apart.{TargetsHaveNames}
+use Rattle.lr_laws_rotations.specs.Target.{Target}
+use Rattle.lr_laws_acts.specs.Parts.{ArePlanned}
+use Rattle.lr_laws_acts.specs.Planned.{HaveLogs}
+use Rattle.lr_laws_acts.proofs.Parting.{done_some, cut_some}
+use Rattle.lr_laws_acts.proofs.Planning.{ready_planned, each_end}
+use Rattle.lr_laws_looks.specs.Targets.{groups_of, all_targets}
+use Rattle.lr_laws_looks.proofs.Apart.{targets_apart}
+use Rattle.lr_laws_looks.proofs.Free.{targets_free}
+use Rattle.lr_laws_looks.proofs.Ready.{plans_have_logs}
+use Rattle.lr_laws_looks.proofs.Quiet.{whole_quiet}
+use Rattle.lr_laws_looks.proofs.Seen.{targets_seen, targets_have_names, targets_have_paths}
+use Rattle.lr_state.proofs.Quiet.{state_quiet}
+use Rattle.lr_writing.specs.Synced.{AreSynced}
 use Rattle.lr_writing.specs.Named.{Spares, NamedLast, not_named, named}
 use Rattle.lr_writing.proofs.Named.{named_last}
 use Rattle.lr_plan.specs.declared.plan.Plan.{Plan}

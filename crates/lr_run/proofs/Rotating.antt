@@ -25,27 +25,27 @@ use Rattle.lr_plan.specs.Asked.{Asked}
 use Rattle.lr_plan.specs.declared.looks.LogLook.{LogLook}
 use Rattle.lr_plan.specs.Done.{PlanDone}
 use Rattle.lr_plan.specs.Planned.{decision}
-use Rattle.lr_laws_targets.specs.AllTurns.{dir_paths, other_paths, paths_beside}
-use Rattle.lr_laws_targets.specs.Target.{Target, HasDir}
+use Rattle.lr_laws_rotations.specs.AllTurns.{dir_paths, other_paths, paths_beside}
+use Rattle.lr_laws_rotations.specs.Target.{Target, HasDir}
 use Rattle.lr_laws_family.specs.Turned.{IsFamilyRotation}
-use Rattle.lr_laws_targets.specs.Rotation.{rotation_by}
-use Rattle.lr_laws_targets.specs.Apart.{HasNames, TargetsHaveNames}
-use Rattle.lr_laws_targets.proofs.Beside.{none_own}
-use Rattle.lr_laws_targets.specs.Runs.{AllTurnedBy}
-use Rattle.lr_laws_targets.proofs.Plan.{plan_is_one}
-use Rattle.lr_laws_targets.proofs.LogSeen.{any_names, log_among}
+use Rattle.lr_laws_rotations.specs.Rotation.{rotation_by}
+use Rattle.lr_laws_rotations.specs.Apart.{HasNames, TargetsHaveNames}
+use Rattle.lr_laws_rotations.proofs.Beside.{none_own}
+use Rattle.lr_laws_rotations.specs.Runs.{AllTurnedBy}
+use Rattle.lr_laws_rotations.proofs.Plan.{plan_is_one}
+use Rattle.lr_laws_rotations.proofs.LogSeen.{any_names, log_among}
 use Rattle.lr_run.specs.Rotated.{rotated_in}
-use Rattle.lr_laws_targets.specs.Seen.{IsLogSeen}
-use Rattle.lr_weave.specs.Fitting.{NoneMeets, DontMeet}
-use Rattle.lr_weave.proofs.Planning.{ready_planned}
-use Rattle.lr_weave.proofs.Turned.{done_turned}
+use Rattle.lr_laws_rotations.specs.Seen.{IsLogSeen}
+use Rattle.lr_laws_acts.specs.Fitting.{NoneMeets, DontMeet}
+use Rattle.lr_laws_acts.proofs.Planning.{ready_planned}
+use Rattle.lr_laws_acts.proofs.ActsTurn.{done_turned}
 use Rattle.lr_looks.specs.Reserved.{reserved_by}
-use Rattle.lr_seen.specs.Free.{IsFreeOf, AreFreeOf}
-use Rattle.lr_seen.specs.Targets.{groups_of}
-use Rattle.lr_seen.proofs.Apart.{targets_apart, targets_dont_meet}
-use Rattle.lr_seen.proofs.Free.{targets_free}
-use Rattle.lr_seen.proofs.Ready.{plans_have_logs}
-use Rattle.lr_seen.proofs.Seen.{targets_seen, targets_have_names}
+use Rattle.lr_laws_looks.specs.Free.{IsFreeOf, AreFreeOf}
+use Rattle.lr_laws_looks.specs.Targets.{groups_of}
+use Rattle.lr_laws_looks.proofs.Apart.{targets_apart, targets_dont_meet}
+use Rattle.lr_laws_looks.proofs.Free.{targets_free}
+use Rattle.lr_laws_looks.proofs.Ready.{plans_have_logs}
+use Rattle.lr_laws_looks.proofs.Seen.{targets_seen, targets_have_names}
 use Rattle.lr_looks.specs.Inside.{Inside}
 use Rattle.lr_run.specs.Runs.{Looked, Worked, plan_in}
 use Rattle.lr_run.proofs.Shape.{sees_quiet, ended_whole, written_whole, seen_later, seen_quiet, in_parts, all_of_state}

@@ -9,10 +9,10 @@ use Rattle.lr_host.specs.declared.thing.Seen.{Seen}
 use Rattle.lr_host.specs.Told.{Each}
 use Rattle.lr_host.proofs.Each.{each_append, each_as}
 use Rattle.lr_family.proofs.OnlyLooks.{IsLooking, AreLooking}
-use Rattle.lr_reading.specs.declared.look.LookStop.{LookStop}
-use Rattle.lr_reading.specs.Pieces.{Reading, Whole, Broken, AreSome, IsReading, reads_from, reads_of}
-use Rattle.lr_reading.specs.Sights.{StateSight, Failed, Nothing, Saw, StateSights, ShowsState, found, state_look, text_entries, behind_part, behind_state}
-use Rattle.lr_seen.proofs.Quiet.{whole_looking, part_looking}
+use Rattle.lr_state.specs.declared.look.LookStop.{LookStop}
+use Rattle.lr_state.specs.ReadPieces.{Reading, Whole, Broken, AreSome, IsReading, reads_from, reads_of}
+use Rattle.lr_state.specs.Sights.{StateSight, Failed, Nothing, Saw, StateSights, ShowsState, found, state_look, text_entries, behind_part, behind_state}
+use Rattle.lr_laws_looks.proofs.Quiet.{whole_looking, part_looking}
 use Rattle.lr_run.specs.Runs.{Looked, SomeSeen, of_state, of_looks}
 
 -- each of these pieces has 65,536 bytes at most

@@ -27,18 +27,18 @@ use Rattle.lr_due.specs.declared.answer.Due.{Due}
 use Rattle.lr_plan.specs.Asked.{Asked}
 use Rattle.lr_plan.specs.declared.looks.LogLook.{LogLook}
 use Rattle.lr_plan.specs.Planned.{decision}
-use Rattle.lr_laws_targets.specs.AllTurns.{IsOfSome, IsOfState, StandsBetween}
-use Rattle.lr_reading.proofs.Quiet.{state_quiet}
-use Rattle.lr_laws_targets.specs.Target.{Target, target_entries, IsGiven, IsDirSeenBy, IsTargetJob}
+use Rattle.lr_laws_rotations.specs.AllTurns.{IsOfSome, IsOfState, StandsBetween}
+use Rattle.lr_state.proofs.Quiet.{state_quiet}
+use Rattle.lr_laws_rotations.specs.Target.{Target, target_entries, IsGiven, IsDirSeenBy, IsTargetJob}
 use Rattle.lr_laws_family.specs.Weave.{Weave, FirstWoven, Among}
 use Rattle.lr_laws_family.proofs.Weaving.{weave_on, weave_others}
-use Rattle.lr_laws_targets.specs.Runs.{AllTurnsBy, AllTurnedBy, started, IsWholeRunBy}
-use Rattle.lr_laws_targets.specs.Seen.{AreLogsSeen}
-use Rattle.lr_weave.proofs.Parting.{done_turns, cut_turns}
-use Rattle.lr_weave.proofs.Planning.{ready_planned}
-use Rattle.lr_seen.specs.Targets.{groups_of, all_targets}
-use Rattle.lr_laws_targets.proofs.Shapes.{quiet_run_by}
-use Rattle.lr_laws_targets.proofs.Whole.{shown_more}
+use Rattle.lr_laws_rotations.specs.Runs.{AllTurnsBy, AllTurnedBy, started, IsWholeRunBy}
+use Rattle.lr_laws_rotations.specs.Seen.{AreLogsSeen}
+use Rattle.lr_laws_acts.proofs.Parting.{done_turns, cut_turns}
+use Rattle.lr_laws_acts.proofs.Planning.{ready_planned}
+use Rattle.lr_laws_looks.specs.Targets.{groups_of, all_targets}
+use Rattle.lr_laws_rotations.proofs.Shapes.{quiet_run_by}
+use Rattle.lr_laws_rotations.proofs.Whole.{shown_more}
 use Rattle.lr_run.specs.declared.answer.Ran.{Ran}
 use Rattle.lr_run.specs.declared.answer.RunStop.{RunStop}
 use Rattle.lr_plan.specs.declared.plan.Plan.{Plan}
@@ -47,10 +47,10 @@ use Rattle.lr_run.specs.Answers.{Answers}
 use Rattle.lr_run.specs.Runs as runs
 use Rattle.lr_run.specs.Runs.{Looked, Worked, Works, not_known, too_big, worked, Runs, no_directory, not_seen, not_begun, SomeSeen, of_state, of_looks, BrokeOff, at_first, in_looks, in_acts}
 use Rattle.lr_run.proofs.Stating.{state_writing, changes_of_state}
-use Rattle.lr_seen.proofs.Apart.{targets_apart}
-use Rattle.lr_seen.proofs.Quiet.{whole_quiet, part_quiet}
-use Rattle.lr_seen.proofs.Ready.{plans_have_logs}
-use Rattle.lr_seen.proofs.Seen.{targets_seen}
+use Rattle.lr_laws_looks.proofs.Apart.{targets_apart}
+use Rattle.lr_laws_looks.proofs.Quiet.{whole_quiet, part_quiet}
+use Rattle.lr_laws_looks.proofs.Ready.{plans_have_logs}
+use Rattle.lr_laws_looks.proofs.Seen.{targets_seen}
 
 -- ---- quiet entries alone
 

@@ -16,12 +16,12 @@ use Rattle.lr_host.specs.Told.{Each, Left, Then}
 use Rattle.lr_host.proofs.Each.{each_append}
 use Rattle.lr_host.proofs.Left.{left_as}
 use Rattle.lr_plan.specs.Asked.{Asked}
-use Rattle.lr_laws_targets.specs.Runs.{IsWholeRunBy}
-use Rattle.lr_laws_targets.proofs.Shapes.{quiet_run_by}
-use Rattle.lr_durable.specs.StateWhole.{KeepsWhole}
-use Rattle.lr_emptied.specs.Emptied.{EmptiesWhole}
-use Rattle.lr_emptied.proofs.Entries.{quiet_empties}
-use Rattle.lr_seen.proofs.Quiet.{whole_looking, part_looking}
+use Rattle.lr_laws_rotations.specs.Runs.{IsWholeRunBy}
+use Rattle.lr_laws_rotations.proofs.Shapes.{quiet_run_by}
+use Rattle.lr_laws.specs.StateWhole.{KeepsWhole}
+use Rattle.lr_laws_acts.specs.Emptied.{EmptiesWhole}
+use Rattle.lr_laws_acts.proofs.Entries.{quiet_empties}
+use Rattle.lr_laws_looks.proofs.Quiet.{whole_looking, part_looking}
 use Rattle.lr_run.specs.declared.answer.Ran.{Ran}
 use Rattle.lr_run.specs.declared.answer.RunStop.{RunStop}
 use Rattle.lr_run.specs.Copied.{IsCopyBy}

@@ -20,7 +20,7 @@ use Rattle.lr_family.specs.Parts.{part_of}
 use Rattle.lr_chain.specs.declared.ready.Move.{Move}
 use Rattle.lr_chain.specs.declared.ready.Ready.{Ready}
 use Rattle.lr_scripts.specs.declared.removal.Removal.{Removal}
-use Rattle.lr_commands.specs.Commands.{script, where_so, mail, with_programs}
+use Rattle.lr_scripts.specs.Commands.{script, where_so, mail, with_programs}
 use Rattle.lr_copy.specs.declared.job.Job.{Job}
 use Rattle.lr_plan.specs.declared.looks.LogLook.{LogLook}
 use Rattle.lr_plan.specs.declared.looks.SetLooks.{SetLooks}

@@ -17,7 +17,7 @@ use Rattle.lr_plan.specs.Appending.{Appended, no_more, piece_more, AppendBroke, 
 use Rattle.lr_plan.specs.Course.{Course}
 use Rattle.lr_plan.specs.Outcomes.{Succeeds, Fails}
 use Rattle.lr_plan.specs.Steps.{state_steps, step_if}
-use Rattle.lr_laws_targets.specs.AllTurns.{IsOfState}
+use Rattle.lr_laws_rotations.specs.AllTurns.{IsOfState}
 use Rattle.lr_run.proofs.Working.{IsDoing}
 
 -- ---- steps of which each entry is so

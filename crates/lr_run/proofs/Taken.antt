@@ -32,11 +32,11 @@ use Rattle.lr_plan.specs.Planned.{is_file_kind, decision}
 use Rattle.lr_plan.specs.Steps.{steps_of_plan}
 use Rattle.lr_plan.specs.Course.{Course}
 use Rattle.lr_plan.specs.Done.{SetsDone, rotated_logs}
-use Rattle.lr_record.specs.After.{after}
+use Rattle.lr_state.specs.After.{after}
 use Rattle.lr_state.specs.Written.{text_of}
 use Rattle.lr_looks.specs.Reserved.{reserved_by}
 use Rattle.lr_acts.specs.Taken.{WasTaken, no_journal}
-use Rattle.lr_reading.specs.declared.remembered.Remembered.{Remembered}
+use Rattle.lr_state.specs.declared.remembered.Remembered.{Remembered}
 use Rattle.lr_run.specs.Internal.{plan_for, steps_of_writing}
 use Rattle.lr_run.specs.Work.{Acts}
 use Rattle.lr_run.proofs.Hindered.{plan_taken}

@@ -31,8 +31,8 @@ use Rattle.lr_plan.specs.declared.looks.Looks.{Looks}
 use Rattle.lr_plan.specs.declared.looks.SetLooks.{SetLooks}
 use Rattle.lr_plan.specs.declared.plan.Plan.{Plan}
 use Rattle.lr_plan.specs.Planned.{decision, plan_of}
-use Rattle.lr_reading.specs.declared.remembered.Remembered.{Remembered}
-use Rattle.lr_reading.specs.Answers.{ReadsState, TextSaysOnly}
+use Rattle.lr_state.specs.declared.remembered.Remembered.{Remembered}
+use Rattle.lr_state.specs.Known.{ReadsState, TextSaysOnly}
 use Rattle.lr_looks.specs.Reserved.{reserved_by}
 use Rattle.lr_run.specs.declared.answer.Ran.{Ran}
 use Rattle.lr_run.specs.declared.answer.RunStop.{RunStop}

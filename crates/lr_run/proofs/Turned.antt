@@ -12,9 +12,9 @@ use Rattle.lr_host.specs.Quiet.{AreQuiet}
 use Rattle.lr_host.specs.Told.{Made}
 use Rattle.lr_host.specs.World.{Past}
 use Rattle.lr_plan.specs.Asked.{Asked}
-use Rattle.lr_laws_targets.specs.Target.{Target}
-use Rattle.lr_seen.specs.Planned.{targets_in}
-use Rattle.lr_seen.proofs.Planned.{plan_targets}
+use Rattle.lr_laws_rotations.specs.Target.{Target}
+use Rattle.lr_laws_looks.specs.Planned.{targets_in}
+use Rattle.lr_laws_looks.proofs.Planned.{plan_targets}
 use Rattle.lr_run.specs.Rotated.{rotated_targets, IsTurnedAmong, TurnLogs}
 use Rattle.lr_looks.specs.Inside.{Inside}
 use Rattle.lr_run.specs.Runs.{Worked}

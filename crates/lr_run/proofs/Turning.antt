@@ -16,22 +16,22 @@ use Rattle.lr_copy.specs.declared.job.Job.{Job}
 use Rattle.lr_copy.specs.Fits.{ArePaths}
 use Rattle.lr_plan.specs.Asked.{Asked}
 use Rattle.lr_plan.specs.Done.{PlanDone}
-use Rattle.lr_emptied.specs.Emptied.{EmptiesCopied}
-use Rattle.lr_emptied.proofs.Acts.{state_copying}
-use Rattle.lr_emptied.proofs.Entries.{none_empties, both_empty}
-use Rattle.lr_laws_targets.specs.AllTurns.{paths_beside}
-use Rattle.lr_laws_targets.specs.Apart.{HasNames}
-use Rattle.lr_laws_targets.specs.Target.{Target, source_of, IsJob}
-use Rattle.lr_laws_targets.specs.Runs.{AllTurnedBy}
-use Rattle.lr_laws_targets.specs.Seen.{IsLogSeen}
-use Rattle.lr_laws_targets.proofs.CallsFit.{log_paths}
-use Rattle.lr_laws_targets.proofs.Own.{named_own, member_own}
-use Rattle.lr_laws_targets.proofs.Way.{source_own}
-use Rattle.lr_weave.specs.Planned.{HaveLogs, LogsDiffer}
-use Rattle.lr_turned.proofs.Stands.{stands_first, plan_stands, plan_empties}
-use Rattle.lr_seen.specs.Targets.{groups_of}
-use Rattle.lr_seen.proofs.Apart.{targets_apart}
-use Rattle.lr_seen.proofs.Ready.{plans_have_logs}
+use Rattle.lr_laws_acts.specs.Emptied.{EmptiesCopied}
+use Rattle.lr_laws_acts.proofs.Acts.{state_copying}
+use Rattle.lr_laws_acts.proofs.Entries.{none_empties, both_empty}
+use Rattle.lr_laws_rotations.specs.AllTurns.{paths_beside}
+use Rattle.lr_laws_rotations.specs.Apart.{HasNames}
+use Rattle.lr_laws_rotations.specs.Target.{Target, source_of, IsJob}
+use Rattle.lr_laws_rotations.specs.Runs.{AllTurnedBy}
+use Rattle.lr_laws_rotations.specs.Seen.{IsLogSeen}
+use Rattle.lr_laws_rotations.proofs.CallsFit.{log_paths}
+use Rattle.lr_laws_rotations.proofs.Own.{named_own, member_own}
+use Rattle.lr_laws_rotations.proofs.Way.{source_own}
+use Rattle.lr_laws_acts.specs.Planned.{HaveLogs, LogsDiffer}
+use Rattle.lr_laws_acts.proofs.Stands.{stands_first, plan_stands, plan_empties}
+use Rattle.lr_laws_looks.specs.Targets.{groups_of}
+use Rattle.lr_laws_looks.proofs.Apart.{targets_apart}
+use Rattle.lr_laws_looks.proofs.Ready.{plans_have_logs}
 use Rattle.lr_looks.specs.Inside.{Inside}
 use Rattle.lr_run.specs.Runs.{Worked, plan_in}
 use Rattle.lr_run.proofs.Members.{HasMembers, job_part, part_no_log, has_members}
@@ -40,11 +40,11 @@ use Rattle.lr_laws_family.specs.Made.{AreOutside, RotatesAmong}
 use Rattle.lr_laws_family.specs.Members.{IsNoMember}
 use Rattle.lr_laws_family.specs.Rotation.{Rotation, By, Rename, Copy, Aside, part_paths, way_of}
 use Rattle.lr_laws_family.proofs.Whole.{turned as family_turned}
-use Rattle.lr_laws_targets.specs.Rotation.{by_of, rotation_by}
-use Rattle.lr_laws_targets.proofs.Whole.{rotates}
-use Rattle.lr_turned.specs.Copied.{CopyStands, IsSameFor}
-use Rattle.lr_turned.proofs.Rotates.{copied_among}
-use Rattle.lr_turned.proofs.Ways.{has_job}
+use Rattle.lr_laws_rotations.specs.Rotation.{by_of, rotation_by}
+use Rattle.lr_laws_rotations.proofs.Whole.{rotates}
+use Rattle.lr_laws_acts.specs.Copied.{CopyStands, IsSameFor}
+use Rattle.lr_laws_acts.proofs.Rotates.{copied_among}
+use Rattle.lr_laws_acts.proofs.Ways.{has_job}
 use Rattle.lr_run.specs.Rotated.{rotated_in, IsTurnedAmong}
 
 module _ (state : Path) (asked : Asked) (clock : Clock) (rules : Rules) (own : List Fault) (p q : Past) (es reads acts : List Entry) (made : Made p es q) (journal : IsJournal p) (joined : reverse es ≡ reads ++ acts) (quiet : AreQuiet reads)

@@ -42,22 +42,22 @@ use Rattle.lr_looks.specs.Families.{ShowFamilies, LooksAtFamilies, LookedAtSomeF
 use Rattle.lr_looks.specs.Found.{FoundLog}
 use Rattle.lr_looks.specs.Shown.{ShowsLooks, LooksAtAll, ShowsSomeLooks, at_families}
 use Rattle.lr_looks.proofs.Behind.{as_many_sights}
-use Rattle.lr_reading.specs.declared.remembered.Remembered.{Remembered}
-use Rattle.lr_reading.specs.Answers.{ReadsState, IsStateFault}
-use Rattle.lr_reading.specs.Pieces.{Broken}
-use Rattle.lr_reading.specs.Sights.{Failed, StateSights, ShowsState}
-use Rattle.lr_record.specs.After.{after}
-use Rattle.lr_record.specs.Measured.{measured_text}
-use Rattle.lr_weave.proofs.Seen.{seen_fit}
-use Rattle.lr_weave.proofs.Sets.{can_sets}
+use Rattle.lr_state.specs.declared.remembered.Remembered.{Remembered}
+use Rattle.lr_state.specs.Known.{ReadsState, IsStateFault}
+use Rattle.lr_state.specs.ReadPieces.{Broken}
+use Rattle.lr_state.specs.Sights.{Failed, StateSights, ShowsState}
+use Rattle.lr_state.specs.After.{after}
+use Rattle.lr_state.specs.Measured.{measured_text}
+use Rattle.lr_laws_acts.proofs.Seen.{seen_fit}
+use Rattle.lr_laws_acts.proofs.Sets.{can_sets}
 use Rattle.lr_looks.specs.Reserved.{reserved_by}
-use Rattle.lr_seen.specs.Targets.{groups_of, all_targets}
-use Rattle.lr_seen.proofs.Apart.{targets_dont_meet}
+use Rattle.lr_laws_looks.specs.Targets.{groups_of, all_targets}
+use Rattle.lr_laws_looks.proofs.Apart.{targets_dont_meet}
 use Rattle.lr_rules.specs.Names.{aside_path}
-use Rattle.lr_seen.proofs.Hindrances.{each_hindrance, faults_so}
-use Rattle.lr_seen.proofs.Quiet.{whole_quiet}
-use Rattle.lr_seen.proofs.Ready.{plans_have_logs, plans_read_own}
-use Rattle.lr_seen.proofs.Seen.{targets_seen, targets_have_names, targets_have_paths}
+use Rattle.lr_laws_looks.proofs.Hindrances.{each_hindrance, faults_so}
+use Rattle.lr_laws_looks.proofs.Quiet.{whole_quiet}
+use Rattle.lr_laws_looks.proofs.Ready.{plans_have_logs, plans_read_own}
+use Rattle.lr_laws_looks.proofs.Seen.{targets_seen, targets_have_names, targets_have_paths}
 use Rattle.lr_run.specs.declared.ready.Ready.{Ready}
 use Rattle.lr_run.specs.Internal.{ReadyFor, MayBeReady, ActsAndWrites, SomeActs, plan_for, SomeWork, some_seen, some_done, EndsBehindLooks, EndsBehindState}
 use Rattle.lr_run.specs.Runs as runs

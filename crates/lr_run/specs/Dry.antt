@@ -19,11 +19,11 @@ use Rattle.lr_plan.specs.declared.plan.Plan.{Plan}
 use Rattle.lr_plan.specs.Planned.{plan_of}
 use Rattle.lr_looks.specs.Found.{paths_of}
 use Rattle.lr_looks.specs.Shown.{ShowsLooks, ShowsSomeLooks}
-use Rattle.lr_reading.specs.declared.remembered.Remembered.{Remembered}
-use Rattle.lr_reading.specs.Answers.{IsKnown}
-use Rattle.lr_reading.specs.Sights.{StateSights, ShowsState}
-use Rattle.lr_record.specs.After.{after}
-use Rattle.lr_record.specs.Measured.{measured_text}
+use Rattle.lr_state.specs.declared.remembered.Remembered.{Remembered}
+use Rattle.lr_state.specs.Known.{IsKnown}
+use Rattle.lr_state.specs.Sights.{StateSights, ShowsState}
+use Rattle.lr_state.specs.After.{after}
+use Rattle.lr_state.specs.Measured.{measured_text}
 use Rattle.lr_looks.specs.Reserved.{reserved_by}
 use Rattle.lr_run.specs.Runs.{logs_in, SomeSeen}
 

@@ -15,8 +15,8 @@ use Rattle.lr_host.specs.Looks.{Sees, IsDir, IsNoDir, IsNotDir, IsNothing}
 use Rattle.lr_host.specs.Told.{Then, Maybe}
 use Rattle.lr_plan.specs.Asked.{Asked}
 use Rattle.lr_looks.specs.Shown.{ShowsSomeLooks}
-use Rattle.lr_reading.specs.Answers.{IsKnown}
-use Rattle.lr_reading.specs.Sights.{StateSights, ShowsState}
+use Rattle.lr_state.specs.Known.{IsKnown}
+use Rattle.lr_state.specs.Sights.{StateSights, ShowsState}
 use Rattle.lr_looks.specs.Reserved.{reserved_by}
 use Rattle.lr_looks.specs.Inside.{Inside}
 use Rattle.lr_run.specs.Runs.{SomeSeen}

@@ -45,15 +45,15 @@ use Rattle.lr_acts.specs.Named.{KeepsNames}
 use Rattle.lr_acts.specs.Taken.{TakenOnly}
 use Rattle.lr_looks.specs.Found.{paths_of}
 use Rattle.lr_looks.specs.Shown.{ShowsLooks, LooksAtAll}
-use Rattle.lr_reading.specs.declared.remembered.Remembered.{Remembered}
-use Rattle.lr_reading.specs.Answers.{IsKnown, ReadsState, TextSaysOnly}
-use Rattle.lr_reading.specs.Sights.{StateSights, ShowsState}
-use Rattle.lr_record.specs.After.{after, stamped}
-use Rattle.lr_record.specs.Measured.{measured_text}
+use Rattle.lr_state.specs.declared.remembered.Remembered.{Remembered}
+use Rattle.lr_state.specs.Known.{IsKnown, ReadsState, TextSaysOnly}
+use Rattle.lr_state.specs.Sights.{StateSights, ShowsState}
+use Rattle.lr_state.specs.After.{after, stamped}
+use Rattle.lr_state.specs.Measured.{measured_text}
 use Rattle.lr_writing.specs.Target.{StateTarget}
 use Rattle.lr_looks.specs.Reserved.{reserved_by}
-use Rattle.lr_synced.specs.Before.{IsBy}
-use Rattle.lr_synced.specs.Synced.{AreSynced}
+use Rattle.lr_writing.specs.Before.{IsBy}
+use Rattle.lr_writing.specs.Synced.{AreSynced}
 use Rattle.lr_run.specs.declared.answer.RunStop.{RunStop}
 use Rattle.lr_run.specs.declared.answer.RunStop.TheVariants as stop
 use Rattle.lr_run.specs.declared.ready.Ready.{Ready}

@@ -5,8 +5,8 @@ use Rattle.lr_rules.specs.Match.{WordGives}
 use Rattle.lr_rules.specs.Names.{naming_of}
 use Rattle.lr_host.specs.Lists.{IsIn}
 use Rattle.lr_plan.specs.declared.plan.Plan.{Plan}
-use Rattle.lr_laws_targets.specs.Target.{Target, GoesBy}
-use Rattle.lr_seen.specs.Planned.{targets_in}
+use Rattle.lr_laws_rotations.specs.Target.{Target, GoesBy}
+use Rattle.lr_laws_looks.specs.Planned.{targets_in}
 
 -- A word of one of the rules gives the log, with this naming, count and age, and the log goes by the rule's way.
 pub record IsGivenBy (rules : List Rule) (t : Target) : Type 0 where

@@ -14,11 +14,11 @@ use Rattle.lr_plan.specs.Planned.{decision}
 use Rattle.lr_laws_family.specs.Made.{AttachedFarOnly}
 use Rattle.lr_laws_family.specs.Members.{AreThere}
 use Rattle.lr_laws_family.specs.Turned.{IsTurned}
-use Rattle.lr_laws_targets.specs.AllTurns.{paths_beside}
-use Rattle.lr_laws_targets.specs.Rotation.{rotation_by}
-use Rattle.lr_laws_targets.specs.Target.{Target}
-use Rattle.lr_seen.specs.Planned.{targets_in}
-use Rattle.lr_seen.specs.Targets.{all_targets}
+use Rattle.lr_laws_rotations.specs.AllTurns.{paths_beside}
+use Rattle.lr_laws_rotations.specs.Rotation.{rotation_by}
+use Rattle.lr_laws_rotations.specs.Target.{Target}
+use Rattle.lr_laws_looks.specs.Planned.{targets_in}
+use Rattle.lr_laws_looks.specs.Targets.{all_targets}
 use Rattle.lr_run.specs.Runs.{Looked}
 
 -- those of the plan that follows from these looks and this table

@@ -30,13 +30,13 @@ use Rattle.lr_plan.specs.Steps.{steps_of_plan}
 use Rattle.lr_looks.specs.Found.{paths_of}
 use Rattle.lr_looks.specs.Inside.{Inside}
 use Rattle.lr_looks.specs.Shown.{ShowsLooks, ShowsSomeLooks}
-use Rattle.lr_reading.specs.declared.remembered.Remembered.{Remembered}
-use Rattle.lr_reading.specs.Answers.{IsKnown}
-use Rattle.lr_reading.specs.Sights.{StateSights, ShowsState}
-use Rattle.lr_record.specs.After.{after}
-use Rattle.lr_record.specs.Measured.{measured_text}
+use Rattle.lr_state.specs.declared.remembered.Remembered.{Remembered}
+use Rattle.lr_state.specs.Known.{IsKnown}
+use Rattle.lr_state.specs.Sights.{StateSights, ShowsState}
+use Rattle.lr_state.specs.After.{after}
+use Rattle.lr_state.specs.Measured.{measured_text}
 use Rattle.lr_looks.specs.Reserved.{reserved_by}
-use Rattle.lr_synced.specs.Synced.{all_to_make_of, AreSynced}
+use Rattle.lr_writing.specs.Synced.{all_to_make_of, AreSynced}
 
 -- ---- the paths of a plan
 

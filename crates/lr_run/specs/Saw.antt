@@ -16,10 +16,10 @@ use Rattle.lr_plan.specs.Planned.{plan_of}
 use Rattle.lr_looks.specs.Found.{FoundLog, paths_of}
 use Rattle.lr_looks.specs.Shown.{ShowsLooks}
 use Rattle.lr_looks.specs.Sights.{WordSight}
-use Rattle.lr_reading.specs.Answers.{TextSaysOnly, text_read as read_of}
-use Rattle.lr_reading.specs.Sights.{StateSights, ShowsState, found}
-use Rattle.lr_record.specs.After.{after}
-use Rattle.lr_record.specs.Measured.{measured_text}
+use Rattle.lr_state.specs.Known.{TextSaysOnly, text_read as read_of}
+use Rattle.lr_state.specs.Sights.{StateSights, ShowsState, found}
+use Rattle.lr_state.specs.After.{after}
+use Rattle.lr_state.specs.Measured.{measured_text}
 use Rattle.lr_looks.specs.Reserved.{reserved_by}
 use Rattle.lr_run.specs.Runs.{logs_in}
 

@@ -17,7 +17,7 @@ use Rattle.lr_plan.specs.declared.step.Step.{Step}
 use Rattle.lr_plan.specs.Done.{SetDone, rotated_logs}
 use Rattle.lr_plan.specs.Steps.{steps_of_plan, state_steps}
 use Rattle.lr_acts.specs.Making.{HasProgram, all_of_sets}
-use Rattle.lr_synced.specs.Synced.{AreSynced}
+use Rattle.lr_writing.specs.Synced.{AreSynced}
 use Rattle.lr_run.specs.Saw.{Saw, ShowsSaw, plan_by, text_by, measured_by}
 
 -- ---- the value

@@ -7,7 +7,7 @@ ghost use Rattle.lr_acts.specs.Making.{HasProgram, all_of_sets};
 ghost use Rattle.lr_plan.specs.Done.{rotated_logs};
 ghost use Rattle.lr_plan.specs.Asking.{CanMake, CanSets};
 ghost use Rattle.lr_plan.specs.Steps.{state_steps};
-ghost use Rattle.lr_record.specs.After.{stamped};
+ghost use Rattle.lr_state.specs.After.{stamped};
 ghost use Rattle.lr_state.specs.Written.{text_of};
 ghost use Rattle.lr_writing.specs.Writes.{AddsCourse};
 ghost use Rattle.lr_run.specs.Internal.{ActsAndWrites, CanWrite, SomeActs};
@@ -16,11 +16,9 @@ use crate::ready::Ready;
 use lr_acts::{Progress, act};
 use lr_host::Host;
 use lr_plan::Mark;
-use lr_record::stamp;
 use lr_rules::{Civil, Listed, Memory, Path};
-use lr_state::State;
-use lr_synced::synced;
-use lr_writing::{Writing, write_state};
+use lr_state::{State, stamp};
+use lr_writing::{Writing, synced, write_state};
 use std::alloc::Global;
 
 // Writes down one rotation, where the mark tells of one.

@@ -3,12 +3,12 @@ ghost use Rattle.std.specs.Prelude.{◌≡◌, ◌+◌, ◌≤◌, true, Err, If
 ghost use Rattle.std.specs.Vec.{vec_capacity};
 ghost use Rattle.lr_host.specs.Opening.{IsJournal};
 ghost use Rattle.lr_host.specs.Told.{Left, Rose, WhereTold};
-ghost use Rattle.lr_durable.specs.StateWhole.{KeepsWhole};
+ghost use Rattle.lr_laws.specs.StateWhole.{KeepsWhole};
 ghost use Rattle.lr_host.specs.Counted.{WentBy};
-ghost use Rattle.lr_emptied.specs.Emptied.{EmptiesWhole};
+ghost use Rattle.lr_laws_acts.specs.Emptied.{EmptiesWhole};
 ghost use Rattle.lr_laws.specs.Forward.{IsForwardFor};
 ghost use Rattle.lr_laws.specs.Stays.{KeepsSafeWhere};
-ghost use Rattle.lr_laws_targets.specs.Runs.{IsWholeRunBy};
+ghost use Rattle.lr_laws_rotations.specs.Runs.{IsWholeRunBy};
 ghost use Rattle.lr_move.specs.Moved.{KeepsMovedWhere};
 ghost use Rattle.lr_plan.specs.Asked.{asking};
 ghost use Rattle.lr_run.specs.Answers.{HasShortReads};

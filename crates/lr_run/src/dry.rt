@@ -28,9 +28,8 @@ use lr_host::Host;
 use lr_looks::look_all;
 use lr_plan::{Looks, Plan};
 use lr_planning::plan;
-use lr_reading::part_path;
 use lr_rules::{Civil, Clock, Fault, Memory, Path, Rules, Settings};
-use lr_state::State;
+use lr_state::{State, part_path};
 use std::alloc::Global;
 
 // Adds a fault for which there is room.

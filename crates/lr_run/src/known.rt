@@ -6,11 +6,11 @@ ghost use Rattle.lr_rules.specs.declared.fault.Fault.TheVariants as fault;
 ghost use Rattle.lr_rules.specs.declared.path.Path.{Path};
 ghost use Rattle.lr_rules.specs.StatePath.{state_part};
 ghost use Rattle.lr_host.specs.Told.{Left, Onward, Rose};
-ghost use Rattle.lr_reading.specs.Answers.{ReadsState, IsStateFault};
+ghost use Rattle.lr_state.specs.Known.{ReadsState, IsStateFault};
 
 use lr_host::Host;
-use lr_reading::{Remembered, read_state};
 use lr_rules::{Fault, Memory, Path};
+use lr_state::{Remembered, read_state};
 use std::alloc::Global;
 
 /// Looks at the state's file and at its part file, and reads the text, in pieces of at most 65,536 bytes: what is known by

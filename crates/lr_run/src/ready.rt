@@ -5,21 +5,18 @@ ghost use Rattle.lr_acts.specs.Adding.{HasRoom};
 ghost use Rattle.lr_acts.specs.Making.{all_of_sets};
 ghost use Rattle.lr_plan.specs.Steps.{steps_of_plan};
 ghost use Rattle.lr_rules.specs.StatePath.{state_part};
-ghost use Rattle.lr_record.specs.After.{after};
-ghost use Rattle.lr_record.specs.Measured.{measured_text};
+ghost use Rattle.lr_state.specs.After.{after};
+ghost use Rattle.lr_state.specs.Measured.{measured_text};
 ghost use Rattle.lr_run.specs.Runs.{logs_in};
 ghost use Rattle.lr_run.specs.Internal.{IsRunReady, MayBeReady};
 
 use crate::paths::logs_of_plan;
 use lr_acts::{Progress, take_room};
 use lr_plan::{Plan, SetSteps};
-use lr_reading::Remembered;
-use lr_record::{bring_up, fits};
+use lr_planning::steps_of;
 use lr_rules::{Civil, Fault, Listed, Memory, Moment, Path};
-use lr_state::State;
-use lr_steps::steps_of;
-use lr_synced::{Directories, directories_by};
-use lr_writing::{Writing, prepare};
+use lr_state::{Remembered, State, bring_up, fits};
+use lr_writing::{Directories, Writing, directories_by, prepare};
 use std::alloc::Global;
 
 /// All that a run needs for its acts: the steps of its plan, the directories that are synced behind them, the state's

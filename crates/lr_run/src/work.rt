@@ -23,8 +23,8 @@ use lr_host::Host;
 use lr_looks::look_all;
 use lr_plan::{Looks, Plan};
 use lr_planning::plan;
-use lr_reading::{Remembered, part_path};
 use lr_rules::{Clock, Fault, Memory, Path, Rules, Settings, StateKind};
+use lr_state::{Remembered, part_path};
 use std::alloc::Global;
 
 /// Adds the fault of a text that could become too big to be written.

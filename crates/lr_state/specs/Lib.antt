@@ -1,7 +1,13 @@
+pub mod After
 pub mod Answer
 pub mod Given
 pub mod Grammar
+pub mod Internal
+pub mod Known
+pub mod Measured
 pub mod Piece
+pub mod ReadPieces
 pub mod Reading
+pub mod Sights
 pub mod Table
 pub mod Written

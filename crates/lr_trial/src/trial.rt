@@ -9,8 +9,7 @@ ghost use Rattle.lr_nights.specs.Trial.{HasStarts, IsTrialSummary};
 use crate::tool::Tool;
 use lr_host::Sink;
 use lr_memhost::MemHost;
-use lr_nights::{TrialStop, nights};
-use lr_tally::Summary;
+use lr_nights::{Summary, TrialStop, nights};
 use std::alloc::Global;
 
 /// Thirty nights of `logrotate` over so many logs, 1 to 64, on a host that `trial_host` gives: `lr_nights::nights` with the tool

@@ -1,7 +1,12 @@
+pub mod Formats
 pub mod FromPlace
 pub mod KeptNames
+pub mod LogNames
+pub mod Numbers
+pub mod Olddirs
 pub mod Paths
 pub mod Patterns
-pub mod Olddirs
-pub mod LogNames
-pub mod Limits
+pub mod Pieces
+pub mod ReadBack
+pub mod ValueLimits
+pub mod WordLimits

@@ -1,3 +1,5 @@
-pub mod Names
-pub mod Words
+pub mod Formats
 pub mod Lists
+pub mod Names
+pub mod Numbers
+pub mod Words

@@ -13,6 +13,18 @@
 //! let writing = prepare(alloc, &state, part, stale)?;               // behind the looks, before the first change
 //! write_state(&mut host, writing, dirs, &table, &mut faults);       // behind the acts
 //! ```
+//!
+//! The directories that a run syncs before are these, each once, in order of bytes: the directory of each log that the plan
+//! rotates; the directory of the path that it gets, where that stood or was made in this run; and the directory in which such a
+//! one was to be made. One that was to be made and wasn't isn't there, so it isn't synced. All memory is taken by
+//! [`directories_by`], before the first act; behind the acts, [`synced`] takes none. Both take time n log n for n logs and marks.
+//! What they come to is the definition `AreSynced`; `proofs/SyncedLaws.antt` has what follows from it. Begin with
+//! [`directories_by`]:
+//!
+//! ```text
+//! let directories = directories_by(alloc, plan.sets.as_slice())?;       // before the first act
+//! let dirs = synced(directories, progress.marks.as_slice());            // behind the acts
+//! ```
 #![tactic(auto)]
 
 mod buffer;
@@ -20,12 +32,16 @@ mod directories;
 mod laws;
 mod naming;
 mod part;
+mod paths;
 mod refused;
+mod synced_directories;
 mod text;
+mod unmade;
 mod write;
 mod writing;
 
 pub use directories::directories_of;
 pub use laws::{state_is_named_last, whole_writing_names_state, writing_fits};
+pub use synced_directories::{Directories, directories_by, synced};
 pub use write::write_state;
 pub use writing::{Writing, part_of, prepare};

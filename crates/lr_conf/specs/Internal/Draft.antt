@@ -7,7 +7,7 @@ use Rattle.lr_rules.specs.declared.fault.Fault.{Fault}
 use Rattle.lr_rules.specs.declared.fault.Notice.{Notice}
 use Rattle.lr_rules.specs.declared.fault.Phase.{Phase}
 use Rattle.lr_rules.specs.declared.rule.Rule.{Rule}
-use Rattle.lr_fields.specs.declared.fields.Fields.{Fields}
+use Rattle.lr_conf.specs.declared.fields.Fields.{Fields}
 use Rattle.lr_forms.specs.declared.set.Set.TheVariants as set
 use Rattle.lr_forms.specs.declared.said.Said.{Said}
 use Rattle.lr_forms.specs.declared.said.Said.TheVariants as says
@@ -21,15 +21,15 @@ use Rattle.lr_match.specs.declared.taboo.Taboo.{Taboo}
 use Rattle.lr_match.specs.Taboos.{taboo_after}
 use Rattle.lr_conf.specs.declared.draft.Draft.{Draft}
 use Rattle.lr_forms.specs.Says.{line_of, closes, said}
-use Rattle.lr_fields.specs.Fields.{last_or}
-use Rattle.lr_fields.specs.Rules.{rule_of}
-use Rattle.lr_fields.specs.Scripts.{script_fault}
+use Rattle.lr_conf.specs.Fields.{last_or}
+use Rattle.lr_conf.specs.Rules.{rule_of}
+use Rattle.lr_conf.specs.Scripts.{script_fault}
 use Rattle.lr_conf.specs.Meaning.{Line, line_file, Read, Spoiled, End, Cut, OutsideLine, stands, spoiled}
 use Rattle.lr_conf.specs.Meaning.{file_ends, breaks_off, Meaning}
 use Rattle.lr_conf.specs.Meaning.{◌and◌, nothing, told, conf, list_of, of_line, of_spoilt, opened, or_line, past, ends, notice_of}
 use Rattle.lr_conf.specs.Meaning.{notice_past, line_faults, line_fault, said_behind, asks, asked, bans, after_bans, banned}
 use Rattle.lr_conf.specs.Stops.{layer_faults, include_of}
-use Rattle.lr_fields.specs.Setting.{default_fields, with_set}
+use Rattle.lr_conf.specs.Setting.{default_fields, with_set}
 
 -- ---- states
 

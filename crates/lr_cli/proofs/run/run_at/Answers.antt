@@ -1,5 +1,5 @@
 use Rattle.std.proofs.Common.{[]}
-use Rattle.lr_placed.proofs.Lasting.{disk_on}
+use Rattle.lr_laws_looks.proofs.Lasting.{disk_on}
 use Rattle.lr_host.proofs.Counts.{onward_on, went_onward}
 use Rattle.lr_host.proofs.Left.{left_first}
 use Rattle.lr_host.specs.Quiet.{AreQuiet}

@@ -1,4 +1,4 @@
-use Rattle.lr_placed.proofs.Lasting.{disk_on}
+use Rattle.lr_laws_looks.proofs.Lasting.{disk_on}
 use Rattle.std.proofs.Common.{Ok, Err}
 use Rattle.lr_host.proofs.Counts.{onward_on}
 use Rattle.lr_cli.proofs.Came.{confs_came, lacks_came}

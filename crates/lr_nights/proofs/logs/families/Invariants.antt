@@ -1,5 +1,5 @@
 use Rattle.std.proofs.Common.{◌≡◌, ℕ, ◌+◌, ◌++◌, All, None}
-use Rattle.lr_tally.specs.Summary.{logs_of}
+use Rattle.lr_nights.specs.Summary.{logs_of}
 use Rattle.lr_nights.specs.Opening.{named_logs_from}
 use Rattle.lr_nights.proofs.logs.families.Given as goal
 

@@ -1,5 +1,5 @@
 use Rattle.std.proofs.Common.{◌≡◌, ◌+◌, ◌<◌, ◌^◌, false, length}
-use Rattle.lr_stream.specs.Streams.{StreamStands, given}
+use Rattle.lr_lex.specs.Streams.{StreamStands, given}
 use Rattle.lr_rows_words.proofs.streamed.put_pieces.Given as goal
 
 abbrev pub invariant-loop-rest : goal.invariant-loop-rest

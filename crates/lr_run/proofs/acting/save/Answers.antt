@@ -2,7 +2,7 @@ use Rattle.std.proofs.Common.{List, map, drop, ap, ◌∙◌, subst}
 use Rattle.lr_plan.specs.declared.mark.Mark.{Mark}
 use Rattle.lr_plan.specs.Done.{rotated_logs}
 use Rattle.lr_plan.specs.Steps.{state_steps}
-use Rattle.lr_record.specs.After.{stamped}
+use Rattle.lr_state.specs.After.{stamped}
 use Rattle.lr_state.specs.Table.{Entry as Row}
 use Rattle.lr_state.specs.Written.{text_of}
 use Rattle.lr_writing.specs.Writes.{AddsCourse}

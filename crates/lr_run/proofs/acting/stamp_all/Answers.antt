@@ -1,5 +1,5 @@
 use Rattle.std.proofs.Common.{sym}
-use Rattle.lr_record.proofs.After.{none_stamped}
+use Rattle.lr_state.proofs.After.{none_stamped}
 use Rattle.lr_run.proofs.Carrying.{one_more_stamp}
 use Rattle.lr_run.proofs.acting.stamp_all.Goals as goal
 

@@ -1,8 +1,8 @@
 use Rattle.std.proofs.Common.{◌≡◌, ◌∷◌, [], map, sym, subst}
 use Rattle.lr_plan.specs.declared.mark.Mark.{Mark}
 use Rattle.lr_plan.specs.Done.{rotated_logs}
-use Rattle.lr_record.specs.After.{stamped}
-use Rattle.lr_record.proofs.After.{none_stamped}
+use Rattle.lr_state.specs.After.{stamped}
+use Rattle.lr_state.proofs.After.{none_stamped}
 use Rattle.lr_run.proofs.acting.stamp_mark.Goals as goal
 
 pub returns-in-Directory : goal.returns-in-Directory

@@ -1,5 +1,5 @@
 use Rattle.lr_host.proofs.Left.{left_as}
-use Rattle.lr_laws_targets.proofs.RunSafety.{all_safe}
+use Rattle.lr_laws_rotations.proofs.RunSafety.{all_safe}
 use Rattle.lr_plan.specs.Asked.{asking}
 use Rattle.lr_run.proofs.Evidence.{answers_of}
 use Rattle.lr_run.proofs.Short.{answers_short, dry_short}

@@ -1,5 +1,5 @@
 use Rattle.lr_host.proofs.Left.{left_first}
-use Rattle.lr_reading.specs.Answers.{ReadsState}
+use Rattle.lr_state.specs.Known.{ReadsState}
 use Rattle.lr_run.proofs.Works.{reads_none}
 use Rattle.lr_run.proofs.known.known_state.Goals as goal
 

@@ -1,4 +1,4 @@
-use Rattle.lr_placed.proofs.Lasting.{disk_on}
+use Rattle.lr_laws_looks.proofs.Lasting.{disk_on}
 use Rattle.lr_plan.specs.Asked.{asking}
 use Rattle.lr_run.proofs.Coming.{goes}
 use Rattle.lr_run.proofs.Ending.{went_locked}

@@ -4,7 +4,7 @@ use Rattle.lr_host.proofs.Counts.{went_behind}
 use Rattle.lr_host.proofs.Left.{can_as}
 use Rattle.lr_family.specs.declared.directory.DirStop.TheVariants as dir
 use Rattle.lr_family.proofs.Whole.{seen_as}
-use Rattle.lr_placed.proofs.Lasting.{disk_on}
+use Rattle.lr_laws_looks.proofs.Lasting.{disk_on}
 use Rattle.lr_plan.specs.Asked.{asking}
 use Rattle.lr_run.proofs.Ending.{dir_went}
 use Rattle.lr_run.proofs.Parts.{behind_dir, stopped_behind, nothing_there, no_dir}

@@ -1,7 +1,7 @@
 use Rattle.std.proofs.Common.{[], false, Ok, Err, refl, sym, subst}
 use Rattle.lr_host.proofs.Left.{left_as, left_first}
-use Rattle.lr_laws_targets.specs.Runs.{IsWholeRunBy}
-use Rattle.lr_laws_targets.proofs.RunSafety.{all_safe}
+use Rattle.lr_laws_rotations.specs.Runs.{IsWholeRunBy}
+use Rattle.lr_laws_rotations.proofs.RunSafety.{all_safe}
 use Rattle.lr_plan.specs.Asked.{asking}
 use Rattle.lr_run.specs.declared.answer.Ran.{Ran}
 use Rattle.lr_run.specs.declared.answer.RunStop.TheVariants as stop

@@ -1,6 +1,6 @@
 use Rattle.std.proofs.Common.{Some, ap, ◌∙◌}
 use Rattle.lr_host.proofs.Counts.{went_as}
-use Rattle.lr_placed.proofs.Lasting.{disk_on}
+use Rattle.lr_laws_looks.proofs.Lasting.{disk_on}
 use Rattle.lr_plan.specs.Asked.{asking}
 use Rattle.lr_run.proofs.Placing.{fits_behind_acts}
 use Rattle.lr_run.proofs.Doing.{carried_out, too_big_told}

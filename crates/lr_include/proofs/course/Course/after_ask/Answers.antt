@@ -1,5 +1,5 @@
 use Rattle.std.proofs.Common.{sym, subst}
-use Rattle.lr_visits.specs.declared.visit.Visit.{Visit}
+use Rattle.lr_include.specs.declared.visit.Visit.{Visit}
 use Rattle.lr_include.specs.Stages.{after_ask, telling}
 use Rattle.lr_include.specs.Course.{StandsAt}
 use Rattle.lr_rules.specs.declared.fault.ConfKind.{ConfKind}

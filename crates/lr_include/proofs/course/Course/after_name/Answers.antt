@@ -1,7 +1,7 @@
 use Rattle.std.proofs.Common.{sym, subst}
 use Rattle.lr_rules.specs.declared.fault.ConfKind.{ConfKind}
 use Rattle.lr_conf.specs.Meaning.{conf}
-use Rattle.lr_visits.specs.declared.visit.Visit.{Visit}
+use Rattle.lr_include.specs.declared.visit.Visit.{Visit}
 use Rattle.lr_include.specs.Stages.{behind_names, after_name, telling}
 use Rattle.lr_include.specs.Course.{StandsAt}
 use Rattle.lr_include.proofs.Readers.{on_ok_as}

@@ -1,6 +1,0 @@
-use Rattle.std.proofs.Common.{◌≡◌, ◌++◌, take}
-use Rattle.lr_commands.specs.Commands.{behind_spaces}
-use Rattle.lr_commands.proofs.words.add_words.Given as goal
-
-abbrev pub invariant-loop-word : goal.invariant-loop-word
-invariant-loop-word l = record { added : l.line.items ≡ l.initial.line.items ++ behind_spaces (take l.word-index l.words) }

@@ -1,6 +1,0 @@
-pub mod Cutting
-pub mod Examples
-mod Filled
-mod Logs
-pub mod Moments
-pub mod Named

@@ -1,5 +1,0 @@
-use Rattle.lr_copied.proofs.Cutting.{whole_before_cut}
-use Rattle.lr_copied.proofs.laws.copy_is_whole_before_cut.Goals as goal
-
-pub returns : goal.returns
-returns c = whole_before_cut

@@ -1,6 +1,0 @@
-use Rattle.std.proofs.Common.{◌≡◌}
-use Rattle.lr_durable.proofs.Whole.{whole_at}
-use Rattle.lr_durable.proofs.laws.state_stays_whole.Goals as goal
-
-pub returns : goal.returns
-returns c = λ state text p q es. whole_at state (λ bytes. bytes ≡ text) p q es

@@ -1,3 +1,0 @@
-pub mod Renewing
-pub mod StateWhole
-pub mod Worked

@@ -1,5 +1,0 @@
-mod Both
-mod Naming
-mod OneLog
-mod Seen
-mod TwoLogs

@@ -1,5 +1,0 @@
-use Rattle.lr_fields.proofs.Settings.{fields-push}
-use Rattle.lr_fields.proofs.laws.one_more_setting.Goals as goal
-
-pub returns : goal.returns
-returns c earlier s = fields-push earlier s

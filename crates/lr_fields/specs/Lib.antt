@@ -1,4 +1,0 @@
-pub mod Fields
-pub mod Setting
-pub mod Rules
-pub mod Scripts

@@ -1,5 +1,0 @@
-use Rattle.lr_fixed.proofs.Run.{runs_one}
-use Rattle.lr_fixed.proofs.laws.faults_are_fixed.Goals as goal
-
-pub returns : goal.returns
-returns c = runs_one

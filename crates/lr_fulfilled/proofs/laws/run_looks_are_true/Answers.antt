@@ -1,5 +1,0 @@
-use Rattle.lr_fulfilled.proofs.Truth.{run_looks_true}
-use Rattle.lr_fulfilled.proofs.laws.run_looks_are_true.Goals as goal
-
-pub returns : goal.returns
-returns c = run_looks_true

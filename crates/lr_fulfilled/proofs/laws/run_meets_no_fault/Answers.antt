@@ -1,8 +1,0 @@
-use Rattle.lr_fulfilled.proofs.Failing.{logs_met_nothing, run_met_nothing}
-use Rattle.lr_fulfilled.proofs.laws.run_meets_no_fault.Goals as goal
-
-pub returns-clause-all : goal.returns-clause-all
-returns-clause-all c = run_met_nothing
-
-pub returns-clause-logs : goal.returns-clause-logs
-returns-clause-logs c = logs_met_nothing

@@ -1,0 +1,10 @@
+pub mod Copied
+pub mod Emptied
+pub mod EmptiedWorked
+pub mod Fitting
+pub mod Jobs
+pub mod LetGo
+pub mod Parts
+pub mod Planned
+pub mod Steps
+pub mod TurnedWorked

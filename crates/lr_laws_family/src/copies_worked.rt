@@ -1,0 +1,30 @@
+// A log that is copied, worked through.
+ghost use Rattle.std.specs.Prelude.{◌≡◌};
+ghost use Rattle.lr_host.specs.Opening.{IsJournal};
+ghost use Rattle.lr_host.specs.World.{Opens};
+ghost use Rattle.lr_laws.specs.Chain.{log, third, found};
+ghost use Rattle.lr_laws_family.specs.Whole.{IsCopyWhole};
+ghost use Rattle.lr_laws_family.specs.CopiesWorked.{in_order, name_pending, bytes_pending, read_on};
+
+/// Where the part file is synced, then gets the final path, and then the directory is synced, the copy is whole.
+pub fn in_order_is_whole()
+    ensures { IsCopyWhole log third (Opens found) in_order }
+{}
+
+/// Where the directory isn't synced, a cut may leave nothing at the final path.
+pub fn pending_name_is_not_whole()
+    ensures journal { IsJournal name_pending }
+    ensures lost { IsCopyWhole log third (Opens found) name_pending → ⊥ }
+{}
+
+/// Where the part file isn't synced, a cut may leave it without its bytes.
+pub fn pending_bytes_are_not_whole()
+    ensures journal { IsJournal bytes_pending }
+    ensures lost { IsCopyWhole log third (Opens found) bytes_pending → ⊥ }
+{}
+
+/// Where the log is read on behind its copy, and what that read gave isn't copied, the copy isn't whole.
+pub fn read_on_is_not_whole()
+    ensures journal { IsJournal read_on }
+    ensures lost { IsCopyWhole log third (Opens found) read_on → ⊥ }
+{}

@@ -1,0 +1,10 @@
+pub mod Acts
+pub mod Ending
+pub mod Fulfilled
+pub mod Left
+pub mod Listings
+pub mod Looked
+pub mod Rest
+pub mod Smooth
+pub mod Tried
+pub mod Truth

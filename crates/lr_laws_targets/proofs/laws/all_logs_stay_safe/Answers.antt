@@ -1,8 +1,0 @@
-use Rattle.lr_laws_targets.proofs.RunSafety.{all_safe, all_safe_aside}
-use Rattle.lr_laws_targets.proofs.laws.all_logs_stay_safe.Goals as goal
-
-pub returns-clause-renamed : goal.returns-clause-renamed
-returns-clause-renamed c = all_safe
-
-pub returns-clause-aside : goal.returns-clause-aside
-returns-clause-aside c = all_safe_aside

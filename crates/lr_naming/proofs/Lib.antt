@@ -1,3 +1,0 @@
-mod AsidePath
-mod AsideTest
-mod FromWord

@@ -1,5 +1,0 @@
-use Rattle.lr_placed.proofs.Placed.{state_placed}
-use Rattle.lr_placed.proofs.laws.state_has_its_place.Goals as goal
-
-pub returns : goal.returns
-returns c = state_placed c.targets_are_free.ensures

@@ -1,5 +1,0 @@
-use Rattle.lr_read_fixed.proofs.OneReading.{readings_one}
-use Rattle.lr_read_fixed.proofs.laws.visits_are_fixed.Goals as goal
-
-pub returns : goal.returns
-returns c = λ paths m n ts us vs ws g h p q e. readings_one paths m n ts us vs ws g h p q e

@@ -1,5 +1,0 @@
-use Rattle.lr_reading.proofs.Quiet.{state_quiet}
-use Rattle.lr_reading.proofs.laws.states_are_read_quietly.Goals as goal
-
-pub returns : goal.returns
-returns c state size sights ts h = state_quiet state size sights ts h

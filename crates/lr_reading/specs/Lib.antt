@@ -1,4 +1,0 @@
-pub mod Answers
-pub mod Internal
-pub mod Pieces
-pub mod Sights

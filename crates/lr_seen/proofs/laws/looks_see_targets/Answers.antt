@@ -1,8 +1,0 @@
-use Rattle.lr_seen.proofs.Seen.{targets_seen, targets_have_names}
-use Rattle.lr_seen.proofs.laws.looks_see_targets.Goals as goal
-
-pub returns-clause-seen : goal.returns-clause-seen
-returns-clause-seen c = λ reserved. targets_seen
-
-pub returns-clause-names : goal.returns-clause-names
-returns-clause-names c = λ reserved. targets_have_names

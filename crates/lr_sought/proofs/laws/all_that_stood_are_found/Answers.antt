@@ -1,5 +1,0 @@
-use Rattle.lr_sought.proofs.Stood.{stood_is_found, literal_is_found}
-use Rattle.lr_sought.proofs.laws.all_that_stood_are_found.Goals as goal
-
-pub returns : goal.returns
-returns c = record { file = stood_is_found; literal = literal_is_found }

@@ -1,5 +1,0 @@
-pub mod All
-mod Families
-mod Members
-mod Sought
-mod Words

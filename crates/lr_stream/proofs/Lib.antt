@@ -1,9 +1,0 @@
-pub mod Alone
-pub mod Left
-pub mod Filling
-pub mod Finding
-pub mod Further
-pub mod Passing
-pub mod Sofar
-pub mod Stepping
-pub mod Telling

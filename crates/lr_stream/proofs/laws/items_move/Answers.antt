@@ -1,5 +1,0 @@
-use Rattle.lr_stream.proofs.Further.{items_moved}
-use Rattle.lr_stream.proofs.laws.items_move.Goals as goal
-
-pub returns : goal.returns
-returns c = λ number at down by text. items_moved down by number at text

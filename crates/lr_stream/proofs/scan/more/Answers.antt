@@ -1,5 +1,0 @@
-use Rattle.lr_stream.proofs.Passing.{filled_same}
-use Rattle.lr_stream.proofs.scan.more.Goals as goal
-
-pub returns-in-Ok-clause-filled : goal.returns-in-Ok-clause-filled
-returns-in-Ok-clause-filled c = filled_same c.args.held.now c.fill.new.held c.fill.ensures.filled

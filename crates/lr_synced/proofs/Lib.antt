@@ -1,4 +1,0 @@
-pub mod Kept
-pub mod Laws
-mod Striking
-pub mod Telling

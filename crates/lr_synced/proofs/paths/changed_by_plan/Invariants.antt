@@ -1,6 +1,0 @@
-use Rattle.std.proofs.Common.{◌≡◌, take}
-use Rattle.lr_synced.specs.Synced.{all_changed_of}
-use Rattle.lr_synced.proofs.paths.changed_by_plan.Given as goal
-
-abbrev pub invariant-loop-set : goal.invariant-loop-set
-invariant-loop-set l = record { paths : l.paths.items ≡ all_changed_of (take l.set-index l.sets) }

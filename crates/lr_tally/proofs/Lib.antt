@@ -1,6 +1,0 @@
-mod Entries
-mod Generations
-mod Lists
-mod Marked
-mod Paths
-mod Sets

@@ -1,4 +1,0 @@
-pub mod Counting
-pub mod Marks
-pub mod Summary
-pub mod Walk

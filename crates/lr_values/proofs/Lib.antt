@@ -1,5 +1,0 @@
-pub mod Numbers
-pub mod Pieces
-pub mod Formats
-pub mod Limits
-pub mod ReadBack

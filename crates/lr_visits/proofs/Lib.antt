@@ -1,5 +1,0 @@
-pub mod Going
-pub mod Telling
-pub mod Texts
-pub mod Visiting
-pub mod Whole
