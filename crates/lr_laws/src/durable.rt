@@ -16,15 +16,13 @@ ghost use Rattle.lr_laws.specs.StateWhole.{IsSettled, WritersSpareState, IsWhole
 /// cut that is allowed then, whatever writers do that spare it; and where it is the new one, all changes of names that the
 /// tool made before are applied.
 pub fn state_stays_whole()
-    ensures { (state : Path) (text : List ℕ) (p q : Past) (es : List Entry) → Made p es q → IsJournal p
+    ensures whole { (state : Path) (text : List ℕ) (p q : Past) (es : List Entry) → Made p es q → IsJournal p
         → MayRenew state (λ bytes. bytes ≡ text) (reverse es) → IsSettled state p → WritersSpareState state p q
         → (u : Past) → IsPrefix p u → IsPrefix u q → IsWholeAt state (λ bytes. bytes ≡ text) p u }
-{}
 
-/// Behind a writing that was made whole, up to the sync of the state's directory, the state is settled: so the law above holds
-/// of the next call too.
-pub fn written_state_is_settled()
-    ensures { (state : Path) (dirs : List Path) (text : List ℕ) (p q : Past) (es : List Entry) → Made p es q → IsJournal p
+    // Behind a writing that was made whole, up to the sync of the state's directory, the state is settled: so the clause above
+    // holds of the next call too.
+    ensures settled { (state : Path) (dirs : List Path) (text : List ℕ) (p q : Past) (es : List Entry) → Made p es q → IsJournal p
         → IsWritten state dirs text (reverse es) → WritersSpareState state p q → IsSettled state q }
 {}
 

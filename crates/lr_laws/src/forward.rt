@@ -14,13 +14,11 @@ ghost use Rattle.lr_laws.specs.Forward.{IsForwardBy, IsNextSerial};
 /// Where the moments of a dated set haven't gone ahead of this one, no member is later than that of this moment with the
 /// serial number that comes next.
 pub fn moment_is_forward()
-    ensures { (s : LogSet) (p : Past) (seconds : ℤ) (serial : ℕ) → order s ≡ Dated → IsForwardBy s p seconds
+    ensures moment { (s : LogSet) (p : Past) (seconds : ℤ) (serial : ℕ) → order s ≡ Dated → IsForwardBy s p seconds
         → IsNextSerial s.naming (names (world p)) seconds serial → serial ≤ 4294967295 → IsForward s p (stamp_key seconds serial) }
-{}
 
-/// No later member comes to a dated set by an entry of a writer that attaches none, by one of the tool that changes
-/// nothing, or by one on no path of the set.
-pub fn forward_goes_on()
+    // No later member comes to a dated set by an entry of a writer that attaches none, by one of the tool that changes nothing,
+    // or by one on no path of the set.
     ensures writers { (s : LogSet) (p : Past) (e : Entry) (newest : ℤ) → IsWriters e → AttachesNoMember s e
         → IsForward s p newest → IsForward s (p ▸ e) newest }
     ensures quiet { (s : LogSet) (p : Past) (e : Entry) (newest : ℤ) → ChangesNothing e → IsForward s p newest

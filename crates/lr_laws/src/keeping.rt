@@ -11,25 +11,21 @@ ghost use Rattle.lr_host.specs.Steady.{AttachesNoMember};
 ghost use Rattle.lr_host.specs.Quiet.{ChangesNothing, ChangesSomething};
 ghost use Rattle.lr_laws.specs.Follow.{MayFollow, IsElsewhere};
 
-/// A writer's entry keeps what is kept; of a dated set, where it attaches no member.
-pub fn writers_keep()
-    ensures { (s : LogSet) (p : Past) (e : Entry) → IsJournal (p ▸ e) → NoneToLog s p → IsKept s p → IsWriters e
+/// What is kept stays so behind each entry that meets the condition of its kind.
+pub fn entries_keep()
+    // A writer's entry keeps what is kept; of a dated set, where it attaches no member.
+    ensures writers { (s : LogSet) (p : Past) (e : Entry) → IsJournal (p ▸ e) → NoneToLog s p → IsKept s p → IsWriters e
         → (order s ≡ Dated → AttachesNoMember s e) → IsKept s (p ▸ e) }
-{}
 
-/// An entry of the tool that changes no name and no byte keeps what is kept: without a condition.
-pub fn quiet_keeps()
-    ensures { (s : LogSet) (p : Past) (e : Entry) → IsKept s p → ChangesNothing e → IsKept s (p ▸ e) }
-{}
+    // An entry of the tool that changes no name and no byte keeps what is kept: without a condition.
+    ensures quiet { (s : LogSet) (p : Past) (e : Entry) → IsKept s p → ChangesNothing e → IsKept s (p ▸ e) }
 
-/// An entry of the tool that changes a name or bytes keeps what is kept under the condition of its kind.
-pub fn changes_keep()
-    ensures { (s : LogSet) (p : Past) (e : Entry) → IsJournal (p ▸ e) → NoneToLog s p → IsKept s p → ChangesSomething e
+    // An entry of the tool that changes a name or bytes keeps what is kept under the condition of its kind.
+    ensures changes { (s : LogSet) (p : Past) (e : Entry) → IsJournal (p ▸ e) → NoneToLog s p → IsKept s p → ChangesSomething e
         → MayFollow s p e → IsKept s (p ▸ e) }
-{}
 
-/// It does so without a condition where its paths are neither the log, nor where it waits while it is set aside, nor members.
-pub fn elsewhere_keeps()
-    ensures { (s : LogSet) (p : Past) (e : Entry) → IsJournal (p ▸ e) → NoneToLog s p → IsKept s p → ChangesSomething e
+    // It does so without a condition where its paths are neither the log, nor where it waits while it is set aside, nor
+    // members.
+    ensures elsewhere { (s : LogSet) (p : Past) (e : Entry) → IsJournal (p ▸ e) → NoneToLog s p → IsKept s p → ChangesSomething e
         → IsElsewhere s e → IsKept s (p ▸ e) }
 {}

@@ -35,13 +35,11 @@ pub fn cut_stays_safe()
 /// members below the limit move up, highest place first, then the log, which is a file there, or it is set aside, or what
 /// waits there is taken up again; those past the count or too old go. Of the entries aside nothing else is asked.
 pub fn rotation_stays_safe()
-    ensures { (s : LogSet) (p q : Past) (limit : ℕ) (es : List Entry) → order s ≡ Numbered → IsJournal p → IsSafe s p
+    ensures entries { (s : LogSet) (p q : Past) (limit : ℕ) (es : List Entry) → order s ≡ Numbered → IsJournal p → IsSafe s p
         → MayMoveOn s p limit → Made p es q → LogFits s (names (world p)) es → IsRotation s p limit es → NoneAttached s q
         → IsSafe s q }
-{}
 
-/// Over calls that leave the change entries of a first part of these steps, each set is safe of which they are a rotation.
-pub fn steps_stay_safe()
-    ensures { (steps : List Entry) (ok : Bool) (before after : Option Journal) → Left (TookSteps steps ok) before after
+    // Over calls that leave the change entries of a first part of these steps, each set is safe of which they are a rotation.
+    ensures calls { (steps : List Entry) (ok : Bool) (before after : Option Journal) → Left (TookSteps steps ok) before after
         → CanAll before steps → StaysSafe (Rotates steps) before after }
 {}

@@ -18,5 +18,5 @@ mod weave;
 pub use emptied::{acts_empty_copied, copies_are_whole};
 pub use emptied_worked::emptied_at_once_is_not_whole;
 pub use turned::copied_log_rotates;
-pub use turned_worked::{left_aside_is_not_let_go, unlinked_log_is_not_kept};
+pub use turned_worked::family_is_not_turned;
 pub use weave::acts_turn_all;

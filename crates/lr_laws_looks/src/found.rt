@@ -28,11 +28,9 @@ pub fn all_that_stood_are_found()
         → Made p es q → Comes word room (Ok found) (reverse es)
         → path_fault (literal_path word) ≡ None → names (world p) (literal_path word) ≢ thing.Nothing
         → (f : Found) × (found ≡ f ∷ []) × (f.path ≡ literal_path word) }
-{}
 
-/// The paths that it finds are in order of bytes, and none of them stands twice.
-pub fn found_are_in_order()
-    ensures { (p q : Past) (es : List Entry) (word : List ℕ) (room : ℕ) (found : List Found) → Made p es q
+    // The paths that it finds are in order of bytes, and none of them stands twice.
+    ensures order { (p q : Past) (es : List Entry) (word : List ℕ) (room : ℕ) (found : List Found) → Made p es q
         → Comes word room (Ok found) (reverse es)
         → IsStrictlySortedBy (slice_cmp nat_cmp) (map (λ f. f.path) found) }
 {}

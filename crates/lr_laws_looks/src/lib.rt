@@ -16,7 +16,7 @@ mod place;
 mod targets;
 mod truth;
 
-pub use found::{all_that_stood_are_found, found_are_in_order};
+pub use found::all_that_stood_are_found;
 pub use place::state_has_its_place;
 pub use targets::{kept_are_apart, looks_see_targets, targets_are_free};
 pub use truth::looks_are_true;

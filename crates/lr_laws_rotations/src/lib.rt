@@ -18,6 +18,6 @@ mod rotation;
 mod targets;
 mod two_logs;
 
-pub use rotation::{rotation_is_aside, rotation_is_one};
-pub use targets::{all_logs_stay_safe, dated_log_turns};
-pub use two_logs::{two_logs_are_rotated, two_logs_turn};
+pub use rotation::rotation_is_one;
+pub use targets::all_logs_stay_safe;
+pub use two_logs::two_logs_turn;

@@ -32,18 +32,17 @@ ghost use Rattle.lr_laws_rotations.specs.Steps.{bare_steps};
 /// haven't gone ahead of the clock's stamp. What goes is what a rule of the log lets go by this count and by this age, before
 /// the run's moment, which is the clock's. What is renamed is the log, or a file where the log waits that was set aside.
 pub fn rotation_is_one()
-    ensures { (clock : Clock) (s : LogSet) (log : Path) → IsUnplaced s log → IsFamily log s.naming → (c : Count)
+    ensures one { (clock : Clock) (s : LogSet) (log : Path) → IsUnplaced s log → IsFamily log s.naming → (c : Count)
         (maxage : Option ℕ) (anew : Make) (stand : Stand) (p q : Past) (es : List Entry) → IsFamily s.log s.naming
         → s.naming.start ≤ 999999 → IsCount c → IsJournal p → NoneAttached s q → Made p es q → AreQuiet es
         → SawFile log (reverse es) → Shown s.naming stand.members (reverse es)
         → what_hinders s.naming c clock stand ≡ [] → has_begun s q ≡ false → IsSafe s q → IsForwardFor clock s q
         → (world q).now ≡ clock.now.seconds → SomeRule (rules_of q) s.log (λ r. (r.count ≡ c) × (r.maxage ≡ maxage))
         → RotatesSet (bare_steps (ready_of log s.naming c maxage clock anew stand.members)) s q }
-{}
 
-/// They lie aside of each set that the log's doesn't meet.
-pub fn rotation_is_aside()
-    ensures { (clock : Clock) (s : LogSet) (log : Path) (n : Naming) (c : Count) (maxage : Option ℕ) (anew : Make) (stand : Stand)
-        → IsFamily log n → n.start ≤ 999999 → IsCount c → AreNamed n stand.members → what_hinders n c clock stand ≡ []
-        → (Meet s.log s.naming log n → ⊥) → Each (IsAside s) (bare_steps (ready_of log n c maxage clock anew stand.members)) }
+    // They lie aside of each set that the log's doesn't meet.
+    ensures aside { (clock : Clock) (s : LogSet) (log : Path) (n : Naming) (c : Count) (maxage : Option ℕ) (anew : Make)
+        (stand : Stand) → IsFamily log n → n.start ≤ 999999 → IsCount c → AreNamed n stand.members
+        → what_hinders n c clock stand ≡ [] → (Meet s.log s.naming log n → ⊥)
+        → Each (IsAside s) (bare_steps (ready_of log n c maxage clock anew stand.members)) }
 {}

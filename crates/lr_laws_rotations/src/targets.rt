@@ -21,11 +21,9 @@ pub fn all_logs_stay_safe()
         → KeepsSafeWhere (IsForwardFor clock) before after }
     ensures aside { (clock : Clock) (before after : Option Journal) → Left (IsWholeRunBy clock) before after
         → KeepsSafeBy RenameCopy (IsForwardFor clock) before after }
-{}
 
-/// A worked example: a run that looked at a log with dates, of which no member stands, and renamed it to the clock's stamp,
-/// whatever the clock.
-pub fn dated_log_turns()
-    ensures { (rules : Rules) × (rules.sets ≡ rule ∷ [])
+    // A worked example: a run that looked at a log with dates, of which no member stands, and renamed it to the clock's stamp,
+    // whatever the clock.
+    ensures dated_log_turns { (rules : Rules) × (rules.sets ≡ rule ∷ [])
         × ((state : Path) (clock : Clock) → AllTurnsBy state clock rules (looks ++ turn clock ∷ [])) }
 {}

@@ -10,12 +10,10 @@ ghost use Rattle.lr_laws_rotations.specs.TwoLogs.{steps, saves, two_logs_run};
 /// A run that looks at two logs and at both families, and then makes the steps of both rotations up to any one of them,
 /// has the shape of a run over several logs.
 pub fn two_logs_turn()
-    ensures { (clock : Clock) (made rest : List Entry) → steps ≡ made ++ rest → IsWholeRunBy clock (two_logs_run clock made) }
-{}
+    ensures shape { (clock : Clock) (made rest : List Entry) → steps ≡ made ++ rest → IsWholeRunBy clock (two_logs_run clock made) }
 
-/// With all the steps made, both logs were rotated whole, each with the other's steps beside its own; so too where the state
-/// was written behind them.
-pub fn two_logs_are_rotated()
+    // With all the steps made, both logs were rotated whole, each with the other's steps beside its own; so too where the state
+    // was written behind them.
     ensures alone { (clock : Clock) → (t : AllTurnedBy state clock rules (looks ++ (steps ++ Ends ∷ [])))
         × (t.turns.targets ≡ a_target ∷ b_target ∷ []) }
     ensures saved { (clock : Clock) → (t : AllTurnedBy state clock rules (looks ++ (steps ++ (saves ++ Ends ∷ []))))
