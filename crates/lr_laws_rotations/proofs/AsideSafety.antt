@@ -1,5 +1,5 @@
 -- The set of a log stays safe where a run sets the log aside, copies it from there and lets it go, with others between its steps.
-use Rattle.std.proofs.Common.{◌≡◌, ◌≢◌, ◌⊎◌, inl, inr, ⊎_elim, ℕ, Bool, true, false, cond, refl, sym, ◌∙◌, ap, subst, append_assoc, Option, Some, None, List, [], ◌∷◌, ◌++◌, map, reverse, append-nil, ℤ, pos}
+use Rattle.std.proofs.Common.{◌≡◌, ◌≢◌, ◌⊎◌, inl, inr, ⊎_elim, Bool, true, false, cond, refl, sym, ◌∙◌, ap, subst, append_assoc, Option, Some, None, List, [], ◌∷◌, ◌++◌, map, reverse, append-nil, ℤ, pos}
 use Rattle.std.specs.Prelude.{filter, All}
 use Rattle.std.proofs.lemmas.List.{reverse-append, reverse-reverse}
 use Rattle.std.proofs.lemmas.List.Elements.{All-head, All-tail}
@@ -13,22 +13,22 @@ use Rattle.lr_host.specs.declared.thing.Thing.TheVariants as thing
 use Rattle.lr_host.specs.declared.entry.Entry.{Entry}
 use Rattle.lr_host.specs.declared.entry.Entry.TheVariants as entry
 use Rattle.lr_host.specs.declared.entry.Entry.TheVariants.{Renames, Unlinks, Makes, MakesDir}
-use Rattle.lr_host.specs.Fits.{Fits, IsFileAt}
+use Rattle.lr_host.specs.Fits.{Fits}
 use Rattle.lr_host.specs.Lists.{IsIn}
 use Rattle.lr_host.specs.Opening.{IsJournal}
 use Rattle.lr_host.specs.Quiet.{IsQuiet, AreQuiet}
 use Rattle.lr_host.specs.Runs.{rules_of, SomeRule}
 use Rattle.lr_host.specs.Safe.{IsSafe, IsToLog, NoneToLog as NoneBefore}
-use Rattle.lr_host.specs.Sets.{LogSet, Numbered, Dated, order, IsAsideOf, IsUnplaced, in_reach}
+use Rattle.lr_host.specs.Sets.{LogSet, IsAsideOf, in_reach}
 use Rattle.lr_host.specs.Steady.{NoneAttached}
 use Rattle.lr_host.specs.Steps.{changes_of, is_change}
 use Rattle.lr_host.specs.Told.{Each, Made, at_first, by_writer, by_tool}
-use Rattle.lr_host.specs.World.{Past, ◌▸◌, world, Names, put, names, names_after, Change, Moves, changed}
+use Rattle.lr_host.specs.World.{Past, ◌▸◌, world, Names, put, names, names_after, Change}
 use Rattle.lr_host.proofs.Each.{each_append, each_as, each_first, each_reverse, filter_reverse}
 use Rattle.lr_host.proofs.Left.{changes_filter}
 use Rattle.lr_host.proofs.Lists.{from_reverse}
-use Rattle.lr_host.proofs.Looked.{seen_none, nothing_no_file}
-use Rattle.lr_host.proofs.Made.{made_journal, made_on}
+use Rattle.lr_host.proofs.Looked.{seen_none}
+use Rattle.lr_host.proofs.Made.{made_on}
 use Rattle.lr_host.proofs.More.{IsMoreAt}
 use Rattle.lr_host.proofs.Names.{put_here, put_other}
 use Rattle.lr_host.proofs.Quiet.{IsAny, Moment, moment, quiet_more, quiet_still, since_any}
@@ -37,11 +37,11 @@ use Rattle.lr_laws.specs.Follow.{NamesNone}
 use Rattle.lr_laws.specs.Forward.{IsForwardFor}
 use Rattle.lr_laws.specs.Rotation.{IsAside, IsTurn, straight, put_aside, taken_up, IsStep, limit_after, IsRotation, LogFits}
 use Rattle.lr_laws.specs.Stays.{Rotates, RotatesDated, RotatesSet}
-use Rattle.lr_laws.proofs.AsidePath.{GivesLogAlone, aside_gives, WaitsSo, aside_walk}
+use Rattle.lr_laws.proofs.AsidePath.{GivesLogAlone, aside_gives, aside_walk}
 use Rattle.lr_laws.proofs.Calls.{rotation_filter, later_rotation}
 use Rattle.lr_laws.proofs.DatedWalk as dates
 use Rattle.lr_laws.proofs.Going.{safe_on}
-use Rattle.lr_laws.proofs.Reach.{aside_apart, out_log, unplaced_reach, unplaced_no_key}
+use Rattle.lr_laws.proofs.Reach.{aside_apart, out_log, unplaced_reach}
 use Rattle.lr_laws.proofs.Sound.{sound}
 use Rattle.lr_laws.proofs.Stamps.{room_for_one}
 use Rattle.lr_laws.proofs.Walk.{IsSameRun, same_run_on, IsReached, walk, log_filter}
@@ -63,7 +63,7 @@ use Rattle.lr_laws_rotations.specs.Steps.{unlinks, bare_steps}
 use Rattle.lr_laws_rotations.proofs.Behind.{ahead_of, HasCopy, MayRetire, retires_behind}
 use Rattle.lr_laws_rotations.proofs.LogFitting.{IsNoRename, log_fits_on}
 use Rattle.lr_laws_rotations.proofs.SetMembers.{keyless_no_member}
-use Rattle.lr_laws_rotations.proofs.Weaving.{IsApart, IsApartOrMakes, apart_alike, IsWoven, woven, keyed, logged}
+use Rattle.lr_laws_rotations.proofs.Weaving.{IsApart, IsApartOrMakes, apart_alike, IsWoven, woven, keyed}
 use Rattle.lr_laws_rotations.specs.Apart.{HasNames}
 use Rattle.lr_laws_rotations.specs.Rotation.{removal_paths}
 use Rattle.lr_laws_rotations.specs.Seen.{IsLogSeen}

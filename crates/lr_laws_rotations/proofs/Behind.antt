@@ -25,7 +25,7 @@ use Rattle.lr_host.specs.Sets.{LogSet, Numbered, Dated, order, order_of, IsAside
 use Rattle.lr_host.specs.Steady.{NoneAttached}
 use Rattle.lr_host.specs.Steps.{changes_of}
 use Rattle.lr_host.specs.Told.{Made}
-use Rattle.lr_host.specs.World.{Names, put, Moves, changed, Past, world, names, names_after}
+use Rattle.lr_host.specs.World.{Names, Moves, changed, Past, world, names, names_after}
 use Rattle.lr_host.proofs.Names.{put_other}
 use Rattle.lr_host.proofs.Quiet.{quiet_still}
 use Rattle.lr_laws.specs.DatedRotation.{IsDatedRotationBy, IsDatedRetirement}
@@ -42,13 +42,13 @@ use Rattle.lr_family.specs.Spots.{path_at}
 use Rattle.lr_family.proofs.Numbers.{every_from}
 use Rattle.lr_family.proofs.Paths.{places_apart}
 use Rattle.lr_chain.specs.declared.ready.Ready.{Ready}
-use Rattle.lr_chain.specs.DatedReady.{dated_target, all_by, ranked, renamed, with_one}
+use Rattle.lr_chain.specs.DatedReady.{dated_target, all_by, ranked}
 use Rattle.lr_chain.specs.DatedRotation.{Ranked, gone, unlink}
 use Rattle.lr_chain.specs.DatedTurning.{AreFiles, StandSo}
 use Rattle.lr_chain.specs.Hindrances.{what_hinders}
 use Rattle.lr_chain.specs.Prepared.{ready_of}
 use Rattle.lr_chain.specs.Ready.{IsCount, move_step, move_from}
-use Rattle.lr_chain.specs.Rotation.{is_left, is_expired, places_of, leftovers, kept, going, leftover_steps, shift_steps, turn_steps, retired, retire_steps}
+use Rattle.lr_chain.specs.Rotation.{places_of, leftovers, kept, going, leftover_steps, shift_steps, turn_steps, retired, retire_steps}
 use Rattle.lr_chain.specs.Serials.{next_serial}
 use Rattle.lr_chain.specs.Standing.{AreGoing}
 use Rattle.lr_chain.proofs.DatedFalling.{AreKeyed}
@@ -75,7 +75,7 @@ use Rattle.lr_laws_rotations.proofs.Places as places
 use Rattle.lr_laws_rotations.proofs.SetMembers.{set_stands}
 use Rattle.lr_laws_rotations.proofs.Stamped.{day_of, next_free}
 use Rattle.lr_laws_rotations.proofs.Steps.{unlinks_at, moves_at, unlinks_of}
-use Rattle.lr_laws_rotations.proofs.Turning.{key_at, numbered, HasCome, MayLeave, came, retires_alone}
+use Rattle.lr_laws_rotations.proofs.Turning.{key_at, HasCome, MayLeave, came, retires_alone}
 
 -- ---- the names behind entries, the first of them first
 

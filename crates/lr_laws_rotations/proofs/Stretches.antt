@@ -1,12 +1,12 @@
 -- Stretches of a run between the renames of a log that is set aside: over each the set stays safe, and its newest name may be taken.
-use Rattle.std.proofs.Common.{◌≡◌, ◌≢◌, ◌⊎◌, inl, inr, ⊎_elim, ℕ, ◌<◌, true, false, refl, sym, ◌∙◌, ap, subst, arith, Some, List, [], ◌++◌, reverse, append-nil, ℤ, pos}
+use Rattle.std.proofs.Common.{◌≡◌, ◌≢◌, ◌⊎◌, inl, inr, ℕ, ◌<◌, true, false, refl, sym, ◌∙◌, ap, subst, arith, Some, List, [], ◌++◌, reverse, append-nil, ℤ, pos}
 use Rattle.std.specs.Prelude.{filter}
 use Rattle.std.proofs.lemmas.List.{reverse-append}
 use Rattle.lr_rules.specs.declared.path.Path.{Path}
 use Rattle.lr_host.specs.declared.thing.Thing.TheVariants as thing
 use Rattle.lr_host.specs.declared.entry.Entry.{Entry}
 use Rattle.lr_host.specs.declared.entry.Entry.TheVariants.{Renames}
-use Rattle.lr_host.specs.Fits.{Fits, IsFileAt}
+use Rattle.lr_host.specs.Fits.{Fits}
 use Rattle.lr_host.specs.Forward.{IsForward}
 use Rattle.lr_host.specs.Opening.{IsJournal}
 use Rattle.lr_host.specs.Safe.{IsSafe}
@@ -14,10 +14,9 @@ use Rattle.lr_host.specs.Sets.{LogSet, Numbered, Dated, order, IsAsideOf}
 use Rattle.lr_host.specs.Steady.{NoneAttached}
 use Rattle.lr_host.specs.Steps.{changes_of, is_change}
 use Rattle.lr_host.specs.Told.{Each, Made}
-use Rattle.lr_host.specs.World.{Past, ◌▸◌, world, Names, names, names_after, Change, Moves, changed}
+use Rattle.lr_host.specs.World.{Past, ◌▸◌, world, names, names_after, Change}
 use Rattle.lr_host.proofs.Each.{filter_reverse}
 use Rattle.lr_host.proofs.Left.{changes_filter}
-use Rattle.lr_host.proofs.Names.{put_here}
 use Rattle.lr_laws.specs.DatedRotation.{turned_behind, IsDatedRotationBy, IsDatedRetirement}
 use Rattle.lr_laws.specs.Follow.{NamesNone, MayFollow}
 use Rattle.lr_laws.specs.Room.{HasRoomForOne}
