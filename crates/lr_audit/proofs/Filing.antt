@@ -18,6 +18,7 @@ use Rattle.lr_host.specs.declared.entry.Entry.{Entry}
 use Rattle.lr_host.specs.declared.entry.Entry.TheVariants as entry
 use Rattle.lr_host.specs.declared.journal.Journal.{Journal}
 use Rattle.lr_host.specs.Counted.{Went, WentBy}
+use Rattle.lr_host.specs.Listing.{HasListed}
 use Rattle.lr_host.specs.Looks.{Sees, IsNothing}
 use Rattle.lr_host.specs.Quiet.{AreQuiet}
 use Rattle.lr_host.specs.Told.{Left, Counts, Onward, Rose, Then}
@@ -26,7 +27,7 @@ use Rattle.lr_host.proofs.Left.{left_as, left_first, left_then}
 use Rattle.lr_host.proofs.Quiet.{quiet_both, sees_quiet, then_quiet}
 use Rattle.lr_family.specs.declared.stand.StandStop.{StandStop}
 use Rattle.lr_family.specs.declared.stand.StandStop.TheVariants as stop
-use Rattle.lr_family.specs.Listed.{ShowsListing, NotListed, NotListedAt, ShowsNoDir, HasListed}
+use Rattle.lr_family.specs.Listed.{ShowsListing, NotListed, NotListedAt, ShowsNoDir}
 use Rattle.lr_family.specs.Stands.{IsFailedStand}
 use Rattle.lr_audit.specs.Files.{are_path_bytes, paths_in, FileSight, file_path, file_by, fault_by, look_by, sight_file, sight_fault, file_looks, LookedAtEach, ShowsDir, listed, not_listed, no_directory, list_fault, DirSight, IsShown, ShowsDirs, AddsFiles}
 

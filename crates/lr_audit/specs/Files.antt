@@ -10,11 +10,11 @@ use Rattle.lr_rules.specs.Path.{joined, path_fault}
 use Rattle.lr_host.specs.declared.thing.Seen.{Seen}
 use Rattle.lr_host.specs.declared.entry.Entry.{Entry}
 use Rattle.lr_host.specs.declared.entry.Entry.TheVariants as entry
+use Rattle.lr_host.specs.Listing.{is_file_kind}
 use Rattle.lr_host.specs.Told.{Then}
 use Rattle.lr_family.specs.declared.stand.StandStop.{StandStop}
 use Rattle.lr_family.specs.declared.stand.StandStop.TheVariants as stop
 use Rattle.lr_family.specs.Listed.{ShowsListing, NotListed, ShowsNoDir}
-use Rattle.lr_glob.specs.Sights.{is_file_kind}
 
 -- the bytes are a path
 abbrev pub are_path_bytes : List ℕ → Bool

@@ -12,7 +12,7 @@ use Rattle.std.proofs.lemmas.List.{get_or-drop, get_or-take, take_all, length-dr
 use Rattle.std.proofs.lemmas.List.MinMax.{ranks_by}
 use Rattle.std.proofs.lemmas.List.Sorted.{sorted_far, searchable_from_sorted}
 use Rattle.std.proofs.lemmas.Slice.Eq.{starts_is}
-use Rattle.lr_family.specs.Listed.{NamesRise}
+use Rattle.lr_host.specs.Listing.{NamesRise}
 
 abbrev pub before : List ℕ → List ℕ → Bool
 before base name = is_lt (slice_cmp nat_cmp name base)

@@ -17,6 +17,7 @@ use Rattle.lr_host.specs.declared.entry.Entry.TheVariants as entry
 use Rattle.lr_host.specs.declared.journal.Journal.{Journal}
 use Rattle.lr_host.specs.World.{World, world, names}
 use Rattle.lr_host.specs.Fits.{Sees as TrulySees}
+use Rattle.lr_host.specs.Listing.{HasListed}
 use Rattle.lr_host.specs.Told.{Left, Can}
 use Rattle.lr_host.proofs.Left.{left_first, left_as, left_then, left_both}
 use Rattle.lr_host.proofs.Known.{entry_says}
@@ -30,7 +31,7 @@ use Rattle.lr_family.specs.declared.directory.DirStop.TheVariants as stopped
 use Rattle.lr_family.specs.Spots.{AreSpots}
 use Rattle.lr_host.specs.Looks.{Sees, IsNothing, IsDir, IsNoDir, is_dir}
 use Rattle.lr_family.specs.Among.{StandsAmong, ShowsMembers, ShowsIn, ShowsNoneIn}
-use Rattle.lr_family.specs.Listed.{HasListed, ShowsListing, NotListed}
+use Rattle.lr_family.specs.Listed.{ShowsListing, NotListed}
 use Rattle.lr_family.specs.Looks.{ShowsSpots}
 use Rattle.lr_family.specs.Parts.{PartsAmong, ShowsParts, ShowsNoParts}
 use Rattle.lr_family.specs.Standing.{ShowsStand, ShowsStop}

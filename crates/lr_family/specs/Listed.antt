@@ -1,28 +1,15 @@
 -- What a listing of a directory shows, and why there is none.
-use Rattle.std.specs.Prelude.{◌≡◌, ◌⊎◌, ◌↔◌, ◌≤◌, ℕ, Bool, true, false, List, [], ◌∷◌, length, Result, Err}
-use Rattle.std.specs.List.Sorted.{IsPermutation, IsSortedByKey}
-use Rattle.std.specs.Ordering.{nat_cmp}
-use Rattle.std.specs.Cmp.Lexicographic.{slice_cmp}
+use Rattle.std.specs.Prelude.{◌≡◌, ◌⊎◌, ◌↔◌, ◌≤◌, ℕ, Bool, true, false, List, [], length, Result, Err}
 use Rattle.lr_rules.specs.declared.path.Path.{Path}
 use Rattle.lr_rules.specs.declared.fault.CallKind.{CallKind}
 use Rattle.lr_rules.specs.declared.fault.CallKind.TheVariants as call
 use Rattle.lr_rules.specs.Path.{parent_of}
 use Rattle.lr_host.specs.declared.entry.Entry.{Entry}
-use Rattle.lr_host.specs.declared.entry.Entry.TheVariants as entry
+use Rattle.lr_host.specs.Listing.{HasListed}
 use Rattle.lr_host.specs.Told.{Then}
 use Rattle.lr_host.specs.Looks.{Sees, IsNothing, IsDir, IsNoDir, is_dir}
 use Rattle.lr_family.specs.declared.stand.StandStop.{StandStop}
 use Rattle.lr_family.specs.declared.stand.StandStop.TheVariants as stop
-
--- the names stand in order of bytes
-abbrev pub NamesRise : List (List ℕ) → Type 0
-NamesRise names = IsSortedByKey (λ name. name) (slice_cmp nat_cmp) names
-
--- The directory was listed, and its names are these, in whatever order.
-pub record HasListed (dir : Path) (names : List (List ℕ)) (ts : List Entry) : Type 0 where
-  pub listed : List (List ℕ)
-  pub same : IsPermutation listed names
-  pub list : ts ≡ entry.List dir listed ∷ []
 
 -- The directory is there, and has these names; or it isn't there, and a look at its parent showed whether that is.
 abbrev pub ShowsListing : Path → Bool → Bool → List (List ℕ) → List Entry → Type 0

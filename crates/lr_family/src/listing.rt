@@ -6,9 +6,10 @@ ghost use Rattle.std.specs.List.Sorted.{IsPermutation};
 ghost use Rattle.lr_host.specs.declared.entry.Entry.TheVariants as entry;
 ghost use Rattle.lr_host.specs.Told.{Left, Are, Can, Onward, Rose};
 ghost use Rattle.lr_rules.specs.Path.{parent_of};
+ghost use Rattle.lr_host.specs.Listing.{NamesRise, HasListed};
 ghost use Rattle.lr_host.specs.Looks.{Sees, is_dir};
 ghost use Rattle.lr_family.specs.Directory.{ParentStopped, ListStopped};
-ghost use Rattle.lr_family.specs.Listed.{NamesRise, HasListed, ShowsListing, NotListed, IsExactlyNoDir, AreAtMost};
+ghost use Rattle.lr_family.specs.Listed.{ShowsListing, NotListed, IsExactlyNoDir, AreAtMost};
 ghost use Rattle.lr_family.specs.Stands.{IsFailedStand};
 
 use crate::directory::{DirStop, look_for_dir, parent_there};

@@ -1,9 +1,9 @@
 // The members among the names of a directory.
 ghost use Rattle.std.specs.Prelude.{◌≡◌, true, IfOk, IfErr};
 ghost use Rattle.lr_rules.specs.Limits.{is_format, or_none};
+ghost use Rattle.lr_host.specs.Listing.{NamesRise};
 ghost use Rattle.lr_host.specs.Told.{Left, Onward, Rose};
 ghost use Rattle.lr_family.specs.Among.{StandsAmong, ShowsNoneIn};
-ghost use Rattle.lr_family.specs.Listed.{NamesRise};
 ghost use Rattle.lr_family.specs.Places.{AreNamed};
 ghost use Rattle.lr_family.specs.Stands.{AreNewestFirst, IsFailedStand};
 

@@ -2,9 +2,9 @@
 ghost use Rattle.std.specs.Prelude.{◌≡◌, ◌++◌, ◌↔◌, bytes_eq, true, IfOk, IfErr, OnOk};
 ghost use Rattle.lr_rules.specs.Limits.{is_format, or_none};
 ghost use Rattle.lr_rules.specs.Path.{joined};
+ghost use Rattle.lr_host.specs.Listing.{NamesRise};
 ghost use Rattle.lr_host.specs.Told.{Left, Onward, Rose};
 ghost use Rattle.lr_family.specs.InternalParts.{AddsPart, HasParts, SeesParts, SeesSomeParts};
-ghost use Rattle.lr_family.specs.Listed.{NamesRise};
 ghost use Rattle.lr_family.specs.Parts.{IsMember, IsMembersPart, AreParts, PartsAmong, ShowsNoParts, part_seen};
 ghost use Rattle.lr_family.specs.Stands.{IsFailedStand};
 

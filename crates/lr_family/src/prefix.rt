@@ -3,7 +3,7 @@ ghost use Rattle.std.specs.Prelude.{◌≡◌, ◌++◌, ℕ, List, nat_eq, true
 ghost use Rattle.std.specs.Ordering.{nat_cmp, is_lt};
 ghost use Rattle.std.specs.Cmp.Lexicographic.{slice_cmp};
 ghost use Rattle.std.specs.List.{starts_with};
-ghost use Rattle.lr_family.specs.Listed.{NamesRise};
+ghost use Rattle.lr_host.specs.Listing.{NamesRise};
 
 use lr_rules::Text;
 

@@ -4,7 +4,7 @@ ghost use Rattle.std.specs.Ordering.{is_lt};
 ghost use Rattle.std.specs.List.Sorted.{IsPermutation, IsStrictlySortedBy};
 ghost use Rattle.std.specs.List.{dedup};
 ghost use Rattle.lr_rules.specs.Limits.{is_format, or_none};
-ghost use Rattle.lr_family.specs.Listed.{NamesRise};
+ghost use Rattle.lr_host.specs.Listing.{NamesRise};
 ghost use Rattle.lr_family.specs.Spots.{by_path, HasSpots, AreSpots, AddsSpot};
 
 use crate::name::{path_in, place_in};

@@ -20,11 +20,12 @@ use Rattle.lr_host.specs.World.{Past}
 use Rattle.lr_host.proofs.Each.{each_first}
 use Rattle.lr_host.proofs.Lists.{in_map, in_append, in_back, in_from, in_to}
 use Rattle.lr_match.proofs.Ends.{ends_tell}
+use Rattle.lr_host.specs.Listing.{is_file_kind}
 use Rattle.lr_glob.specs.declared.found.Found.{Found}
 use Rattle.lr_glob.specs.declared.found.GlobStop.TheVariants as stop
 use Rattle.lr_glob.specs.Parts.{parts_in}
 use Rattle.lr_glob.specs.Rounds.{Round, Went, Asked, round_entries, FollowsBy, Leads, Led}
-use Rattle.lr_glob.specs.Sights.{PathSight, is_whole, is_file_kind, is_long, file_at, found_file, look_of, seen_at, judged, LookedAt}
+use Rattle.lr_glob.specs.Sights.{PathSight, is_whole, is_long, file_at, found_file, look_of, seen_at, judged, LookedAt}
 use Rattle.lr_glob.specs.Sought.{IsSought}
 use Rattle.lr_glob.specs.Words.{root, WordGave, Comes, SearchThen}
 use Rattle.lr_glob.proofs.Apart.{dir_of, joined_in, visited_in}

@@ -1,5 +1,5 @@
 -- What the looks at the paths that a word may give saw.
-use Rattle.std.specs.Prelude.{◌≡◌, ℕ, Bool, true, false, not, ◌&&◌, List, [], ◌∷◌, ◌++◌, map, flat_map, length, nat_le, nat_lt}
+use Rattle.std.specs.Prelude.{◌≡◌, ℕ, Bool, not, ◌&&◌, List, [], ◌∷◌, ◌++◌, map, flat_map, length, nat_le, nat_lt}
 use Rattle.std.specs.Prelude.{Option, Some, None, Result, Ok, Err, if◌then◌else◌}
 use Rattle.std.specs.List.{list_any}
 use Rattle.std.specs.List.Sorted.{IsPermutation, IsSortedByKey}
@@ -10,11 +10,10 @@ use Rattle.lr_rules.specs.declared.fault.CallKind.TheVariants as call
 use Rattle.lr_rules.specs.Match.{part_end}
 use Rattle.lr_rules.specs.Names.{ends_with}
 use Rattle.lr_rules.specs.Path.{last_of}
-use Rattle.lr_host.specs.declared.thing.Kind.{Kind}
-use Rattle.lr_host.specs.declared.thing.Kind.TheVariants as kind
 use Rattle.lr_host.specs.declared.thing.Seen.{Seen}
 use Rattle.lr_host.specs.declared.entry.Entry.{Entry}
 use Rattle.lr_host.specs.declared.entry.Entry.TheVariants as entry
+use Rattle.lr_host.specs.Listing.{is_file_kind}
 use Rattle.lr_glob.specs.declared.found.Found.{Found}
 use Rattle.lr_glob.specs.declared.found.GlobStop.{GlobStop}
 use Rattle.lr_glob.specs.declared.found.GlobStop.TheVariants as stop
@@ -26,10 +25,6 @@ pub record PathSight : Type 0 where
 
 abbrev pub look_of : PathSight → Entry
 look_of s = entry.Look s.path s.seen
-
-abbrev pub is_file_kind : Kind → Bool
-is_file_kind kind.File = true
-is_file_kind _ = false
 
 -- what was seen at the path, of any kind
 abbrev pub seen_at : Path → Option Seen → List Found

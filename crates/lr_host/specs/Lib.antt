@@ -4,6 +4,7 @@ pub mod Fits
 pub mod Forward
 pub mod Kept
 pub mod Later
+pub mod Listing
 pub mod Lists
 pub mod Looks
 pub mod Opening

@@ -17,10 +17,6 @@ use Rattle.lr_include.specs.Course.{StandsAt, WentOn, GoesOn}
 use Rattle.lr_include.specs.Lacking.{PartNext, LacksFrom}
 use Rattle.lr_include.proofs.Stages.{popped_stands, next_was}
 
-pub on_err : {T E : Type 0} (r : Result T E) (P : Type 0) → P → OnErr r P
-on_err (Ok x) P p = tt
-on_err (Err x) P p = p
-
 pub on_err_as : {T E : Type 0} (r : Result T E) (P Q : Type 0) → OnErr r P → (P → Q) → OnErr r Q
 on_err_as (Ok x) P Q p f = tt
 on_err_as (Err x) P Q p f = f p

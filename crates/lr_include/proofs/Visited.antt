@@ -7,6 +7,7 @@ use Rattle.lr_host.specs.declared.thing.Kind.TheVariants as kind
 use Rattle.lr_host.specs.declared.thing.Seen.{Seen}
 use Rattle.lr_host.specs.declared.entry.Entry.TheVariants as entry
 use Rattle.lr_host.specs.declared.journal.Journal.{Journal}
+use Rattle.lr_host.specs.Listing.{HasListed}
 use Rattle.lr_host.specs.World.{world, names}
 use Rattle.lr_host.specs.Told.{Left, Are, Can}
 use Rattle.lr_host.specs.Looks.{Sees, IsDir, IsNothingOrOther}
@@ -15,7 +16,7 @@ use Rattle.lr_host.proofs.Known.{entry_says}
 use Rattle.lr_host.proofs.Looked.{seen_dir}
 use Rattle.lr_include.specs.declared.visit.Visit.{Visit}
 use Rattle.lr_include.specs.declared.visit.Visit.TheVariants as visit
-use Rattle.lr_include.specs.Visits.{IsKeptFile, IsExposedFile, HasListed, ShowsDir, ShowsFile, ShowsVisit, look_failed, nothing, exposed, directory, file, PartFile, PartVisit}
+use Rattle.lr_include.specs.Visits.{IsKeptFile, IsExposedFile, ShowsDir, ShowsFile, ShowsVisit, look_failed, nothing, exposed, directory, file, PartFile, PartVisit}
 
 -- a look, and what it saw
 pub sees : (x : Path) (P : Option Seen → Type 0) (seen : Option Seen) {o n : Option Journal} → Left (λ ts. ts ≡ entry.Look x seen ∷ []) o n → P seen → Left (Sees x P) o n

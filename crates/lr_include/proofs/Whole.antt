@@ -1,9 +1,10 @@
 -- What whole lines tell, with a line behind them that isn't whole.
 use Rattle.std.proofs.Common.{◌≡◌, ◌≤◌, ◌+◌, ℕ, zero, suc, Bool, true, false, cond, ◌||◌, ◌==◌, List, [], ◌∷◌, ◌++◌, length, refl, sym, ap, ◌∙◌, subst, append_assoc, append-nil, length-append, arith}
+use Rattle.lr_rules.specs.Bytes.{is_newline}
 use Rattle.lr_lex.specs.declared.said.Said.{Said}
 use Rattle.lr_lex.specs.declared.said.Said.TheVariants as says
 use Rattle.lr_lex.specs.Lines.{NumberedLine, line_at, longer, lines}
-use Rattle.lr_lex.specs.Pieces.{has_line, is_newline}
+use Rattle.lr_lex.specs.Pieces.{has_line}
 use Rattle.lr_lex.specs.Items.{Told, said, told, taken, ended, body, is_end, items_of, script, script_text}
 use Rattle.lr_lex.proofs.Alone.{one_alone}
 use Rattle.lr_include.specs.Whole.{whole_lines, told_whole, whole_of}

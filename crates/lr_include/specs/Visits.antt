@@ -1,14 +1,12 @@
 -- What a visit of a path gave, and the entries that show it.
 use Rattle.std.specs.Prelude.{◌≡◌, ◌≤◌, ◌<◌, ◌+◌, ◌⊎◌, ℕ, Bool, true, false, List, [], ◌∷◌, length, take, Option, Some, None}
-use Rattle.std.specs.List.Sorted.{IsPermutation, IsSortedByKey}
-use Rattle.std.specs.Ordering.{nat_cmp}
-use Rattle.std.specs.Cmp.Lexicographic.{slice_cmp}
 use Rattle.lr_rules.specs.declared.path.Path.{Path}
 use Rattle.lr_lex.specs.Items.{Told, items}
 use Rattle.lr_host.specs.declared.entry.Entry.{Entry}
 use Rattle.lr_host.specs.declared.entry.Entry.TheVariants as entry
 use Rattle.lr_host.specs.declared.thing.Kind.TheVariants as kind
 use Rattle.lr_host.specs.declared.thing.Seen.{Seen}
+use Rattle.lr_host.specs.Listing.{NamesRise, HasListed}
 use Rattle.lr_host.specs.Told.{Then, Each}
 use Rattle.lr_host.specs.Looks.{Sees, IsDir, IsNothingOrOther}
 use Rattle.lr_host.specs.Reading.{IsReadOf, ReadsOf, ReadsAll}
@@ -37,18 +35,6 @@ SeesAs x sight.Nothing = Sees x IsNothingOrOther
 SeesAs x sight.File = Sees x IsKeptFile
 SeesAs x sight.Exposed = Sees x IsExposedFile
 SeesAs x sight.Dir = Sees x IsDir
-
--- ---- names
-
--- the names stand in order of bytes
-abbrev pub NamesRise : List (List ℕ) → Type 0
-NamesRise names = IsSortedByKey (λ name. name) (slice_cmp nat_cmp) names
-
--- The directory was listed, and its names are these, in whatever order.
-pub record HasListed (dir : Path) (names : List (List ℕ)) (ts : List Entry) : Type 0 where
-  pub listed : List (List ℕ)
-  pub same : IsPermutation listed names
-  pub list : ts ≡ entry.List dir listed ∷ []
 
 -- ---- bytes
 

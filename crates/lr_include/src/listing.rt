@@ -4,8 +4,8 @@ ghost use Rattle.std.specs.Ordering.{nat_cmp};
 ghost use Rattle.std.specs.Cmp.Lexicographic.{slice_cmp};
 ghost use Rattle.std.specs.List.Sorted.{IsPermutation};
 ghost use Rattle.lr_host.specs.declared.entry.Entry.TheVariants as entry;
+ghost use Rattle.lr_host.specs.Listing.{NamesRise, HasListed};
 ghost use Rattle.lr_host.specs.Told.{Left, Are, Can, Onward, Rose};
-ghost use Rattle.lr_include.specs.Visits.{NamesRise, HasListed};
 
 use lr_host::{Host, ListFault};
 use lr_rules::{Listed, Path, Text};

@@ -10,8 +10,9 @@ use Rattle.lr_rules.specs.declared.rule.Piece.TheVariants as piece
 use Rattle.lr_rules.specs.Match.{part_end}
 use Rattle.lr_rules.specs.Names.{aside_path, IsStampShape, number_pieces, IsMiddleShape, IsMemberShape, IsOwnName, the_log, set_aside, a_member, a_part, IsName, Meet}
 use Rattle.lr_rules.specs.Path.{joined}
+use Rattle.lr_shapes.specs.Fronts.{Begins}
 use Rattle.lr_family.specs.declared.family.Family.{Family}
-use Rattle.lr_kept.specs.Fronts.{Begins, before_field, middle_front, member_front, below, FindsFront}
+use Rattle.lr_kept.specs.Fronts.{before_field, middle_front, member_front, below, FindsFront}
 
 begins_more : (front bytes more : List ℕ) → Begins front bytes → Begins front (bytes ++ more)
 begins_more front bytes more h = (h.0 ++ more, ap (λ xs. xs ++ more) h.1 ∙ append_assoc front h.0 more)

@@ -6,7 +6,7 @@ use Rattle.std.specs.Cmp.Lexicographic.{slice_cmp}
 use Rattle.std.proofs.lemmas.Bool.{lt-ltb, cases_order, cases_Bool}
 use Rattle.std.proofs.lemmas.Cmp.{nat_cmp_total, nat_list_cmp_total, tied_itself}
 use Rattle.std.proofs.lemmas.List.MinMax.{ranks_by}
-use Rattle.lr_kept.specs.Fronts.{Begins}
+use Rattle.lr_shapes.specs.Fronts.{Begins}
 
 abbrev pub lt : List ℕ → List ℕ → Bool
 lt x y = is_lt (slice_cmp nat_cmp x y)

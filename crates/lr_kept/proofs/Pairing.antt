@@ -8,12 +8,13 @@ use Rattle.std.proofs.lemmas.List.Elements.{All-nil, All-push, All-weaker, Conta
 use Rattle.std.proofs.lemmas.List.Sorted.{Contains-permutation, All-permutation}
 use Rattle.std.proofs.lemmas.Option.{slice_get_within}
 use Rattle.lr_rules.specs.Names.{aside_path, Meet}
+use Rattle.lr_shapes.specs.Fronts.{Begins}
 use Rattle.lr_family.specs.declared.family.Family.{Family}
 use Rattle.lr_kept.specs.declared.choice.Choice.{Choice}
 use Rattle.lr_kept.specs.declared.front.Front.{Front}
 use Rattle.lr_kept.specs.declared.pair.Pair.{Pair}
 use Rattle.lr_kept.specs.Chosen.{MeetAt, IsNew, IsKeptAt}
-use Rattle.lr_kept.specs.Fronts.{Begins, FindsFront, HaveFronts, aside_front, front_at, fronts_at, below, member_front}
+use Rattle.lr_kept.specs.Fronts.{FindsFront, HaveFronts, aside_front, front_at, fronts_at, below, member_front}
 use Rattle.lr_kept.specs.Pairs.{pair_at, pair_of, IsPair, Grows, HasPair, AddsAside, AddsPair, AddsPairs, AddsBetween, AddsPairsOf, HaveFound, HavePairs}
 use Rattle.lr_kept.proofs.Finding.{IsFrontOf, FindsIt, one_finds, meet_back}
 use Rattle.lr_kept.proofs.Elements.{contains_read, same_read}

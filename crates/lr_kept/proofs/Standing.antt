@@ -9,8 +9,9 @@ use Rattle.std.proofs.lemmas.List.MinMax.{ranks_by}
 use Rattle.std.proofs.lemmas.Cmp.{nat_list_cmp_total}
 use Rattle.std.proofs.lemmas.Option.{slice_get_within, slice_get-get_or, get_or_from_slice_get}
 use Rattle.std.proofs.lemmas.Slice.Eq.{starts_is}
+use Rattle.lr_shapes.specs.Fronts.{Begins}
 use Rattle.lr_kept.specs.declared.front.Front.{Front}
-use Rattle.lr_kept.specs.Fronts.{AreBegunWithin, AreInOrder, Begins}
+use Rattle.lr_kept.specs.Fronts.{AreBegunWithin, AreInOrder}
 use Rattle.lr_kept.proofs.Order.{lt, between, lower, not_before}
 
 abbrev pub is_before : List ℕ → Front → Bool

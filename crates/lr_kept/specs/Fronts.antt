@@ -12,14 +12,11 @@ use Rattle.lr_rules.specs.declared.rule.Naming.{Naming}
 use Rattle.lr_rules.specs.declared.rule.Format.{Format}
 use Rattle.lr_rules.specs.declared.rule.Piece.{Piece}
 use Rattle.lr_rules.specs.declared.rule.Piece.TheVariants as piece
+use Rattle.lr_shapes.specs.Fronts.{Begins}
 use Rattle.lr_family.specs.declared.family.Family.{Family}
 use Rattle.lr_kept.specs.declared.choice.Choice.{Choice}
 use Rattle.lr_kept.specs.declared.front.Front.{Front}
 use Rattle.lr_kept.specs.Chosen.{IsKeptAt}
-
--- these bytes begin with the others
-abbrev pub Begins : List ℕ → List ℕ → Type 0
-Begins front bytes = (rest : List ℕ) × (bytes ≡ front ++ rest)
 
 -- the bytes of a stamp before its first field
 abbrev pub before_field : List Piece → List ℕ

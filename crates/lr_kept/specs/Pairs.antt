@@ -4,13 +4,14 @@ use Rattle.std.specs.Prelude.{if◌then◌else◌}
 use Rattle.std.specs.Borrow.{Bor}
 use Rattle.std.specs.List.Sorted.{IsNonDecreasingBy}
 use Rattle.lr_rules.specs.Names.{aside_path}
+use Rattle.lr_shapes.specs.Fronts.{Begins}
 use Rattle.lr_family.specs.declared.family.Family.{Family}
 use Rattle.lr_kept.specs.declared.choice.Choice.{Choice}
 use Rattle.lr_kept.specs.declared.choice.Choice.TheVariants.{Again, MemberOf, Reserved, Meets}
 use Rattle.lr_kept.specs.declared.front.Front.{Front}
 use Rattle.lr_kept.specs.declared.pair.Pair.{Pair}
 use Rattle.lr_kept.specs.Chosen.{MeetAt, IsKeptAt}
-use Rattle.lr_kept.specs.Fronts.{Begins, FindsFront, front_at}
+use Rattle.lr_kept.specs.Fronts.{FindsFront, front_at}
 
 abbrev pub pair_at : ℕ → ℕ → Pair
 pair_at earlier later = record { earlier = earlier; later = later }

@@ -3,8 +3,9 @@ ghost use Rattle.std.specs.Prelude.{◌≡◌, ◌≤◌, ◌<◌, ◌↔◌, �
 ghost use Rattle.std.specs.Ordering.{nat_cmp, is_lt};
 ghost use Rattle.std.specs.Cmp.Lexicographic.{slice_cmp};
 ghost use Rattle.std.specs.List.{starts_with};
+ghost use Rattle.lr_shapes.specs.Fronts.{Begins};
 ghost use Rattle.lr_kept.specs.declared.front.Front.{Front};
-ghost use Rattle.lr_kept.specs.Fronts.{AreBegunWithin, AreInOrder, Begins};
+ghost use Rattle.lr_kept.specs.Fronts.{AreBegunWithin, AreInOrder};
 
 use crate::front::Front;
 use std::cmp::Ordering;

@@ -1,5 +1,5 @@
 -- The part file just before it gets the state's path, and what the directories' syncs made durable by then.
-use Rattle.std.proofs.Common.{◌+◌, ◌<◌, ◌≡◌, ◌≢◌, ◌⊎◌, inl, inr, ⊎_elim, ℕ, Bool, true, cond, nat_eq, refl, sym, ◌∙◌, ap, subst, arith, List, [], ◌∷◌, ◌++◌, map, reverse, append_assoc, Option}
+use Rattle.std.proofs.Common.{◌+◌, ◌<◌, ◌≡◌, ◌≢◌, ◌⊎◌, inl, inr, ⊎_elim, ℕ, Bool, cond, refl, sym, ◌∙◌, ap, subst, arith, List, [], ◌∷◌, ◌++◌, map, reverse, append_assoc, Option}
 use Rattle.std.specs.List.{flat_map}
 use Rattle.lr_rules.specs.declared.path.Path.{Path}
 use Rattle.lr_rules.specs.Path.{parent_of}
@@ -19,6 +19,7 @@ use Rattle.lr_host.proofs.Made.{made_on, made_journal}
 use Rattle.lr_host.proofs.Names.{put_cases, put_here}
 use Rattle.lr_laws.specs.Renewing.{IsWithinDirs, Renews}
 use Rattle.lr_laws.specs.StateWhole.{LeftAs, StandsAs}
+use Rattle.lr_laws.proofs.ClosedLaws.{same_eq}
 use Rattle.lr_laws.proofs.Files.{IsGuarded, IsSynced, LeavesFile}
 use Rattle.lr_laws.proofs.Leaving.{Lasts, stands_made}
 use Rattle.lr_laws.proofs.Lists.{middle, at}
@@ -33,9 +34,6 @@ pub record IsFilled (state : Path) (text : List ℕ) (p : Past) : Type 0 where
   pub file : ℕ
   pub own : IsOwn (state_part state) file text p
   pub synced : IsSynced file text (world p)
-
-same_eq : (n : ℕ) → nat_eq n n ≡ true
-same_eq n = grind arith
 
 -- a file that was just made
 made_own : (p : Past) (x : Path) (mode : Option ℕ) → IsJournal p → IsOwn x (world p).drawn [] (p ▸ entry.Makes x mode)

@@ -5,13 +5,14 @@ use Rattle.std.proofs.lemmas.List.Sorted.{Contains-permutation}
 use Rattle.lr_rules.specs.declared.rule.Naming.{Naming}
 use Rattle.lr_host.specs.declared.entry.Entry.{Entry}
 use Rattle.lr_host.specs.declared.entry.Entry.TheVariants as entry
+use Rattle.lr_host.specs.Listing.{HasListed}
 use Rattle.lr_host.specs.Lists.{IsIn}
 use Rattle.lr_host.specs.Looks.{Sees, IsDir}
 use Rattle.lr_host.specs.Told.{Then}
 use Rattle.lr_host.proofs.Lists.{in_back}
 use Rattle.lr_family.specs.declared.stand.Member.{Member}
 use Rattle.lr_family.specs.Among.{ShowsMembers}
-use Rattle.lr_family.specs.Listed.{HasListed, ShowsListing}
+use Rattle.lr_family.specs.Listed.{ShowsListing}
 use Rattle.lr_family.proofs.Shown.{members_named, members_seen, others_unseen}
 use Rattle.lr_laws_family.specs.Shown.{unlisted, gone, Shown}
 

@@ -23,17 +23,12 @@ use Rattle.lr_include.specs.Allowed.{failed_read, failed_visit, failed_in}
 use Rattle.lr_include.specs.Stages.{Stage, settled_stage, visited, at_visits, is_shallow, room_for, ShowsNext, ShowsVisits, begun, visits_mean, Reads}
 use Rattle.lr_include.proofs.Calls.{calls_are_failed}
 use Rattle.lr_laws_looks.proofs.OneOrder.{one_order}
+use Rattle.lr_laws_fixed.proofs.Peeled.{front_same, saw_same}
 
 -- ---- entries, taken apart from the front
 
-saw_same : (x y : Path) (s t : Option Seen) → entry.Look x s ≡ entry.Look y t → s ≡ t
-saw_same x y s t e = cc
-
 listed_same : (x y : Path) (s t : List (List ℕ)) → entry.List x s ≡ entry.List y t → s ≡ t
 listed_same x y s t e = cc
-
-front_same : (ts us fs gs vs ws : List Entry) → ts ≡ fs → us ≡ gs → ts ++ vs ≡ us ++ ws → fs ++ vs ≡ gs ++ ws
-front_same ts us fs gs vs ws p q e = sym (ap (λ l. l ++ vs) p) ∙ (e ∙ ap (λ l. l ++ ws) q)
 
 -- Of two parts at the front of the same entries: what they gave, the entries, and what comes behind.
 record AreOne (A : Type 0) (a b : A) (ts us vs ws : List Entry) : Type 0 where

@@ -11,6 +11,7 @@ use Rattle.lr_rules.specs.Names.{Meet}
 use Rattle.lr_due.specs.declared.answer.Due.{Due}
 use Rattle.lr_due.specs.declared.answer.Due.TheVariants as due
 use Rattle.lr_host.specs.declared.entry.Entry.{Entry}
+use Rattle.lr_host.specs.Listing.{is_file_kind}
 use Rattle.lr_host.specs.Lists.{IsIn}
 use Rattle.lr_family.specs.declared.family.Family.{Family}
 use Rattle.lr_kept.specs.declared.choice.Choice.{Choice}
@@ -19,7 +20,7 @@ use Rattle.lr_kept.specs.Chosen.{IsLogKept}
 use Rattle.lr_kept.proofs.Finding.{meet_back}
 use Rattle.lr_plan.specs.declared.looks.LogLook.{LogLook}
 use Rattle.lr_plan.specs.declared.looks.SetLooks.{SetLooks}
-use Rattle.lr_plan.specs.Planned.{is_file_kind, hindrances, where_due}
+use Rattle.lr_plan.specs.Planned.{hindrances, where_due}
 use Rattle.lr_looks.specs.Choices.{chosen_names, found_names, is_wild, IsChoiceAmong, kept_of, where_file}
 use Rattle.lr_looks.specs.Families.{FamilySight, Stood, Stopped, LookedLog, looked_at, looked_of}
 use Rattle.lr_looks.specs.Found.{FoundLog}

@@ -12,6 +12,7 @@ use Rattle.lr_due.specs.declared.answer.Due.TheVariants as due
 use Rattle.lr_host.specs.declared.entry.Entry.{Entry}
 use Rattle.lr_host.specs.declared.thing.Kind.{Kind}
 use Rattle.lr_host.specs.declared.thing.Kind.TheVariants as kind
+use Rattle.lr_host.specs.Listing.{is_file_kind}
 use Rattle.lr_host.specs.Lists.{IsIn}
 use Rattle.lr_host.proofs.Lists.{in_map, in_unmap, in_front, in_back, in_append}
 use Rattle.lr_glob.specs.declared.found.Found.{Found as Match}
@@ -21,7 +22,7 @@ use Rattle.lr_kept.specs.declared.choice.Choice.TheVariants.{Kept, Again, Member
 use Rattle.lr_kept.proofs.Elements.{same_read}
 use Rattle.lr_plan.specs.declared.looks.LogLook.{LogLook}
 use Rattle.lr_plan.specs.declared.looks.SetLooks.{SetLooks}
-use Rattle.lr_plan.specs.Planned.{is_file_kind, hindrances, where_due}
+use Rattle.lr_plan.specs.Planned.{hindrances, where_due}
 use Rattle.lr_looks.specs.declared.standing.Standing.{Standing}
 use Rattle.lr_looks.specs.Asked.{Word, word_of, rule_words, words_from, asked_by}
 use Rattle.lr_looks.specs.Choices.{kept_of, where_file}

@@ -16,12 +16,13 @@ use Rattle.lr_rules.specs.Names.{aside_path}
 use Rattle.lr_host.specs.declared.thing.Kind.{Kind}
 use Rattle.lr_host.specs.declared.thing.Kind.TheVariants as kind
 use Rattle.lr_host.specs.declared.thing.Seen.{Seen}
+use Rattle.lr_host.specs.Listing.{is_file_kind}
 use Rattle.lr_family.specs.declared.stand.Member.{Member}
 use Rattle.lr_family.specs.declared.stand.Stand.{Stand}
 use Rattle.lr_chain.specs.Hindrances.{is_stamp, fault_at, too_high, taken, stamp_hindrances, keeps_all, number_hindrances, name_hindrances, what_hinders}
 use Rattle.lr_chain.specs.Ready.{is_highest, highest_path}
 use Rattle.lr_plan.specs.declared.looks.LogLook.{LogLook}
-use Rattle.lr_plan.specs.Planned.{is_file_kind, is_file, other_thing, or_else, takes_up, aside_by, aside_hinders, stand_for, hindrances, unfinished, due_faults}
+use Rattle.lr_plan.specs.Planned.{is_file, other_thing, or_else, takes_up, aside_by, aside_hinders, stand_for, hindrances, unfinished, due_faults}
 
 -- the directory is there where nothing hinders
 pub there_of : (n : Naming) (c : Count) (clock : Clock) (stand : Stand) → what_hinders n c clock stand ≡ [] → stand.there ≡ true

@@ -13,6 +13,7 @@ use Rattle.std.proofs.lemmas.List.Sorted.{sum_by-IsPermutation}
 use Rattle.lr_rules.specs.declared.path.Path.{Path}
 use Rattle.lr_host.specs.declared.entry.Entry.{Entry}
 use Rattle.lr_host.specs.declared.thing.Seen.{Seen}
+use Rattle.lr_host.specs.Listing.{is_file_kind}
 use Rattle.lr_host.specs.Lists.{IsIn, IsNotIn, AreDistinct}
 use Rattle.lr_host.specs.Told.{Each, Made}
 use Rattle.lr_host.specs.World.{Past}
@@ -20,7 +21,7 @@ use Rattle.lr_host.proofs.Each.{each_first}
 use Rattle.lr_host.proofs.Lists.{in_append, in_to, in_unmap}
 use Rattle.lr_glob.specs.declared.found.Found.{Found}
 use Rattle.lr_glob.specs.Parts.{parts_in}
-use Rattle.lr_glob.specs.Sights.{PathSight, found_file, file_at, is_file_kind, is_whole, seen_at, LookedAt}
+use Rattle.lr_glob.specs.Sights.{PathSight, found_file, file_at, is_whole, seen_at, LookedAt}
 use Rattle.lr_glob.specs.Words.{WordGave, Comes, SearchThen}
 use Rattle.lr_glob.proofs.ListsOnce.{IsTrue, led_apart, made_true}
 use Rattle.lr_glob.proofs.Seeking.{all_are}

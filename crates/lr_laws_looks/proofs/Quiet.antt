@@ -14,6 +14,7 @@ use Rattle.lr_host.specs.Quiet.{AreQuiet}
 use Rattle.lr_host.specs.Told.{Are}
 use Rattle.lr_host.proofs.Each.{each_as}
 use Rattle.lr_host.specs.declared.entry.Entry.TheVariants as entry
+use Rattle.lr_host.specs.Listing.{HasListed}
 use Rattle.lr_family.specs.declared.listing.Listing.{Listing}
 use Rattle.lr_family.specs.declared.spot.Spot.{Spot}
 use Rattle.lr_family.specs.declared.stand.Member.{Member}
@@ -21,7 +22,7 @@ use Rattle.lr_family.specs.declared.stand.Stand.{Stand}
 use Rattle.lr_family.specs.declared.stand.StandStop.{StandStop}
 use Rattle.lr_family.specs.declared.stand.StandStop.TheVariants as stop
 use Rattle.lr_family.specs.Among.{ShowsMembers, ShowsIn, ShowsNoneIn}
-use Rattle.lr_family.specs.Listed.{HasListed, ShowsListing, NotListedAt, NotListed}
+use Rattle.lr_family.specs.Listed.{ShowsListing, NotListedAt, NotListed}
 use Rattle.lr_family.specs.Looks.{ShowsTo}
 use Rattle.lr_family.specs.Stops.{SomeStopped}
 use Rattle.lr_family.proofs.OnlyLooks.{IsLooking, AreLooking, looking_both, looking_none, looking_sees, looking_sights, looking_shown_parts, looking_no_parts, looks_quiet}

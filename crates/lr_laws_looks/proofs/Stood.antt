@@ -24,11 +24,12 @@ use Rattle.lr_host.proofs.Lists.{in_map, in_unmap, in_front, in_back, in_from, i
 use Rattle.lr_host.proofs.More.{IsMore, file_more, directory_more, not_more}
 use Rattle.lr_host.proofs.Quiet.{IsAny, moment, quiet_more, quiet_still, since_any, still_in_order}
 use Rattle.lr_match.proofs.Ends.{ends_tell}
+use Rattle.lr_host.specs.Listing.{is_file_kind}
 use Rattle.lr_glob.specs.declared.found.Found.{Found}
 use Rattle.lr_glob.specs.Gathers.{Gathers}
 use Rattle.lr_glob.specs.Parts.{JoinOf, PickOf, parts_in}
 use Rattle.lr_glob.specs.Rounds.{Picks, Round, Went, Asked, round_entries, FollowsBy, Led}
-use Rattle.lr_glob.specs.Sights.{PathSight, look_of, found_file, file_at, is_file_kind, is_whole, seen_at, LookedAt}
+use Rattle.lr_glob.specs.Sights.{PathSight, look_of, found_file, file_at, is_whole, seen_at, LookedAt}
 use Rattle.lr_glob.specs.Visits.{Visit, visit_names, visit_entries}
 use Rattle.lr_glob.specs.Words.{root, WordGave, Comes, SearchThen}
 use Rattle.lr_glob.proofs.Apart.{dir_of}

@@ -1,6 +1,6 @@
 -- A run lists a directory once, and once for each wildcard, however it ends.
-use Rattle.std.proofs.Common.{◌≡◌, ◌≤◌, ◌+◌, inl, inr, ℕ, Bool, true, false, Option, List, [], ◌∷◌, ◌++◌, length, take, reverse, Result, Ok, Err, refl, sym, ap, ◌∙◌, subst, arith}
-use Rattle.std.proofs.lemmas.List.{reverse-append, reverse-reverse}
+use Rattle.std.proofs.Common.{◌≡◌, ◌≤◌, ◌+◌, inl, inr, ℕ, Bool, true, false, Option, List, [], ◌∷◌, ◌++◌, length, take, reverse, Result, Ok, Err, refl, sym, ◌∙◌, subst, arith}
+use Rattle.std.proofs.lemmas.List.{reverse-reverse}
 use Rattle.lr_rules.specs.declared.clock.Clock.{Clock}
 use Rattle.lr_rules.specs.declared.fault.Fault.{Fault}
 use Rattle.lr_rules.specs.declared.path.Path.{Path}
@@ -13,7 +13,7 @@ use Rattle.lr_host.specs.Looks.{IsDir, IsNothing}
 use Rattle.lr_host.specs.Told.{Made, Maybe}
 use Rattle.lr_host.specs.World.{Past}
 use Rattle.lr_host.proofs.Each.{each_append, each_as}
-use Rattle.lr_host.proofs.Made.{Cut, cut}
+use Rattle.lr_host.proofs.Made.{Cut}
 use Rattle.lr_glob.specs.Listings.{listings_of}
 use Rattle.lr_plan.specs.Asked.{Asked}
 use Rattle.lr_plan.specs.declared.plan.Plan.{Plan}
@@ -43,6 +43,7 @@ use Rattle.lr_laws_plan.proofs.FamiliesListOnce.{families_once}
 use Rattle.lr_laws_plan.proofs.Looking.{Looking, run_looks, last_entries, around_looks}
 use Rattle.lr_laws_plan.proofs.LooksListNone.{sees_none}
 use Rattle.lr_laws_plan.proofs.Moves.{plan_moves, cut_moves, moves_list_none}
+use Rattle.lr_laws_plan.proofs.Standing.{cut_at}
 use Rattle.lr_laws_plan.proofs.WordsListOnce.{asked_once, some_asked_once}
 
 -- ---- what lists nothing
@@ -89,10 +90,6 @@ first_none true state clock rules w none = none
 first_none false state clock rules w none = each_append IsNoListing w.dir (entry.Starts state clock.now rules ∷ []) none (tt, tt)
 
 -- ---- what lists a directory so often
-
--- the moment between two parts of what a call left
-cut_at : (p q : Past) (ts front back : List Entry) → ts ≡ front ++ back → Made p (reverse ts) q → Cut p q (reverse back) (reverse front)
-cut_at p q ts front back e m = cut p q (reverse ts) (reverse back) (reverse front) (ap reverse e ∙ reverse-append front back) m
 
 -- entries that list nothing list the directory at most so often
 none_once : (n : ℕ) (dir : Path) (ts : List Entry) → AreNoListings ts → listings_of dir ts ≤ n + 1

@@ -43,7 +43,7 @@ quiet_no_start : (e : Entry) → IsQuiet e → IsStarts e → ⊥
 quiet_no_start (entry.Starts state now rules) (i, h) st = cc
 quiet_no_start _ i st = st
 
-same_run : (p : Past) → IsSameRun p p
+pub same_run : (p : Past) → IsSameRun p p
 same_run p = record { rules = refl; now = refl; saw = λ g moment h. h }
 
 -- behind looks it is the same run

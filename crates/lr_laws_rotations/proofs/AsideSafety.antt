@@ -68,6 +68,7 @@ use Rattle.lr_laws_rotations.specs.Apart.{HasNames}
 use Rattle.lr_laws_rotations.specs.Rotation.{removal_paths}
 use Rattle.lr_laws_rotations.specs.Seen.{IsLogSeen}
 use Rattle.lr_laws_rotations.specs.Target.{Target, IsTargetAside, transfer_of, target_entries}
+use Rattle.lr_laws_rotations.proofs.Aged.{same_run}
 use Rattle.lr_laws_rotations.proofs.DatedWeaving.{IsDatedWoven, dated_woven, turned_filter, rotation_filter as dated_filter, later_rotation as later_dated}
 use Rattle.lr_laws_rotations.proofs.Given.{journal_before}
 use Rattle.lr_laws_rotations.proofs.LogSeen.{any_names}
@@ -76,7 +77,7 @@ use Rattle.lr_laws_rotations.proofs.OwnSafety as owns
 use Rattle.lr_laws_rotations.proofs.Reached.{waits_at, part_out}
 use Rattle.lr_laws_rotations.proofs.Safety.{Here}
 use Rattle.lr_laws_rotations.proofs.Splitting.{FirstSplit, not_yet, further, first_split, absorbed, each_woven, each_unfiltered, FilterAt, filter_at, MadeAt, made_at, attached_at}
-use Rattle.lr_laws_rotations.proofs.Stretches.{MayCome, may_come, key_to, Kept, same_run, same_on, kept_between, kept_aside, safe_retired}
+use Rattle.lr_laws_rotations.proofs.Stretches.{MayCome, may_come, key_to, Kept, same_on, kept_between, kept_aside, safe_retired}
 
 -- ---- entries that leave the path alone where the log waits
 

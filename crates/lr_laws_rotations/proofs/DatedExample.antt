@@ -25,7 +25,8 @@ use Rattle.lr_laws_family.specs.Members.{IsFamily}
 use Rattle.lr_laws_family.specs.Shown.{unlisted, Shown}
 use Rattle.lr_laws_family.proofs.DatedNames.{no_member}
 use Rattle.lr_laws_rotations.specs.Runs.{AllTurnsBy}
-use Rattle.lr_laws_rotations.specs.DatedExample.{log, format, rule, naming, file, directory, stand, target, looks, turn}
+use Rattle.lr_laws_rotations.specs.DatedExample.{log, format, rule, naming, stand, target, looks, turn}
+use Rattle.lr_laws_rotations.specs.Logs.{file, directory}
 use Rattle.lr_laws_rotations.specs.Seen.{IsLogSeen}
 
 -- ---- limits

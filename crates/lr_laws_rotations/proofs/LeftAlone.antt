@@ -17,10 +17,7 @@ use Rattle.lr_host.proofs.Names.{put_other}
 use Rattle.lr_host.specs.Quiet.{AreQuiet}
 use Rattle.lr_host.proofs.Quiet.{looked_names, no_disk_change, quiet_changes}
 use Rattle.lr_laws.proofs.Writing.{attached_before, wrote_member}
-use Rattle.lr_laws_rotations.proofs.Weaving.{IsApart, keyed}
-
-clash : (b : Bool) → b ≡ true → b ≡ false → ⊥
-clash b p q = cc
+use Rattle.lr_laws_rotations.proofs.Weaving.{IsApart, keyed, clash}
 
 -- an entry apart leaves the names of the set alone
 apart_names : (s : LogSet) (q : Past) (e : Entry) (y : Path) → IsTools e → is_change e ≡ true → IsApart s e → in_reach s y ≡ true → names (world (q ▸ e)) y ≡ names (world q) y

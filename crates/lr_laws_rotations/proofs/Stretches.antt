@@ -1,5 +1,5 @@
 -- Stretches of a run between the renames of a log that is set aside: over each the set stays safe, and its newest name may be taken.
-use Rattle.std.proofs.Common.{◌≡◌, ◌≢◌, ◌⊎◌, inl, inr, ℕ, ◌<◌, true, false, refl, sym, ◌∙◌, ap, subst, arith, Some, List, [], ◌++◌, reverse, append-nil, ℤ, pos}
+use Rattle.std.proofs.Common.{◌≡◌, ◌≢◌, ◌⊎◌, inl, inr, ℕ, ◌<◌, true, false, sym, ◌∙◌, ap, subst, arith, Some, List, [], ◌++◌, reverse, append-nil, ℤ, pos}
 use Rattle.std.specs.Prelude.{filter}
 use Rattle.std.proofs.lemmas.List.{reverse-append}
 use Rattle.lr_rules.specs.declared.path.Path.{Path}
@@ -34,6 +34,7 @@ use Rattle.lr_laws.proofs.Writing.{member_apart}
 use Rattle.lr_chain.proofs.DatedWhole.{moved_other}
 use Rattle.lr_laws_family.specs.Weave.{Weave, FirstWoven}
 use Rattle.lr_laws_family.proofs.Weaving.{weave_back}
+use Rattle.lr_laws_rotations.proofs.Aged.{same_run}
 use Rattle.lr_laws_rotations.proofs.Behind.{MayRetire}
 use Rattle.lr_laws_rotations.proofs.LogFitting.{IsNoRename, log_fits_on, log_fits_first}
 use Rattle.lr_laws_rotations.proofs.Weaving.{IsApartOrMakes, IsWoven, woven, keyed}
@@ -62,9 +63,6 @@ pub record Kept (s : LogSet) (p q : Past) (to : Path) : Type 0 where
   pub same : IsSameRun p q
   pub alike : (y : Path) (k : ℤ) → s.key y ≡ Some k → names (world q) y ≡ names (world p) y
   pub come : MayCome s q to
-
-pub same_run : (p : Past) → IsSameRun p p
-same_run p = record { rules = refl; now = refl; saw = λ g moment h. h }
 
 pub same_on : (p q r : Past) → IsSameRun p q → IsSameRun q r → IsSameRun p r
 same_on p q r a b = record { rules = b.rules ∙ a.rules; now = b.now ∙ a.now; saw = λ g moment h. b.saw g moment (a.saw g moment h) }

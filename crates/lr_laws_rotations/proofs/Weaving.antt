@@ -44,7 +44,7 @@ apart_aside s _ out = tt
 abbrev pub AreAlike : LogSet → Names → Names → Type 0
 AreAlike s n n' = (y : Path) → in_reach s y ≡ true → n y ≡ n' y
 
-clash : (b : Bool) → b ≡ true → b ≡ false → ⊥
+pub clash : (b : Bool) → b ≡ true → b ≡ false → ⊥
 clash b p q = cc
 
 pub apart_alike : (s : LogSet) (n : Names) (es : List Entry) (e : Entry) → IsApart s e → AreAlike s (names_after n (changes_of es)) (names_after n (changes_of (e ∷ es)))

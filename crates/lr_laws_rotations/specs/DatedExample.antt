@@ -1,6 +1,6 @@
 -- A log with dates, what stands of it, and the looks of a run at it: `/w/b.log`, of which one member is kept, named by the seconds
 -- since 1970, and none stands.
-use Rattle.std.specs.Prelude.{List, [], ◌∷◌, Some, None, pos, false, true, codes}
+use Rattle.std.specs.Prelude.{List, [], ◌∷◌, Some, None, false, true, codes}
 use Rattle.lr_rules.specs.declared.clock.Clock.{Clock}
 use Rattle.lr_rules.specs.declared.path.Path.{Path}
 use Rattle.lr_rules.specs.declared.rule.Back.TheVariants.{Now}
@@ -13,12 +13,11 @@ use Rattle.lr_rules.specs.declared.rule.Naming.{Naming}
 use Rattle.lr_rules.specs.declared.rule.Piece.TheVariants as piece
 use Rattle.lr_rules.specs.declared.rule.Rule.{Rule}
 use Rattle.lr_rules.specs.declared.rule.Way.TheVariants.{Rename}
-use Rattle.lr_host.specs.declared.thing.Kind.TheVariants as kind
-use Rattle.lr_host.specs.declared.thing.Seen.{Seen}
 use Rattle.lr_host.specs.declared.entry.Entry.{Entry}
 use Rattle.lr_host.specs.declared.entry.Entry.TheVariants as entry
 use Rattle.lr_family.specs.declared.stand.Stand.{Stand}
 use Rattle.lr_chain.specs.DatedReady.{dated_path, dated_ready}
+use Rattle.lr_laws_rotations.specs.Logs.{file, directory}
 use Rattle.lr_laws_rotations.specs.Target.{Target}
 
 abbrev pub log : Path
@@ -58,13 +57,6 @@ rule = record {
 
 abbrev pub naming : Naming
 naming = record { dir = codes "/w"; base = codes "b.log"; ext = []; start = 1; dated = Some format; aside = false }
-
--- a file of one byte, and a directory
-abbrev pub file : Seen
-file = record { kind = kind.File; size = 1; mtime = pos 0; mode = None; exposed = false }
-
-abbrev pub directory : Seen
-directory = record { kind = kind.Dir; size = 0; mtime = pos 0; mode = None; exposed = false }
 
 abbrev pub stand : Stand
 stand = record { there = true; parent = true; members = []; parts = [] }

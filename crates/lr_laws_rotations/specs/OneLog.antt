@@ -1,12 +1,12 @@
 -- A run over both logs in which the steps of the two rotations and the writing of the state stand between one another, while one
 -- writer holds the file of `/v/a.log` and another makes that log anew.
-use Rattle.std.specs.Prelude.{ℕ, List, [], ◌∷◌, codes, pos, Some, None}
+use Rattle.std.specs.Prelude.{List, [], ◌∷◌, codes, pos, Some, None}
 use Rattle.lr_rules.specs.declared.path.Path.{Path}
 use Rattle.lr_rules.specs.declared.civil.Moment.{Moment}
 use Rattle.lr_host.specs.declared.entry.Entry.TheVariants as entry
 use Rattle.lr_host.specs.declared.journal.Opening.{Opening}
-use Rattle.lr_host.specs.declared.journal.OpenFile.{OpenFile}
 use Rattle.lr_host.specs.World.{Past, Opens, ◌▸◌}
+use Rattle.lr_laws.specs.Chain.{worked_file}
 use Rattle.lr_laws_family.specs.Numbered.{numbered}
 use Rattle.lr_laws_family.specs.Rotation.{Rotation, Rename}
 use Rattle.lr_laws_rotations.specs.Logs.{state, part, a_naming, a_count, a_from, a_stand, a_log, a_first, a_second, a_third, b_log}
@@ -20,14 +20,10 @@ paths = state ∷ part ∷ b_log ∷ b_first ∷ []
 abbrev pub turn : Rotation
 turn = numbered a_naming a_count a_from a_stand.members a_log a_log Rename
 
--- a synced file of one byte
-abbrev pub file_of : List ℕ → OpenFile
-file_of bytes = record { bytes = bytes; synced = 1; mtime = pos 0; mode = None }
-
 -- `a.log` holds C, its members A and B, and `b.log` holds D; their identities are 0, 1, 2 and 3; writer 7 holds the file of `a.log`
 abbrev pub stood : Opening
 stood = record {
-  files = file_of (codes "C") ∷ file_of (codes "A") ∷ file_of (codes "B") ∷ file_of (codes "D") ∷ [];
+  files = worked_file (codes "C") ∷ worked_file (codes "A") ∷ worked_file (codes "B") ∷ worked_file (codes "D") ∷ [];
   dirs = codes "/" ∷ codes "/v" ∷ codes "/w" ∷ codes "/s" ∷ [];
   others = [];
   names = (a_log, 0) ∷ (a_first, 1) ∷ (a_second, 2) ∷ (b_log, 3) ∷ [];

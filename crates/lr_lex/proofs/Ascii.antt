@@ -8,8 +8,9 @@ use Rattle.lr_lex.specs.declared.sign.Sign.{Sign}
 use Rattle.lr_lex.specs.declared.sign.Sign.TheVariants.{Blank, Mark, Plain, Quoted}
 use Rattle.std.specs.Str.{is_utf8}
 use Rattle.std.specs.List.{list_any}
+use Rattle.lr_rules.specs.Bytes.{is_blank}
 use Rattle.lr_lex.specs.Items.{is_text, is_zero}
-use Rattle.lr_lex.specs.Signs.{signs, sign_of, quote_behind, escape, is_quote, is_blank}
+use Rattle.lr_lex.specs.Signs.{signs, sign_of, quote_behind, escape, is_quote}
 use Rattle.lr_lex.specs.Scanning.{sign_byte, sign_bytes, behind_sign}
 
 at_middle : (xs ys : List ℕ) (b : ℕ) → get_or (xs ++ b ∷ ys) (length xs) 0 ≡ b

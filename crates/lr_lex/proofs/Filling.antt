@@ -3,7 +3,8 @@ use Rattle.std.proofs.Common.{◌≡◌, ◌∙◌, sym, ap, refl, ◌+◌, ◌-
 use Rattle.std.specs.Prelude.{◌||◌}
 use Rattle.std.proofs.lemmas.List.{drop-drop}
 use Rattle.std.proofs.lemmas.List.Folds.{list_any-append}
-use Rattle.lr_lex.specs.Pieces.{has_line, is_newline}
+use Rattle.lr_rules.specs.Bytes.{is_newline}
+use Rattle.lr_lex.specs.Pieces.{has_line}
 use Rattle.lr_lex.specs.declared.held.Held.{Held}
 use Rattle.lr_lex.specs.Newlines.{IsNewline}
 use Rattle.lr_lex.specs.Holding.{IsHeld, Filled, rest_of, size_of}

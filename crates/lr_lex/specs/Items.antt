@@ -3,6 +3,7 @@ use Rattle.std.specs.Prelude.{ℕ, suc, zero, ◌==◌, ◌&&◌, ◌||◌, not,
 use Rattle.std.specs.Prelude.{Err, length, take, drop, find, position, slice_get, nat_lt, codes, if◌then◌else◌}
 use Rattle.std.specs.List.{list_any, list_all, flat_map}
 use Rattle.std.specs.Str.{is_utf8, bytes_eq}
+use Rattle.lr_rules.specs.Bytes.{is_blank}
 use Rattle.lr_lex.specs.declared.word.Word.{Word}
 use Rattle.lr_lex.specs.declared.item.Item.{Item}
 use Rattle.lr_lex.specs.declared.item.Item.TheVariants as item
@@ -12,7 +13,7 @@ use Rattle.lr_lex.specs.declared.item.LexKind.TheVariants as kind
 use Rattle.lr_lex.specs.declared.said.Said.{Said}
 use Rattle.lr_lex.specs.declared.said.Said.TheVariants as says
 use Rattle.lr_lex.specs.declared.sign.Sign.{Sign}
-use Rattle.lr_lex.specs.Signs.{is_blank, is_quote, line_signs}
+use Rattle.lr_lex.specs.Signs.{is_quote, line_signs}
 use Rattle.lr_lex.specs.Words.{line_words, closes, opens, before_open, is_brace}
 use Rattle.lr_lex.specs.Lines.{NumberedLine, lines}
 

@@ -1,11 +1,8 @@
 -- The signs of a line: each byte is one, so a place among the signs is a place among the bytes.
 use Rattle.std.specs.Prelude.{◌≡◌, ℕ, ◌==◌, ◌||◌, Bool, List, [], ◌∷◌, Option, Some, None, length, if◌then◌else◌}
+use Rattle.lr_rules.specs.Bytes.{is_blank}
 use Rattle.lr_lex.specs.declared.sign.Sign.{Sign}
 use Rattle.lr_lex.specs.declared.sign.Sign.TheVariants.{Blank, Mark, Plain, Quoted}
-
--- space, tab and carriage return
-abbrev pub is_blank : ℕ → Bool
-is_blank b = b == 32 || (b == 9 || b == 13)
 
 abbrev pub is_quote : ℕ → Bool
 is_quote b = b == 34 || b == 39

@@ -1,6 +1,7 @@
 // The signs of a line.
 ghost use Rattle.std.specs.Prelude.{◌≡◌, [], IfOk, OnOk, length};
-ghost use Rattle.lr_lex.specs.Signs.{is_blank, sign_of, quote_behind, escape, signs, left_open, line_signs, HasLength};
+ghost use Rattle.lr_rules.specs.Bytes.{is_blank};
+ghost use Rattle.lr_lex.specs.Signs.{sign_of, quote_behind, escape, signs, left_open, line_signs, HasLength};
 
 use lr_rules::{Listed, Memory};
 use std::alloc::Global;

@@ -5,10 +5,10 @@ use Rattle.std.proofs.lemmas.List.Elements.{All-head, All-tail}
 use Rattle.lr_rules.specs.declared.path.Path.{Path}
 use Rattle.lr_rules.specs.declared.rule.Rule.{Rule}
 use Rattle.lr_rules.specs.declared.fault.Fault.{Fault}
+use Rattle.lr_host.specs.Listing.{is_file_kind}
 use Rattle.lr_kept.specs.declared.choice.Choice.{Choice}
 use Rattle.lr_kept.specs.declared.choice.Choice.TheVariants.{Kept, Again, MemberOf, Reserved, Meets}
 use Rattle.lr_glob.specs.declared.found.Found.{Found as Match}
-use Rattle.lr_plan.specs.Planned.{is_file_kind}
 use Rattle.lr_looks.specs.Asked.{Word, word_of, rule_words, words_from, asked_by, CanAsk, CanAskAll}
 use Rattle.lr_looks.specs.Choices.{kept_of, where_file, KeepsLogs}
 use Rattle.lr_looks.specs.Found.{FoundLog, HasBounds, HasLogPath, HaveBounds, HaveLogPaths, Hold}

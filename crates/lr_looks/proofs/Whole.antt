@@ -11,8 +11,8 @@ use Rattle.lr_host.specs.declared.journal.Journal.{Journal}
 use Rattle.lr_host.specs.Told.{Counts, Left}
 use Rattle.lr_host.proofs.Left.{left_as, left_first, left_then}
 use Rattle.lr_plan.specs.declared.looks.Looks.{Looks}
-use Rattle.lr_plan.specs.Planned.{is_file_kind}
 use Rattle.lr_host.specs.Counted.{Went, WentBy}
+use Rattle.lr_host.specs.Listing.{is_file_kind}
 use Rattle.lr_host.proofs.Counts.{AreFree, free_none, free_on, onward_same, went_free, went_on, went_then}
 use Rattle.lr_kept.specs.declared.choice.Choice.{Choice}
 use Rattle.lr_kept.specs.declared.choice.Choice.TheVariants.{Kept, Again, MemberOf, Reserved, Meets}

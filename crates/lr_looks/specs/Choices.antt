@@ -6,11 +6,11 @@ use Rattle.lr_rules.specs.declared.path.Path.{Path}
 use Rattle.lr_rules.specs.declared.rule.Naming.{Naming}
 use Rattle.lr_rules.specs.declared.fault.Fault.{Fault}
 use Rattle.lr_rules.specs.declared.fault.Fault.TheVariants as fault
+use Rattle.lr_host.specs.Listing.{is_file_kind}
 use Rattle.lr_family.specs.declared.family.Family.{Family}
 use Rattle.lr_kept.specs.declared.choice.Choice.{Choice}
 use Rattle.lr_kept.specs.declared.choice.Choice.TheVariants.{Kept, Again, MemberOf, Reserved, Meets}
 use Rattle.lr_kept.specs.Chosen.{AreChosen}
-use Rattle.lr_plan.specs.Planned.{is_file_kind}
 use Rattle.lr_looks.specs.Found.{FoundLog}
 
 -- the path and the names of a log, by which it is chosen

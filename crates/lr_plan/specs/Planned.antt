@@ -18,9 +18,8 @@ use Rattle.lr_rules.specs.declared.rule.Way.{Way}
 use Rattle.lr_rules.specs.declared.rule.Way.TheVariants as way
 use Rattle.lr_rules.specs.Limits.{is_format, or_none}
 use Rattle.lr_rules.specs.Names.{aside_path}
-use Rattle.lr_host.specs.declared.thing.Kind.{Kind}
-use Rattle.lr_host.specs.declared.thing.Kind.TheVariants as kind
 use Rattle.lr_host.specs.declared.thing.Seen.{Seen}
+use Rattle.lr_host.specs.Listing.{is_file_kind}
 use Rattle.lr_scripts.specs.declared.removal.Removal.{Removal}
 use Rattle.lr_due.specs.declared.answer.Due.{Due}
 use Rattle.lr_due.specs.declared.answer.Due.TheVariants as due
@@ -93,10 +92,6 @@ abbrev pub standing : Rule → LogLook → LogLook
 standing rule look = with_stand (stand_for rule look) look
 
 -- ---- a log that is set aside, or was
-
-abbrev pub is_file_kind : Kind → Bool
-is_file_kind kind.File = true
-is_file_kind _ = false
 
 -- a file was seen
 abbrev pub is_file : Option Seen → Bool

@@ -1,4 +1,5 @@
 pub mod Between
+pub mod Bytes
 pub mod Civil
 pub mod Dated
 pub mod Limits

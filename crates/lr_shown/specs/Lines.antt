@@ -12,6 +12,7 @@ use Rattle.lr_due.specs.declared.answer.Why.TheVariants as why
 use Rattle.lr_due.specs.declared.answer.WhyNot.{WhyNot}
 use Rattle.lr_due.specs.declared.answer.WhyNot.TheVariants as why_not
 use Rattle.lr_scripts.specs.declared.command.Command.{Command}
+use Rattle.lr_scripts.specs.Commands.{behind_spaces}
 use Rattle.lr_plan.specs.declared.plan.Plan.{Plan}
 use Rattle.lr_plan.specs.declared.step.SetSteps.{SetSteps}
 use Rattle.lr_plan.specs.declared.step.Step.{Step}
@@ -44,10 +45,6 @@ abbrev pub decision_line : Path × Due → List ℕ
 decision_line decision = due_line decision.0 decision.1
 
 -- ---- steps
-
--- the words, each behind a space
-abbrev pub behind_spaces : List (List ℕ) → List ℕ
-behind_spaces words = flat_map (λ word. 32 ∷ word) words
 
 -- a script, which is handed to a shell as `-c TEXT NAME ARGS..`, by its phase and its arguments
 abbrev pub script_line : Phase → Command → List ℕ

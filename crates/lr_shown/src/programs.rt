@@ -1,8 +1,9 @@
 // The lines of programs and of removals.
 ghost use Rattle.std.specs.Prelude.{◌≡◌, ◌∷◌, [], drop, slice_index_or, option_copied};
 ghost use Rattle.lr_report.specs.Kinds.{phase_text};
+ghost use Rattle.lr_scripts.specs.Commands.{behind_spaces};
 ghost use Rattle.lr_plan.specs.Steps.{input_of, program, removal, removals};
-ghost use Rattle.lr_shown.specs.Lines.{behind_spaces, script_line, mail_line, program_line, lines_of};
+ghost use Rattle.lr_shown.specs.Lines.{script_line, mail_line, program_line, lines_of};
 ghost use Rattle.lr_shown.specs.Puts.{Puts};
 
 use crate::pieces::{put_path, put_text};

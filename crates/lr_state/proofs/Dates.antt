@@ -3,7 +3,8 @@ use Rattle.std.proofs.Common.{◌≡◌, ◌∙◌, ap, sym, subst, refl, ℕ, �
 use Rattle.std.specs.List.{list_all}
 use Rattle.std.proofs.lemmas.Bool.{and_parts, and_from, eqb-true, cond-true, leb-true}
 use Rattle.lr_rules.specs.declared.civil.Civil.{Civil}
-use Rattle.lr_state.specs.Grammar.{is_blank, is_other, is_digit, IsNumber, IsClockTime, IsTime, HasDate}
+use Rattle.lr_rules.specs.Bytes.{is_blank, is_digit}
+use Rattle.lr_state.specs.Grammar.{is_other, IsNumber, IsClockTime, IsTime, HasDate}
 use Rattle.lr_state.specs.Reading.{Clock, Parts, HasParts, before, from_first, past_gap, behind, two_in, four_in, clock_in, time_in, parts_in, ◌>>=◌}
 use Rattle.lr_state.proofs.Names.{starts, cut-complete, cut-sound}
 use Rattle.lr_state.proofs.Numbers.{no_digit, two-sound, two-complete, four-sound, four-complete}

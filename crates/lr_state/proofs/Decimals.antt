@@ -2,7 +2,8 @@
 use Rattle.std.proofs.Common.{◌≡◌, refl, ℕ, ◌+◌, ◌*◌, ◌/◌, ◌%◌, ◌<◌, ◌≤◌, Bool, true, false, not, cond, List, [], ◌∷◌, arith, nat_lt}
 use Rattle.std.specs.List.{list_all}
 use Rattle.std.proofs.lemmas.Bool.{and_parts, and_from, ltb-true, ltb-false, le-leb, leb-true, eqb-true}
-use Rattle.lr_state.specs.Grammar.{is_digit, is_newline, IsNumber}
+use Rattle.lr_rules.specs.Bytes.{is_digit, is_newline}
+use Rattle.lr_state.specs.Grammar.{IsNumber}
 use Rattle.lr_state.specs.Written.{decimal}
 
 digit : (d : ℕ) → d < 10 → is_digit (48 + d) ≡ true

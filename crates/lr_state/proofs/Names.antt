@@ -2,7 +2,8 @@
 use Rattle.std.proofs.Common.{◌≡◌, ◌∙◌, ap, sym, subst, refl, ℕ, Bool, true, false, not, ◌||◌, ◌==◌, cond, List, [], ◌∷◌, ◌++◌, take, map, Option, Some, None, append_assoc, ◌⊎◌, inl, inr}
 use Rattle.std.specs.List.{list_all, flat_map}
 use Rattle.std.proofs.lemmas.Bool.{and_parts, and_from, or_parts, not-true, eqb-true, cond-true, cond-false}
-use Rattle.lr_state.specs.Grammar.{Sign, spelling, is_escaped, byte_of, is_blank, is_other, ends_word, IsQuoted, IsBare, BeginsWithName}
+use Rattle.lr_rules.specs.Bytes.{is_blank}
+use Rattle.lr_state.specs.Grammar.{Sign, spelling, is_escaped, byte_of, is_other, ends_word, IsQuoted, IsBare, BeginsWithName}
 use Rattle.lr_state.specs.Table.{is_name}
 use Rattle.lr_state.specs.Reading.{NameAndRest, with_byte, with_front, quoted, before, from_first, name_in, checked}
 

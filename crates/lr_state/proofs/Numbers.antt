@@ -3,7 +3,8 @@ use Rattle.std.proofs.Common.{◌≡◌, ◌∙◌, ap, sym, subst, refl, ℕ, �
 use Rattle.std.specs.List.{list_all}
 use Rattle.std.proofs.lemmas.Bool.{and_parts, and_from, not-true, cond-true, cond-false}
 use Rattle.std.proofs.lemmas.List.Folds.{list_all-append}
-use Rattle.lr_state.specs.Grammar.{is_digit, value_from, IsNumber}
+use Rattle.lr_rules.specs.Bytes.{is_digit}
+use Rattle.lr_state.specs.Grammar.{value_from, IsNumber}
 use Rattle.lr_state.specs.Reading.{Number, more_of, more, digit_in, two_of, two_in, four_of, four_in}
 
 -- the text is empty, or begins with no digit

@@ -10,7 +10,8 @@ use Rattle.jiff_core.proofs.CalendarLemmas.{days_in_month_bounds}
 use Rattle.jiff_core.proofs.SignedLemmas.{signed_arith}
 use Rattle.lr_rules.specs.Path.{is_bad_byte, has_bad_byte}
 use Rattle.lr_rules.specs.declared.civil.Civil.{Civil}
-use Rattle.lr_state.specs.Grammar.{Sign, spelling, is_escaped, byte_of, is_newline, IsNumber, BeginsWithName, HasDate, LinesSay, TextSays}
+use Rattle.lr_rules.specs.Bytes.{is_newline}
+use Rattle.lr_state.specs.Grammar.{Sign, spelling, is_escaped, byte_of, IsNumber, BeginsWithName, HasDate, LinesSay, TextSays}
 use Rattle.lr_state.specs.Table.{Entry, moment_of, is_name, is_table}
 use Rattle.lr_state.specs.Written.{escaped, decimal, moment_text, line_text, entry_line, text_of}
 use Rattle.lr_state.proofs.Views.{bytes_swapped}

@@ -1,26 +1,17 @@
 -- What a state text says: the grammar of its lines, the table that they make, and their faults.
-use Rattle.std.specs.Prelude.{Bool, true, false, not, ◌&&◌, ◌||◌, ◌==◌, ◌≡◌, ◌≢◌, ◌⊎◌, ℕ, pos, ◌+◌, ◌-◌, ◌*◌, ◌<◌, ◌≤◌, nat_lt}
-use Rattle.std.specs.Prelude.{nat_le, List, [], ◌∷◌, ◌++◌, length, map, take, Result, Ok, Err, Option, Some, None, IsSome, codes}
+use Rattle.std.specs.Prelude.{Bool, true, false, not, ◌||◌, ◌==◌, ◌≡◌, ◌≢◌, ◌⊎◌, ℕ, pos, ◌+◌, ◌-◌, ◌*◌, ◌<◌, ◌≤◌, nat_lt}
+use Rattle.std.specs.Prelude.{List, [], ◌∷◌, ◌++◌, length, map, take, Result, Ok, Err, Option, Some, None, IsSome, codes}
 use Rattle.std.specs.Prelude.{if◌then◌else◌}
 use Rattle.std.specs.List.{list_all, flat_map, slice_split}
 use Rattle.std.specs.Str.{bytes_eq}
 use Rattle.lr_rules.specs.declared.civil.Civil.{Civil}
 use Rattle.lr_rules.specs.declared.fault.StateKind.{StateKind}
 use Rattle.lr_rules.specs.declared.fault.StateKind.TheVariants.{TooBig, BadTop, BadName, BadDate, Twice}
+use Rattle.lr_rules.specs.Bytes.{is_blank, is_newline, is_digit}
 use Rattle.lr_state.specs.Table.{Entry, moment_of, is_name}
-
--- a space, a tab or a carriage return
-abbrev pub is_blank : ℕ → Bool
-is_blank b = (b == 32) || ((b == 9) || (b == 13))
 
 abbrev pub is_other : ℕ → Bool
 is_other b = not (is_blank b)
-
-abbrev pub is_digit : ℕ → Bool
-is_digit b = nat_le 48 b && nat_le b 57
-
-abbrev pub is_newline : ℕ → Bool
-is_newline b = b == 10
 
 -- the end, or a blank
 abbrev pub ends_word : List ℕ → Bool

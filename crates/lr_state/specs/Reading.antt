@@ -7,8 +7,9 @@ use Rattle.std.specs.List.{list_all}
 use Rattle.lr_rules.specs.declared.civil.Civil.{Civil}
 use Rattle.lr_rules.specs.declared.fault.StateKind.{StateKind}
 use Rattle.lr_rules.specs.declared.fault.StateKind.TheVariants.{BadName, BadDate, Twice}
+use Rattle.lr_rules.specs.Bytes.{is_blank, is_digit}
 use Rattle.lr_rules.specs.Civil.{IsMoment}
-use Rattle.lr_state.specs.Grammar.{is_blank, is_other, is_digit}
+use Rattle.lr_state.specs.Grammar.{is_other}
 use Rattle.lr_state.specs.Table.{Entry, moment_of, is_name}
 
 abbrev pub NameAndRest : Type 0

@@ -1,7 +1,8 @@
 // Moments behind a name: blanks, a date with a time or without, blanks.
 ghost use Rattle.std.specs.Prelude.{◌≡◌, ◌≤◌, ◌<◌, ◌+◌, ◌*◌, length, IfSome, option_map};
 ghost use Rattle.std.specs.List.{list_all, position_or_len};
-ghost use Rattle.lr_state.specs.Grammar.{is_blank, is_other, is_digit};
+ghost use Rattle.lr_rules.specs.Bytes.{is_blank, is_digit};
+ghost use Rattle.lr_state.specs.Grammar.{is_other};
 ghost use Rattle.lr_state.specs.Reading.{seen, seen_number, seen_year, year_of, more_of, digit_in, two_in, four_in, behind};
 ghost use Rattle.lr_state.specs.Reading.{from_first, past_gap, clock_in, time_in, parts_in, IsMomentOf};
 

@@ -1,7 +1,7 @@
 // Names in front of a line, between quotes or as they are.
 ghost use Rattle.std.specs.Prelude.{◌≡◌, ◌≤◌, length, false, IfOk, option_map};
 ghost use Rattle.std.specs.List.{position_or_len};
-ghost use Rattle.lr_state.specs.Grammar.{is_blank};
+ghost use Rattle.lr_rules.specs.Bytes.{is_blank};
 ghost use Rattle.lr_state.specs.Reading.{seen_name, quoted, bare, name_in, checked};
 ghost use Rattle.lr_state.specs.Table.{is_name};
 

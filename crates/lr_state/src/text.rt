@@ -1,8 +1,9 @@
 // State texts: reading, and what is written before the lines.
 ghost use Rattle.std.specs.Prelude.{◌≡◌, ◌<◌, ◌≤◌, ◌++◌, ◌∷◌, [], ℕ, List, Ok, length, IfSome, option_map};
 ghost use Rattle.std.specs.List.{position_or_len, slice_split};
+ghost use Rattle.lr_rules.specs.Bytes.{is_newline};
 ghost use Rattle.lr_state.specs.Answer.{ReaderGives, IsSaidBy};
-ghost use Rattle.lr_state.specs.Grammar.{Said, is_newline, is_top, top_2, lines_behind, LinesSay, TextSays};
+ghost use Rattle.lr_state.specs.Grammar.{Said, is_top, top_2, lines_behind, LinesSay, TextSays};
 ghost use Rattle.lr_state.specs.Reading.{seen};
 
 use crate::line::{LineStop, add_line};

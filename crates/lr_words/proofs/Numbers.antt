@@ -4,8 +4,9 @@ use Rattle.std.specs.List.{list_all}
 use Rattle.std.specs.Char.{digit_value}
 use Rattle.std.proofs.lemmas.Bool.{and_parts}
 use Rattle.std.proofs.lemmas.Bool.Decides.{nat_tests}
+use Rattle.lr_rules.specs.Bytes.{is_digit}
 use Rattle.lr_rules.specs.Path.{is_empty}
-use Rattle.lr_words.specs.Numbers.{is_digit, is_octal, is_number}
+use Rattle.lr_words.specs.Numbers.{is_octal, is_number}
 
 -- a digit's code and value
 pub digit_of : (c : ℕ) → is_digit c ≡ true → (48 ≤ c) × (c ≤ 57) × (digit_value c ≡ c - 48)

@@ -7,13 +7,11 @@ use Rattle.lr_rules.specs.declared.fault.ConfKind.{ConfKind}
 use Rattle.lr_rules.specs.declared.fault.ConfKind.TheVariants as kind
 use Rattle.lr_rules.specs.declared.rule.Count.{Count}
 use Rattle.lr_rules.specs.declared.rule.Count.TheVariants as count
+use Rattle.lr_rules.specs.Bytes.{is_digit}
 use Rattle.lr_rules.specs.Limits.{is_small, is_size}
 use Rattle.lr_rules.specs.Path.{is_empty}
 
 -- ---- numbers
-
-abbrev pub is_digit : ℕ → Bool
-is_digit b = nat_le 48 b && nat_le b 57
 
 -- one digit or more
 unfoldable pub is_number : List ℕ → Bool

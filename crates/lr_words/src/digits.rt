@@ -1,7 +1,8 @@
 // Numbers in words.
 ghost use Rattle.std.specs.Prelude.{◌≡◌, ◌<◌, ◌≤◌, true, MatchOption};
 ghost use Rattle.std.specs.List.{list_all};
-ghost use Rattle.lr_words.specs.Numbers.{is_digit, is_number, number_of, number_value, is_minus_one, count_value, weekday_value};
+ghost use Rattle.lr_rules.specs.Bytes.{is_digit};
+ghost use Rattle.lr_words.specs.Numbers.{is_number, number_of, number_value, is_minus_one, count_value, weekday_value};
 ghost use Rattle.lr_rules.specs.Path.{is_empty};
 
 use lr_rules::{ConfKind, Count};

@@ -2,7 +2,7 @@ use Rattle.std.proofs.Common.{◌≡◌, ◌≤◌, ◌-◌, ◌++◌, ℕ, List
 use Rattle.std.specs.Prelude.{All, Contains}
 use Rattle.std.specs.List.Sorted.{IsPartitionedBy}
 use Rattle.std.proofs.lemmas.List.Sorted.{IsPartitionPoint-from_clause}
-use Rattle.lr_family.specs.Listed.{NamesRise}
+use Rattle.lr_host.specs.Listing.{NamesRise}
 use Rattle.lr_family.proofs.Prefixes.{before, begins, before_first, begun_first, StartsAt, EndsAt, rest_is, part_has, part_begins, part_rises}
 use Rattle.lr_family.proofs.prefix.names_with.Goals as goal
 

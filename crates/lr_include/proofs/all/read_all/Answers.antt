@@ -8,7 +8,8 @@ use Rattle.lr_include.proofs.Stages.{reads_all, all_mean, no_todo}
 use Rattle.lr_include.specs.Readers.{IsConfOrCall}
 use Rattle.lr_include.proofs.Allowed.{only_those}
 use Rattle.lr_include.proofs.Calls.{told_rose_by, told_rose}
-use Rattle.lr_include.proofs.Lacking.{on_err, lacks_here}
+use Rattle.lr_include.proofs.Lacking.{lacks_here}
+use Rattle.lr_include.proofs.Texts.{on_err}
 use Rattle.lr_include.proofs.all.read_all.Goals as goal
 
 pub returns-clause-told : goal.returns-clause-told

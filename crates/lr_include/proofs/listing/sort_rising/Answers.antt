@@ -6,8 +6,8 @@ use Rattle.std.specs.List.Sorted.{IsSortedByClosure}
 use Rattle.std.proofs.lemmas.Cmp.{nat_list_cmp_total}
 use Rattle.std.proofs.lemmas.Fn.{always_returns_same}
 use Rattle.std.proofs.lemmas.List.MinMax.{ranks_by}
+use Rattle.lr_host.specs.Listing.{NamesRise}
 use denote.Param.Members.{Mut}
-use Rattle.lr_include.specs.Visits.{NamesRise}
 use Rattle.lr_include.proofs.listing.sort_rising.Goals as goal
 
 sorted : {F : Type 0} {g : Mut F (Bor (List ℕ) × (Bor (List ℕ) × Unit {0})) Ordering} {f : F} (xs : List (List ℕ)) → IsSortedByClosure g f xs

@@ -1,6 +1,6 @@
 use Rattle.std.proofs.Common.{rules, ◌≡◌, ◌++◌, Err, codes, drop}
 use Rattle.lr_report.specs.Kinds.{phase_text}
-use Rattle.lr_shown.specs.Lines.{behind_spaces}
+use Rattle.lr_scripts.specs.Commands.{behind_spaces}
 use Rattle.lr_shown.proofs.Joined.{puts_on, puts_stop}
 use Rattle.lr_shown.proofs.programs.put_script.Goals as goal
 

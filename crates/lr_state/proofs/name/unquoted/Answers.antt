@@ -1,9 +1,9 @@
 use Rattle.std.proofs.Common.{◌≡◌, ◌∙◌, ap, List, ℕ, ◌-◌, length, take, drop}
 use Rattle.std.specs.List.{position_or_len}
-use Rattle.lr_state.specs.Grammar.{is_blank}
 use Rattle.lr_state.specs.Reading.{before}
 use Rattle.lr_state.proofs.Cuts.{take-first, drop-first}
 use Rattle.std.proofs.lemmas.List.{take_rest}
+use Rattle.lr_rules.specs.Bytes.{is_blank}
 use Rattle.lr_state.proofs.name.unquoted.Goals as goal
 
 pub returns : goal.returns

@@ -1,9 +1,9 @@
 use Rattle.std.proofs.Common.{◌≡◌, ◌∙◌, ap, sym, ℕ, ◌+◌, ◌-◌, ◌<◌, List, ◌∷◌, length, take, drop, arith}
 use Rattle.std.specs.List.{slice_split, position_or_len}
 use Rattle.std.proofs.lemmas.List.Splits.{slice_split_first}
-use Rattle.lr_state.specs.Grammar.{is_newline}
 use Rattle.lr_state.proofs.Cuts.{split-none}
 use Rattle.std.proofs.lemmas.List.{take_rest}
+use Rattle.lr_rules.specs.Bytes.{is_newline}
 use Rattle.lr_state.proofs.text.cut_line.Goals as goal
 
 cut : (text : List ℕ) (end : ℕ) → end ≡ position_or_len is_newline text → end < length text

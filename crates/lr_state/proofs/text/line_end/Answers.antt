@@ -2,7 +2,7 @@ use Rattle.std.proofs.Common.{rules, tests, ◌∙◌, ap, Option, ℕ, length}
 use Rattle.std.specs.Prelude.{unwrap_or}
 use Rattle.std.proofs.lemmas.Iterator.Search.{position_from_yields_List}
 use Rattle.std.proofs.lemmas.Iterator.{YieldsList-from_slice}
-use Rattle.lr_state.specs.Grammar.{is_newline}
+use Rattle.lr_rules.specs.Bytes.{is_newline}
 use Rattle.lr_state.proofs.Cuts.{unwrap_position}
 use Rattle.lr_state.proofs.text.line_end.Goals as goal
 

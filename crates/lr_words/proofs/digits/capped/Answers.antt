@@ -2,7 +2,8 @@ use Rattle.std.proofs.Common.{◌≡◌, ℕ, ◌+◌, ◌*◌, ◌<◌, ◌≤�
 use Rattle.std.proofs.lemmas.Bool.{cases_lt}
 use Rattle.std.specs.Char.{digit_value}
 use Rattle.std.proofs.lemmas.Int.Digits.{digits_value_more}
-use Rattle.lr_words.specs.Numbers.{is_digit, number_of}
+use Rattle.lr_rules.specs.Bytes.{is_digit}
+use Rattle.lr_words.specs.Numbers.{number_of}
 use Rattle.lr_words.proofs.Numbers.{digit_of, at_place}
 use Rattle.lr_words.proofs.digits.capped.Goals as goal
 use Rattle.lr_words.proofs.digits.capped.Goals.{then-value-from, else-value-from}

@@ -5,7 +5,8 @@ use Rattle.lr_include.proofs.Readers.{on_ok_as}
 use Rattle.lr_include.proofs.Stages.{line_turned}
 use Rattle.lr_host.specs.Told.{Left}
 use Rattle.lr_include.specs.Lacking.{LacksFrom}
-use Rattle.lr_include.proofs.Lacking.{on_err, on_err_as, lacks_here}
+use Rattle.lr_include.proofs.Lacking.{on_err_as, lacks_here}
+use Rattle.lr_include.proofs.Texts.{on_err}
 use Rattle.lr_include.proofs.course.Course.turn.Goals as goal
 
 pub returns-in-Line-clause-told : goal.returns-in-Line-clause-told
