@@ -51,7 +51,8 @@ FindsNone aside log f ts = FindsNot aside f ts ⊎ ((set : Option Path) × Then 
 
 -- ---- all of it
 
--- What stands of the family; the path where the log waits that is set aside, if a file stands there; and the log's own, if one does.
+-- What stands of the family; the path where the log waits that is set aside, if a file stands there; and the log's own, if one
+-- does.
 pub record FamilySaw : Type 0 where
   pub stand : Stand
   pub aside : Option Path

@@ -53,7 +53,8 @@ pub record Says (here : Path) (words : List (List ℕ)) (zone : Zone) (seconds :
   -- the machine may make then; the old one, where the call is dry or has no report
   pub state : (request : Request) → AskFor here words request
       → KeepsWhole request.settings.state (λ ts text. IsTextOf request.settings.debug (without_out outcome) came text) told later
-  -- just before a log is emptied, its copy has the newest member's path, with all bytes that the log had as it was last read
+  -- each log that is emptied is one for which a rule asks for a copy; and where writers spared that, it has the newest member's
+  -- path just before, with all bytes that the log had as it was last read
   pub copied : EmptiesWhole (IsCopyIn came) told later
   -- what was printed of the plan, and of the answer
   pub prints : Prints (printed_of (asked_text (asked here words) plan) outcome) outcome before after low high
