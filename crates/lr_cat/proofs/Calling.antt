@@ -33,7 +33,7 @@ use Rattle.lr_cat.specs.declared.outcome.CatOutcome.TheVariants as outcome
 use Rattle.lr_cat.specs.declared.stop.CatStop.{CatStop}
 use Rattle.lr_cat.specs.declared.stop.CatStop.TheVariants as stop
 use Rattle.lr_cat.specs.declared.words.Wanted.{Wanted}
-use Rattle.lr_cat.specs.Came.{Came, report_by, clock_fault, LogEnds, held, short, called, RulesEnd, given, ConfsEnd, not_read, read, CatEnds, no_clock, no_memory, behind_clock, CatShows, bad_words, wants}
+use Rattle.lr_cat.specs.Came.{Came, report_by, done_by, own_of, clock_fault, LogEnds, held, short, called, RulesEnd, given, ConfsEnd, not_read, read, CatEnds, no_clock, no_memory, behind_clock, CatShows, bad_words, wants}
 use Rattle.lr_cat.specs.Cats.{Cats, StopsSo}
 use Rattle.lr_cat.specs.First.{IsFound}
 use Rattle.lr_cat.specs.Internal.{CameSo, IsNoClock, answer_by}
@@ -55,17 +55,17 @@ came_behind P Q R f l c = record { came = c.came; shown = left_then l c.shown (�
 -- ---- behind the definition
 
 module _ (w : Wanted) (clock : Clock) (m : Meaning) (rules : Rules) (n : Naming) where
-  by_files : (own : Option Fault) (out : CatOutcome) {o k : Option Journal} {x y : Option (List ℕ)} → out ≡ outcome.Done (report_by m own) → PassesTexts (Cats w clock rules n own) own o k x y → CameSo (LogEnds w clock m rules n out) o k x y
-  by_files own out is p = record {
-    came = Some (record { clock = clock; meaning = m; rules = rules; naming = n; own = own; texts = p.texts });
-    shown = left_as p.left (λ ts h. called own p.texts is refl h);
+  by_files : (how : Result Bool Fault) (out : CatOutcome) {o k : Option Journal} {x y : Option (List ℕ)} → out ≡ done_by m how → PassesTexts (Cats w clock rules n how) (own_of how) o k x y → CameSo (LogEnds w clock m rules n out) o k x y
+  by_files how out is p = record {
+    came = Some (record { clock = clock; meaning = m; rules = rules; naming = n; how = how; texts = p.texts });
+    shown = left_as p.left (λ ts h. called how p.texts is refl h);
     took = p.took;
   }
 
-  pub log_ends : (r : Result (Unit {0}) CatStop) (out : CatOutcome) (o k : Option Journal) (x y : Option (List ℕ)) → out ≡ answer_by m.notices m.faults r → CameTo (λ own texts ts. Cats w clock rules n own texts ts) r o k x y
+  pub log_ends : (r : Result Bool CatStop) (out : CatOutcome) (o k : Option Journal) (x y : Option (List ℕ)) → out ≡ answer_by m.notices m.faults r → CameTo (λ how texts ts. Cats w clock rules n how texts ts) r o k x y
       → IfErr r (λ why. Left (StopsSo w clock rules why) o k) → CameSo (LogEnds w clock m rules n out) o k x y
-  log_ends (Ok done) out o k x y is p s = by_files None out is p
-  log_ends (Err (stop.Fault f)) out o k x y is p s = by_files (Some f) out is p
+  log_ends (Ok waits) out o k x y is p s = by_files (Ok waits) out is p
+  log_ends (Err (stop.Fault f)) out o k x y is p s = by_files (Err f) out is p
   log_ends (Err stop.Held) out o k x y is p s = record { came = None; shown = left_as s (λ ts h. held is refl h); took = p }
   log_ends (Err stop.Memory) out o k x y is p s = record { came = None; shown = left_as s (λ ts h. short is refl h); took = p }
 
@@ -86,11 +86,11 @@ one_counted faults f a b puts later none le h = let joined = calls_on faults (f 
     by (fault.TooLong path) h = omega (arith, le)
     by _ h = absurd h
 
-pub answer_counted : (notices : List _) (faults : List Fault) (r : Result (Unit {0}) CatStop) (out : CatOutcome) (a b : Counts) (puts later : ℕ) → out ≡ answer_by notices faults r → calls_in faults ≡ 0 → NoneFell a b → IfErr r (λ why. StopCause why a b puts later) → HasCounted out a b
+pub answer_counted : (notices : List _) (faults : List Fault) (r : Result Bool CatStop) (out : CatOutcome) (a b : Counts) (puts later : ℕ) → out ≡ answer_by notices faults r → calls_in faults ≡ 0 → NoneFell a b → IfErr r (λ why. StopCause why a b puts later) → HasCounted out a b
 answer_counted notices faults r out a b puts later is none le cause = subst (λ (z : CatOutcome). HasCounted z a b) (sym is) (by r cause)
   where
-    by : (r : Result (Unit {0}) CatStop) → IfErr r (λ why. StopCause why a b puts later) → HasCounted (answer_by notices faults r) a b
-    by (Ok done) c = none_counted faults a b none le.0
+    by : (r : Result Bool CatStop) → IfErr r (λ why. StopCause why a b puts later) → HasCounted (answer_by notices faults r) a b
+    by (Ok waits) c = none_counted faults a b none le.0
     by (Err (stop.Fault f)) c = one_counted faults f a b puts later none le.0 c
     by (Err stop.Held) c = c
     by (Err stop.Memory) c = tt
@@ -102,12 +102,12 @@ own_alone faults f g none only has = ⊎_elim
     (λ i. ⊎_elim (λ e. e) (λ z. absurd z) i)
     (in_append g faults (f ∷ []) (in_from g (faults ++ f ∷ []) has))
 
-pub own_fault : (g : Fault) (notices : List _) (faults : List Fault) (r : Result (Unit {0}) CatStop) (out : CatOutcome) (a b : Counts) (puts later : ℕ) → (IsConfOrCall g → ⊥) → out ≡ answer_by notices faults r → All IsConfOrCall faults → IfErr r (λ why. StopCause why a b puts later)
+pub own_fault : (g : Fault) (notices : List _) (faults : List Fault) (r : Result Bool CatStop) (out : CatOutcome) (a b : Counts) (puts later : ℕ) → (IsConfOrCall g → ⊥) → out ≡ answer_by notices faults r → All IsConfOrCall faults → IfErr r (λ why. StopCause why a b puts later)
     → HasFault out g → HasCause g a b puts later
 own_fault g notices faults r out a b puts later none is only cause has = by r cause (subst (λ (z : CatOutcome). HasFault z g) is has)
   where
-    by : (r : Result (Unit {0}) CatStop) → IfErr r (λ why. StopCause why a b puts later) → HasFault (answer_by notices faults r) g → HasCause g a b puts later
-    by (Ok done) c h = absurd (none (All-contains IsConfOrCall faults g only h))
+    by : (r : Result Bool CatStop) → IfErr r (λ why. StopCause why a b puts later) → HasFault (answer_by notices faults r) g → HasCause g a b puts later
+    by (Ok waits) c h = absurd (none (All-contains IsConfOrCall faults g only h))
     by (Err (stop.Fault f)) c h = subst (λ (z : Fault). HasCause z a b puts later) (own_alone faults f g none only h) c
     by (Err stop.Held) c h = absurd h
     by (Err stop.Memory) c h = absurd h
@@ -118,11 +118,11 @@ out_alone h = h
 pub clock_alone : IsConfOrCall fault.Clock → ⊥
 clock_alone h = h
 
-pub no_words : (notices : List _) (faults : List Fault) (r : Result (Unit {0}) CatStop) (out : CatOutcome) → out ≡ answer_by notices faults r → out ≢ outcome.BadWords
+pub no_words : (notices : List _) (faults : List Fault) (r : Result Bool CatStop) (out : CatOutcome) → out ≡ answer_by notices faults r → out ≢ outcome.BadWords
 no_words notices faults r out is bad = by r (sym is ∙ bad)
   where
-    by : (r : Result (Unit {0}) CatStop) → answer_by notices faults r ≢ outcome.BadWords
-    by (Ok done) e = absurd (cc)
+    by : (r : Result Bool CatStop) → answer_by notices faults r ≢ outcome.BadWords
+    by (Ok waits) e = absurd (cc)
     by (Err (stop.Fault f)) e = absurd (cc)
     by (Err stop.Held) e = absurd (cc)
     by (Err stop.Memory) e = absurd (cc)
@@ -145,7 +145,7 @@ module _ (w : Wanted) (clock : Clock) (out : CatOutcome) where
   pub confs_lack : {o k : Option Journal} (x : Option (List ℕ)) → out ≡ outcome.OutOfMemory → Left (LacksReading w.confs) o k → CameSo (ConfsEnd w clock out) o k x x
   confs_lack x is l = record { came = None; shown = left_as l (λ ts h. not_read is refl h); took = refl }
 
-  pub confs_broke : (m : Meaning) {o k : Option Journal} (x : Option (List ℕ)) → out ≡ outcome.Done (report_by m None) → (calls_in m.faults ≡ 0 → ⊥) → Left (Reads w.confs m) o k → CameSo (ConfsEnd w clock out) o k x x
+  pub confs_broke : (m : Meaning) {o k : Option Journal} (x : Option (List ℕ)) → out ≡ outcome.Done (report_by m None) false → (calls_in m.faults ≡ 0 → ⊥) → Left (Reads w.confs m) o k → CameSo (ConfsEnd w clock out) o k x x
   confs_broke m x is some l = record { came = None; shown = left_as l (λ ts h. ConfsEnd.broke_off m is refl (some_calls (calls_in m.faults) some) h); took = refl }
 
 -- ---- the clock
@@ -172,7 +172,7 @@ module _ (w : Wanted) (seconds : ℤ) (out : CatOutcome) where
   clock_lacks f x is c l = record { came = None; shown = left_as l (λ ts h. by ts (lacks_none f ts h) is); took = refl }
     where
       by : (ts : List Entry) → ts ≡ [] → IsNoClock (clock_stop.Fault f) out → CatEnds w seconds out None ts
-      by ts none (inl e) = let u = utc_fault seconds f c in no_clock (e ∙ ap (λ (g : Fault). outcome.Done (record { notices = []; faults = g ∷ [] })) u.0) refl u.1 none
+      by ts none (inl e) = let u = utc_fault seconds f c in no_clock (e ∙ ap (λ (g : Fault). outcome.Done (record { notices = []; faults = g ∷ [] }) false) u.0) refl u.1 none
       by ts none (inr e) = no_memory e refl none
 
   memory_none : (ts : List Entry) → LacksZoneMemory Utc ts → ts ≡ []
@@ -190,19 +190,19 @@ module _ (w : Wanted) (seconds : ℤ) (out : CatOutcome) where
 abbrev pub FaultsOf : ClockStop → ℤ → Type 0
 FaultsOf stop seconds = (f : Fault) → stop ≡ clock_stop.Fault f → IsClockFault Utc seconds f
 
-pub stop_is_clock : (seconds : ℤ) (stop : ClockStop) (out : CatOutcome) → IsNoClock stop out → FaultsOf stop seconds → (out ≡ outcome.Done clock_fault) ⊎ (out ≡ outcome.OutOfMemory)
-stop_is_clock seconds (clock_stop.Fault f) out (inl e) c = inl (e ∙ ap (λ (g : Fault). outcome.Done (record { notices = []; faults = g ∷ [] })) (utc_fault seconds f (c f refl)).0)
+pub stop_is_clock : (seconds : ℤ) (stop : ClockStop) (out : CatOutcome) → IsNoClock stop out → FaultsOf stop seconds → (out ≡ outcome.Done clock_fault false) ⊎ (out ≡ outcome.OutOfMemory)
+stop_is_clock seconds (clock_stop.Fault f) out (inl e) c = inl (e ∙ ap (λ (g : Fault). outcome.Done (record { notices = []; faults = g ∷ [] }) false) (utc_fault seconds f (c f refl)).0)
 stop_is_clock seconds (clock_stop.Fault f) out (inr e) c = inr e
 stop_is_clock seconds clock_stop.Memory out e c = inr e
 
-clock_counted : (out : CatOutcome) (a b : Counts) → (out ≡ outcome.Done clock_fault) ⊎ (out ≡ outcome.OutOfMemory) → NoneFell a b → HasCounted out a b
+clock_counted : (out : CatOutcome) (a b : Counts) → (out ≡ outcome.Done clock_fault false) ⊎ (out ≡ outcome.OutOfMemory) → NoneFell a b → HasCounted out a b
 clock_counted out a b (inl e) le = subst (λ (z : CatOutcome). HasCounted z a b) (sym e) (let l = le.0 in omega (arith, l))
 clock_counted out a b (inr e) le = subst (λ (z : CatOutcome). HasCounted z a b) (sym e) tt
 
 pub stop_counted : (seconds : ℤ) (stop : ClockStop) (out : CatOutcome) (a b : Counts) → IsNoClock stop out → FaultsOf stop seconds → NoneFell a b → HasCounted out a b
 stop_counted seconds stop out a b is c le = clock_counted out a b (stop_is_clock seconds stop out is c) le
 
-only_clock : (g : Fault) (out : CatOutcome) → (out ≡ outcome.Done clock_fault) ⊎ (out ≡ outcome.OutOfMemory) → HasFault out g → fault.Clock ≡ g
+only_clock : (g : Fault) (out : CatOutcome) → (out ≡ outcome.Done clock_fault false) ⊎ (out ≡ outcome.OutOfMemory) → HasFault out g → fault.Clock ≡ g
 only_clock g out (inl e) h = by (in_from g (fault.Clock ∷ []) (subst (λ (z : CatOutcome). HasFault z g) e h))
   where
     by : IsIn g (fault.Clock ∷ []) → fault.Clock ≡ g

@@ -1,5 +1,5 @@
 -- Where no count rose and nothing is in the way of a call, no fault of its own ends it.
-use Rattle.std.proofs.Common.{◌≡◌, ◌≢◌, ◌<◌, ◌+◌, ◌-◌, ◌^◌, inl, inr, ⊎_elim, ℕ, ℤ, Bool, true, false, List, [], ◌∷◌, ◌++◌, length, map, reverse, Option, Some, None, refl, sym, ◌∙◌, subst, arith}
+use Rattle.std.proofs.Common.{◌≡◌, ◌≢◌, ◌<◌, ◌+◌, ◌-◌, ◌^◌, inl, inr, ⊎_elim, ℕ, ℤ, Bool, true, false, List, [], ◌∷◌, ◌++◌, length, map, reverse, Option, Some, None, Result, Ok, Err, refl, sym, ap, ◌∙◌, subst, arith}
 use Rattle.std.proofs.lemmas.Option.{same_Some}
 use Rattle.lr_rules.specs.declared.path.Path.{Path}
 use Rattle.lr_rules.specs.declared.clock.Clock.{Clock}
@@ -43,7 +43,7 @@ use Rattle.lr_cat.specs.declared.outcome.CatOutcome.TheVariants as outcome
 use Rattle.lr_cat.specs.declared.texts.TextStop.{TextStop}
 use Rattle.lr_cat.specs.declared.texts.TextStop.TheVariants as stop
 use Rattle.lr_cat.specs.declared.words.Wanted.{Wanted}
-use Rattle.lr_cat.specs.Came.{Came, report_by, LogEnds, held, called, RulesEnd, given, ConfsEnd, not_read, read, CatEnds, no_clock, no_memory, behind_clock, CatShows, bad_words, wants}
+use Rattle.lr_cat.specs.Came.{Came, report_by, done_by, own_of, LogEnds, held, called, RulesEnd, given, ConfsEnd, not_read, read, CatEnds, no_clock, no_memory, behind_clock, CatShows, bad_words, wants}
 use Rattle.lr_cat.specs.Cats.{Cats, no_directory, began}
 use Rattle.lr_cat.specs.Complete.{IsClear, IsDirOrNone, IsFileOrNone, NoRise, PrintsAll, printed}
 use Rattle.lr_cat.specs.Saw.{Works, FindsNone, FindsNot, not_looked, no_file, SeesNone, not_stood, not_found, read_all, aside_of, files_of}
@@ -194,20 +194,20 @@ module _ (w : Wanted) (c : Came) (p q : Past) (es : List Entry) (journal : IsJou
 
   -- ---- all of it
 
-  works_counted : (f : Fault) (us : List Entry) → Works c.naming w.log (Some f) c.texts us → Within us → IsCounted f
-  works_counted f us (Works.not_seen g is e h) in_all = none_counted f us (subst (λ (k : Fault). SeesNone c.naming w.log k us) (same_Some g f (sym is)) h) in_all
-  works_counted f us (Works.broke_off saw g is h) in_all = broken_counted f (files_of saw) h.back (subst (λ (k : Fault). TextBreaksOff (files_of saw) k c.texts h.back) (same_Some g f (sym is)) h.second)
+  works_counted : (f : Fault) (us : List Entry) → Works c.naming w.log (Err f) c.texts us → Within us → IsCounted f
+  works_counted f us (Works.not_seen g is e h) in_all = none_counted f us (subst (λ (k : Fault). SeesNone c.naming w.log k us) (same_Some g f (sym (ap own_of is))) h) in_all
+  works_counted f us (Works.broke_off saw g is h) in_all = broken_counted f (files_of saw) h.back (subst (λ (k : Fault). TextBreaksOff (files_of saw) k c.texts h.back) (same_Some g f (sym (ap own_of is))) h.second)
       (λ e i. in_all e (subst (IsIn e) (sym h.joined) (in_back e h.front h.back i)))
-  works_counted f us (read_all saw is h) in_all = absurd (some_none f is)
+  works_counted f us (read_all saw is h) in_all = absurd (some_none f (ap own_of is))
 
-  inside_counted : (f : Fault) (clock : Clock) (rules : Rules) (us : List Entry) → Inside w.state clock rules (Works c.naming w.log (Some f) c.texts) us → Within us → IsCounted f
+  inside_counted : (f : Fault) (clock : Clock) (rules : Rules) (us : List Entry) → Inside w.state clock rules (Works c.naming w.log (Err f) c.texts) us → Within us → IsCounted f
   inside_counted f clock rules us i in_all = works_counted f i.between i.within
       (λ e j. in_all e (subst (IsIn e) (sym i.entries) (in_back e i.before (entry.Starts w.state clock.now rules ∷ (i.between ++ entry.Ends ∷ [])) (inr (in_front e i.between (entry.Ends ∷ []) j)))))
 
-  own_counted : (f : Fault) (clock : Clock) (rules : Rules) (us : List Entry) → Cats w clock rules c.naming (Some f) c.texts us → Within us → IsCounted f
+  own_counted : (f : Fault) (clock : Clock) (rules : Rules) (us : List Entry) → Cats w clock rules c.naming (Err f) c.texts us → Within us → IsCounted f
   own_counted f clock rules us (no_directory is e h) in_all = absurd (sees_state us h in_all)
-  own_counted f clock rules us (Cats.not_seen is e h) in_all = subst IsCounted (same_Some (fault.Call call.Look (parent_of w.state)) f (sym is)) tt
-  own_counted f clock rules us (Cats.not_begun is e h) in_all = subst IsCounted (same_Some (fault.Call call.Begin w.state) f (sym is)) tt
+  own_counted f clock rules us (Cats.not_seen is e h) in_all = subst IsCounted (same_Some (fault.Call call.Look (parent_of w.state)) f (sym (ap own_of is))) tt
+  own_counted f clock rules us (Cats.not_begun is e h) in_all = subst IsCounted (same_Some (fault.Call call.Begin w.state) f (sym (ap own_of is))) tt
   own_counted f clock rules us (began i) in_all = inside_counted f clock rules us i in_all
 
 -- ---- no count rose
@@ -217,7 +217,7 @@ some_rose : (n a b : ℕ) → 0 < n → RoseBy n a b → Rose a b
 some_rose n a b some h = omega (arith, some, h)
 
 module _ (m : Meaning) (counted counts : Counts) (low high : ℕ) (none : NoRise counted counts low high) where
-  no_own : (f : Fault) (out : CatOutcome) → IsCounted f → out ≡ outcome.Done (report_by m (Some f)) → HasCounted out counted counts → (HasFault out fault.Out → Rose low high) → ⊥
+  no_own : (f : Fault) (out : CatOutcome) → IsCounted f → out ≡ outcome.Done (report_by m (Some f)) false → HasCounted out counted counts → (HasFault out fault.Out → Rose low high) → ⊥
   no_own (fault.Call kind path) out i is h o = none.0 (some_rose (calls_in (m.faults ++ fault.Call kind path ∷ [])) counted.faults counts.faults
       (let e = calls_on m.faults (fault.Call kind path ∷ []) in omega (arith, e)) (subst (λ (z : CatOutcome). HasCounted z counted counts) is h))
   no_own fault.Out out i is h o = none.2 (o (subst (λ (z : CatOutcome). HasFault z fault.Out) (sym is) (in_to fault.Out (m.faults ++ fault.Out ∷ []) (in_back fault.Out m.faults (fault.Out ∷ []) (inl refl)))))
@@ -225,17 +225,17 @@ module _ (m : Meaning) (counted counts : Counts) (low high : ℕ) (none : NoRise
 
 module _ (w : Wanted) (seconds : ℤ) (out : CatOutcome) (came : Option Came) (p q : Past) (es : List Entry) (journal : IsJournal p) (m : Made p es q) (still : ChangeNothing es) (range : IsInRange seconds) (counted counts : Counts) (low high : ℕ) (none : NoRise counted counts low high)
     (has : HasCounted out counted counts) (has_out : HasFault out fault.Out → Rose low high) (clear : (c : Came) → came ≡ Some c → IsClear w c p q) where
-  files_print : (clock : Clock) (n : Meaning) (rules : Rules) (naming : Naming) (own : Option Fault) (texts : List FileText) (us : List Entry) → out ≡ outcome.Done (report_by n own)
-      → came ≡ Some (record { clock = clock; meaning = n; rules = rules; naming = naming; own = own; texts = texts }) → Cats w clock rules naming own texts us → ((e : Entry) → IsIn e us → IsIn e (reverse es)) → PrintsAll out came
-  files_print clock n rules naming None texts us is some h in_all = printed (record { clock = clock; meaning = n; rules = rules; naming = naming; own = None; texts = texts }) some refl is
-  files_print clock n rules naming (Some f) texts us is some h in_all = absurd (no_own n counted counts low high none f out
-      (own_counted w (record { clock = clock; meaning = n; rules = rules; naming = naming; own = Some f; texts = texts }) p q es journal m still (clear (record { clock = clock; meaning = n; rules = rules; naming = naming; own = Some f; texts = texts }) some) f clock rules us h in_all)
+  files_print : (clock : Clock) (n : Meaning) (rules : Rules) (naming : Naming) (how : Result Bool Fault) (texts : List FileText) (us : List Entry) → out ≡ done_by n how
+      → came ≡ Some (record { clock = clock; meaning = n; rules = rules; naming = naming; how = how; texts = texts }) → Cats w clock rules naming how texts us → ((e : Entry) → IsIn e us → IsIn e (reverse es)) → PrintsAll out came
+  files_print clock n rules naming (Ok waits) texts us is some h in_all = printed (record { clock = clock; meaning = n; rules = rules; naming = naming; how = Ok waits; texts = texts }) waits some refl is
+  files_print clock n rules naming (Err f) texts us is some h in_all = absurd (no_own n counted counts low high none f out
+      (own_counted w (record { clock = clock; meaning = n; rules = rules; naming = naming; how = Err f; texts = texts }) p q es journal m still (clear (record { clock = clock; meaning = n; rules = rules; naming = naming; how = Err f; texts = texts }) some) f clock rules us h in_all)
       is has has_out)
 
   log_prints : (clock : Clock) (n : Meaning) (rules : Rules) (naming : Naming) (us : List Entry) → LogEnds w clock n rules naming out came us → ((e : Entry) → IsIn e us → IsIn e (reverse es)) → PrintsAll out came
   log_prints clock n rules naming us (held is e h) in_all = absurd (none.1 (subst (λ (z : CatOutcome). HasCounted z counted counts) is has))
   log_prints clock n rules naming us (LogEnds.short is e h) in_all = PrintsAll.short is
-  log_prints clock n rules naming us (called own texts is e h) in_all = files_print clock n rules naming own texts us is e h in_all
+  log_prints clock n rules naming us (called how texts is e h) in_all = files_print clock n rules naming how texts us is e h in_all
 
   rules_print : (clock : Clock) (n : Meaning) (rules : Rules) (us : List Entry) → RulesEnd w clock n rules out came us → ((e : Entry) → IsIn e us → IsIn e (reverse es)) → PrintsAll out came
   rules_print clock n rules us (RulesEnd.no_log is e h k) in_all = PrintsAll.no_log is

@@ -1,7 +1,6 @@
 -- What a call leaves between its begin and its end: looks, listings and reads.
-use Rattle.std.proofs.Common.{◌≡◌, ◌≢◌, List, [], ◌∷◌, ◌++◌, reverse, Option, refl, sym, ap, ◌∙◌, subst}
+use Rattle.std.proofs.Common.{◌≡◌, ◌≢◌, List, [], ◌∷◌, ◌++◌, reverse, Bool, true, Option, Result, refl, sym, ap, ◌∙◌, subst}
 use Rattle.std.proofs.lemmas.List.{reverse-reverse}
-use Rattle.std.specs.Prelude.{true}
 use Rattle.lr_rules.specs.declared.path.Path.{Path}
 use Rattle.lr_rules.specs.declared.clock.Clock.{Clock}
 use Rattle.lr_rules.specs.declared.rules.Rules.{Rules}
@@ -62,10 +61,10 @@ pub none_sights : (n : Naming) (log : Path) (f : Fault) (ts : List Entry) → Se
 none_sights n log f ts (not_stood why is h) = looks_sights ts (stop_looks n why ts h)
 none_sights n log f ts (not_found stand h) = looks_sights ts (looking_both ts (λ us s. stand_looks n stand us s) (λ us s. none_looks (aside_of n.aside log) log f us s) h)
 
-pub works_sights : (n : Naming) (log : Path) (own : Option Fault) (texts : List FileText) (ts : List Entry) → Works n log own texts ts → AreSights ts
-works_sights n log own texts ts (not_seen f is none h) = none_sights n log f ts h
-works_sights n log own texts ts (broke_off saw f is h) = sights_both ts (λ us s. saw_sights n log saw us s) (λ us b. broken_sights (files_of saw) f texts us b) h
-works_sights n log own texts ts (read_all saw is h) = sights_both ts (λ us s. saw_sights n log saw us s) (λ us r. all_sights (files_of saw) texts us r) h
+pub works_sights : (n : Naming) (log : Path) (how : Result Bool Fault) (texts : List FileText) (ts : List Entry) → Works n log how texts ts → AreSights ts
+works_sights n log how texts ts (not_seen f is none h) = none_sights n log f ts h
+works_sights n log how texts ts (broke_off saw f is h) = sights_both ts (λ us s. saw_sights n log saw us s) (λ us b. broken_sights (files_of saw) f texts us b) h
+works_sights n log how texts ts (read_all saw is h) = sights_both ts (λ us s. saw_sights n log saw us s) (λ us r. all_sights (files_of saw) texts us r) h
 
 -- ---- what they leave
 

@@ -1,5 +1,5 @@
 -- The looks at a log's family, where it waits that is set aside, and at the log.
-use Rattle.std.proofs.Common.{◌≡◌, ◌≤◌, inl, inr, ℕ, Bool, true, false, List, [], ◌∷◌, ◌++◌, map, reverse, refl, sym, ap, ◌∙◌, subst, arith, Option, Some, None}
+use Rattle.std.proofs.Common.{◌≡◌, ◌≤◌, inl, inr, ℕ, Bool, true, false, List, [], ◌∷◌, ◌++◌, map, reverse, refl, sym, ap, ◌∙◌, subst, arith, Option, Some, None, is_some}
 use Rattle.std.specs.Prelude.{All, filter}
 use Rattle.std.proofs.lemmas.List.Elements.{All-head, All-nil, All-tail}
 use Rattle.lr_rules.specs.declared.path.Path.{Path}
@@ -181,9 +181,9 @@ files_can n stand aside log found files {k = k} l f set own is = subst (CanReadA
 both_so : (n : Naming) (aside : Option Path) (log : Path) (set own : Option Path) {o m : Option Journal} → aside ≡ aside_of n.aside log → Left (FindsBoth aside log set own) o m → Left (FindsBoth (aside_of n.aside log) log set own) o m
 both_so n aside log set own {o = o} {m = m} is l = subst (λ (a : Option Path). Left (FindsBoth a log set own) o m) is l
 
-pub sees_all : (n : Naming) (stand : Stand) (aside : Option Path) (log : Path) (found : Found) (files : List Path) {o m k : Option Journal} → aside ≡ aside_of n.aside log → Left (ShowsStand n stand) o m → Left (FindsBoth aside log found.aside found.log) m k
-    → files ≡ files_behind found.log found.aside stand.members → SeesAll n log files o k
-sees_all n stand aside log found files asked l f is = record { saw = record { stand = stand; aside = found.aside; log = found.log }; shows = left_both l (both_so n aside log found.aside found.log asked f); files_are = ap reverse is }
+pub sees_all : (n : Naming) (stand : Stand) (aside : Option Path) (log : Path) (found : Found) (files : List Path) (waits : Bool) {o m k : Option Journal} → aside ≡ aside_of n.aside log → Left (ShowsStand n stand) o m → Left (FindsBoth aside log found.aside found.log) m k
+    → files ≡ files_behind found.log found.aside stand.members → waits ≡ is_some found.aside → SeesAll n log files waits o k
+sees_all n stand aside log found files waits asked l f is told = record { saw = record { stand = stand; aside = found.aside; log = found.log }; shows = left_both l (both_so n aside log found.aside found.log asked f); files_are = ap reverse is; waits_is = told }
 
 pub stands_not : (n : Naming) (log : Path) (why : StandStop) (s : CatStop) {o m : Option Journal} → s ≡ stand_stop why → Left (ShowsStop n why) o m → SeesNot n log s o m
 stands_not n log why s {o = o} {m = m} is l = subst (λ (t : CatStop). SeesNot n log t o m) (sym is) (by why l)

@@ -1,5 +1,5 @@
 -- A call changes no name and no byte.
-use Rattle.std.proofs.Common.{◌≡◌, ◌⊎◌, inl, inr, ℕ, ℤ, List, [], ◌∷◌, ◌++◌, reverse, Option, Some, None, refl, sym, ◌∙◌, subst}
+use Rattle.std.proofs.Common.{◌≡◌, ◌⊎◌, inl, inr, ℕ, ℤ, Bool, List, [], ◌∷◌, ◌++◌, reverse, Option, Some, Result, Ok, refl, sym, subst}
 use Rattle.std.proofs.lemmas.Option.{same_Some}
 use Rattle.lr_rules.specs.declared.path.Path.{Path}
 use Rattle.lr_rules.specs.declared.clock.Clock.{Clock}
@@ -56,11 +56,11 @@ maybe_still : (w : Wanted) (clock : Clock) (rules : Rules) (ts : List Entry) →
 maybe_still w clock rules ts (inl e) = none_still ts e
 maybe_still w clock rules ts (inr e) = subst ChangeNothing (sym e) refl
 
-cats_still : (w : Wanted) (clock : Clock) (rules : Rules) (n : Naming) (own : Option Fault) (texts : List FileText) (ts : List Entry) → Cats w clock rules n own texts ts → ChangeNothing ts
-cats_still w clock rules n own texts ts (no_directory is e h) = sees_still (parent_of w.state) ts h
-cats_still w clock rules n own texts ts (Cats.not_seen is e h) = none_still ts h
-cats_still w clock rules n own texts ts (Cats.not_begun is e h) = then_still (Sees (parent_of w.state) IsDir) (Maybe (Starts w.state clock.now rules)) ts (λ us s. sees_still (parent_of w.state) us s) (λ us s. maybe_still w clock rules us s) h
-cats_still w clock rules n own texts ts (began i) = inside_still w clock rules _ ts (λ us h. works_sights n w.log own texts us h) i
+cats_still : (w : Wanted) (clock : Clock) (rules : Rules) (n : Naming) (how : Result Bool Fault) (texts : List FileText) (ts : List Entry) → Cats w clock rules n how texts ts → ChangeNothing ts
+cats_still w clock rules n how texts ts (no_directory is e h) = sees_still (parent_of w.state) ts h
+cats_still w clock rules n how texts ts (Cats.not_seen is e h) = none_still ts h
+cats_still w clock rules n how texts ts (Cats.not_begun is e h) = then_still (Sees (parent_of w.state) IsDir) (Maybe (Starts w.state clock.now rules)) ts (λ us s. sees_still (parent_of w.state) us s) (λ us s. maybe_still w clock rules us s) h
+cats_still w clock rules n how texts ts (began i) = inside_still w clock rules _ ts (λ us h. works_sights n w.log how texts us h) i
 
 short_still : (w : Wanted) (clock : Clock) (rules : Rules) (ts : List Entry) → CatIsShort w clock rules ts → ChangeNothing ts
 short_still w clock rules ts (inl e) = none_still ts e
@@ -69,7 +69,7 @@ short_still w clock rules ts (inr i) = inside_still w clock rules AreSights ts (
 log_still : (w : Wanted) (clock : Clock) (m : Meaning) (rules : Rules) (n : Naming) (out : CatOutcome) (came : Option Came) (ts : List Entry) → LogEnds w clock m rules n out came ts → ChangeNothing ts
 log_still w clock m rules n out came ts (held is e h) = sees_still (parent_of w.state) ts h
 log_still w clock m rules n out came ts (short is e h) = short_still w clock rules ts h
-log_still w clock m rules n out came ts (called own texts is e h) = cats_still w clock rules n own texts ts h
+log_still w clock m rules n out came ts (called how texts is e h) = cats_still w clock rules n how texts ts h
 
 rules_still : (w : Wanted) (clock : Clock) (m : Meaning) (rules : Rules) (out : CatOutcome) (came : Option Came) (ts : List Entry) → RulesEnd w clock m rules out came ts → ChangeNothing ts
 rules_still w clock m rules out came ts (no_log is e h k) = none_still ts k
@@ -94,9 +94,9 @@ shows_still here words seconds out came ts (wants w is h) = ends_still w seconds
 -- ---- all that is told
 
 whole : (here : Path) (words : List (List ℕ)) (seconds : ℤ) (out : CatOutcome) (came : Option Came) (o n : Option Journal) → Left (CatShows here words seconds out came) o n → WhereTold o IsJournal
-    → (w : Wanted) → wanted here words ≡ Some w → WhereCame came o n (λ c j k. c.own ≡ None → IsHistory w c (past j) (past k))
-whole here words seconds out came _ _ not_told disk w want c j k is before after none = absurd (some_none j (sym before))
-whole here words seconds out came _ _ (is_told {j = i} {k = l} {es = es} made h) disk w want c j k is before after none =
+    → (w : Wanted) → wanted here words ≡ Some w → WhereCame came o n (λ c j k. (waits : Bool) → c.how ≡ Ok waits → IsHistory w c (past j) (past k))
+whole here words seconds out came _ _ not_told disk w want c j k is before after waits none = absurd (some_none j (sym before))
+whole here words seconds out came _ _ (is_told {j = i} {k = l} {es = es} made h) disk w want c j k is before after waits none =
     subst (λ (x : Journal). IsHistory w c (past x) (past k)) first (subst (λ (x : Journal). IsHistory w c (past i) (past x)) last
     (whole_history w c (past i) (past l) es disk made (still_in_order es (shows_still here words seconds out came (reverse es) h)) work))
   where
@@ -107,7 +107,7 @@ whole here words seconds out came _ _ (is_told {j = i} {k = l} {es = es} made h)
     last = same_Some l k after
 
     work : IsWork w c (reverse es)
-    work = shows_work w c none here words seconds out (reverse es) want (subst (λ (x : Option Came). CatShows here words seconds out x (reverse es)) is h)
+    work = shows_work w c waits none here words seconds out (reverse es) want (subst (λ (x : Option Came). CatShows here words seconds out x (reverse es)) is h)
 
 complete : (here : Path) (words : List (List ℕ)) (seconds : ℤ) (out : CatOutcome) (came : Option Came) (o n : Option Journal) (counted counts : Counts) (low high : ℕ) → Left (CatShows here words seconds out came) o n → WhereTold o IsJournal → HasCounted out counted counts
     → (HasFault out fault.Out → Rose low high) → (w : Wanted) (j k : Journal) → wanted here words ≡ Some w → IsInRange seconds → o ≡ Some j → n ≡ Some k → NoRise counted counts low high → ((c : Came) → came ≡ Some c → IsClear w c (past j) (past k)) → PrintsAll out came

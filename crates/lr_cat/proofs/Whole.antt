@@ -1,5 +1,5 @@
 -- A call that no fault of its own ended put out the log's whole history.
-use Rattle.std.proofs.Common.{◌≡◌, inl, inr, ℕ, ℤ, Bool, List, [], ◌∷◌, ◌++◌, map, reverse, Option, Some, None, refl, sym, ap, ◌∙◌, subst, append_assoc}
+use Rattle.std.proofs.Common.{◌≡◌, inl, inr, ℕ, ℤ, Bool, List, [], ◌∷◌, ◌++◌, map, reverse, Option, Some, None, is_some, Result, Ok, true, refl, sym, ap, ◌∙◌, subst, append_assoc}
 use Rattle.std.proofs.lemmas.List.{reverse-reverse}
 use Rattle.std.proofs.lemmas.Option.{same_Some}
 use Rattle.lr_rules.specs.declared.path.Path.{Path}
@@ -26,7 +26,7 @@ use Rattle.lr_looks.specs.Inside.{Inside}
 use Rattle.lr_laws_looks.specs.True.{HasMember}
 use Rattle.lr_cat.specs.declared.outcome.CatOutcome.{CatOutcome}
 use Rattle.lr_cat.specs.declared.words.Wanted.{Wanted}
-use Rattle.lr_cat.specs.Came.{Came, LogEnds, held, short, called, RulesEnd, no_log, lacks, given, ConfsEnd, not_read, broke_off, read, CatEnds, no_clock, no_memory, behind_clock, CatShows, bad_words, no_words, wants}
+use Rattle.lr_cat.specs.Came.{Came, own_of, LogEnds, held, short, called, RulesEnd, no_log, lacks, given, ConfsEnd, not_read, broke_off, read, CatEnds, no_clock, no_memory, behind_clock, CatShows, bad_words, no_words, wants}
 use Rattle.lr_cat.specs.Cats.{Cats, no_directory, began}
 use Rattle.lr_cat.specs.History.{HasTextOf, IsHistory}
 use Rattle.lr_cat.specs.Saw.{Finds, FamilySaw, ShowsFamilySaw, Works, read_all, aside_of, files_behind, files_of, listed}
@@ -47,38 +47,40 @@ pub record IsWork (w : Wanted) (c : Came) (ts : List Entry) : Type 0 where
   pub is : ts ≡ front ++ (Starts w.state c.clock.now c.rules ∷ (between ++ Ends ∷ []))
   pub family : IsFamily w.log c.naming
   pub saw : FamilySaw
+  pub ended : c.how ≡ Ok (is_some saw.aside)
   pub works : Then (ShowsFamilySaw c.naming w.log saw) (ReadsAllOf (files_of saw) c.texts) between
 
-module _ (w : Wanted) (clock : Clock) (m : Meaning) (rules : Rules) (n : Naming) (own : Option Fault) (texts : List FileText) where
+module _ (w : Wanted) (clock : Clock) (m : Meaning) (rules : Rules) (n : Naming) (how : Result Bool Fault) (texts : List FileText) where
   abbrev it : Came
-  it = record { clock = clock; meaning = m; rules = rules; naming = n; own = own; texts = texts }
+  it = record { clock = clock; meaning = m; rules = rules; naming = n; how = how; texts = texts }
 
-  inside_work : (ts us : List Entry) → own ≡ None → IsFamily w.log n → (i : Inside w.state clock rules (Works n w.log own texts) us) → Works n w.log own texts i.between → IsWork w it (ts ++ us)
-  inside_work ts us none family i (Works.not_seen f is e h) = absurd (some_none _ (sym is ∙ none))
-  inside_work ts us none family i (Works.broke_off saw f is h) = absurd (some_none _ (sym is ∙ none))
-  inside_work ts us none family i (read_all saw is h) = record {
+  inside_work : (ts us : List Entry) (waits : Bool) → how ≡ Ok waits → IsFamily w.log n → (i : Inside w.state clock rules (Works n w.log how texts) us) → Works n w.log how texts i.between → IsWork w it (ts ++ us)
+  inside_work ts us waits none family i (Works.not_seen f is e h) = absurd (some_none _ (ap own_of (sym is ∙ none)))
+  inside_work ts us waits none family i (Works.broke_off saw f is h) = absurd (some_none _ (ap own_of (sym is ∙ none)))
+  inside_work ts us waits none family i (read_all saw is h) = record {
     front = ts ++ i.before;
     between = i.between;
     is = ap (λ (vs : List Entry). ts ++ vs) i.entries ∙ sym (append_assoc ts i.before (Starts w.state clock.now rules ∷ (i.between ++ Ends ∷ [])));
     family = family;
     saw = saw;
+    ended = is;
     works = h;
   }
 
-  cats_work : (ts us : List Entry) → own ≡ None → IsFamily w.log n → Cats w clock rules n own texts us → IsWork w it (ts ++ us)
-  cats_work ts us none family (no_directory is e h) = absurd (some_none _ (sym is ∙ none))
-  cats_work ts us none family (Cats.not_seen is e h) = absurd (some_none _ (sym is ∙ none))
-  cats_work ts us none family (Cats.not_begun is e h) = absurd (some_none _ (sym is ∙ none))
-  cats_work ts us none family (began i) = inside_work ts us none family i i.within
+  cats_work : (ts us : List Entry) (waits : Bool) → how ≡ Ok waits → IsFamily w.log n → Cats w clock rules n how texts us → IsWork w it (ts ++ us)
+  cats_work ts us waits none family (no_directory is e h) = absurd (some_none _ (ap own_of (sym is ∙ none)))
+  cats_work ts us waits none family (Cats.not_seen is e h) = absurd (some_none _ (ap own_of (sym is ∙ none)))
+  cats_work ts us waits none family (Cats.not_begun is e h) = absurd (some_none _ (ap own_of (sym is ∙ none)))
+  cats_work ts us waits none family (began i) = inside_work ts us waits none family i i.within
 
-module _ (w : Wanted) (c : Came) (none : c.own ≡ None) where
+module _ (w : Wanted) (c : Came) (waits : Bool) (none : c.how ≡ Ok waits) where
   log_work : (clock : Clock) (m : Meaning) (rules : Rules) (n : Naming) (out : CatOutcome) (ts us : List Entry) → IsFamily w.log n → LogEnds w clock m rules n out (Some c) us → IsWork w c (ts ++ us)
   log_work clock m rules n out ts us family (held is e h) = absurd (some_none c e)
   log_work clock m rules n out ts us family (short is e h) = absurd (some_none c e)
-  log_work clock m rules n out ts us family (called own texts is e h) = subst (λ (d : Came). IsWork w d (ts ++ us)) (sym same) (cats_work w clock m rules n own texts ts us (ap (λ (d : Came). d.own) (sym same) ∙ none) family h)
+  log_work clock m rules n out ts us family (called how texts is e h) = subst (λ (d : Came). IsWork w d (ts ++ us)) (sym same) (cats_work w clock m rules n how texts ts us waits (ap (λ (d : Came). d.how) (sym same) ∙ none) family h)
     where
-      same : c ≡ record { clock = clock; meaning = m; rules = rules; naming = n; own = own; texts = texts }
-      same = same_Some c (record { clock = clock; meaning = m; rules = rules; naming = n; own = own; texts = texts }) e
+      same : c ≡ record { clock = clock; meaning = m; rules = rules; naming = n; how = how; texts = texts }
+      same = same_Some c (record { clock = clock; meaning = m; rules = rules; naming = n; how = how; texts = texts }) e
 
   rules_work : (clock : Clock) (m : Meaning) (rules : Rules) (out : CatOutcome) (ts us : List Entry) → RulesEnd w clock m rules out (Some c) us → IsWork w c (ts ++ us)
   rules_work clock m rules out ts us (no_log is e h k) = absurd (some_none c e)
@@ -117,6 +119,10 @@ has_text files texts x is i = in_unmap (λ (t : FileText). t.path) x texts (subs
 -- the log, what was set aside, and each member, is one of the files
 in_listed : (x : Path) (found : Option Path) → found ≡ Some x → IsIn x (listed found)
 in_listed x found is = subst (λ (o : Option Path). IsIn x (listed o)) (sym is) (inl refl)
+
+-- and a log that waits is told of
+waits_so : (o : Option Path) (x : Path) (how : Result Bool Fault) → how ≡ Ok (is_some o) → o ≡ Some x → how ≡ Ok true
+waits_so o x how is some = subst (λ (a : Option Path). how ≡ Ok (is_some a)) some is
 
 module _ (saw : FamilySaw) where
   abbrev members : List Path
@@ -180,9 +186,11 @@ module _ (w : Wanted) (c : Came) (p q : Past) (es : List Entry) (journal : IsJou
     begun = made_prefix (a.mid ▸ begin) q (reverse behind) a.second;
     members = λ x member file. has_text (files_of k.saw) c.texts x k.works.second.files_are (member_file k.saw x
         (member_stood (a.mid ▸ begin) q (reverse behind) later a.second quiet w.log c.naming k.family k.saw.stand k.works.first.front k.works.first.first in_stand x member file));
-    aside = λ is file. has_text (files_of k.saw) c.texts (aside_path w.log) k.works.second.files_are (aside_file k.saw (aside_path w.log)
-        (file_stood (a.mid ▸ begin) q (reverse behind) later a.second quiet (aside_path w.log) k.saw.aside k.works.first.second.front
-        (subst (λ (b : Bool). Finds (aside_of b w.log) k.saw.aside k.works.first.second.front) is k.works.first.second.first) in_aside file));
+    aside = λ is file. let stood = file_stood (a.mid ▸ begin) q (reverse behind) later a.second quiet (aside_path w.log) k.saw.aside k.works.first.second.front
+        (subst (λ (b : Bool). Finds (aside_of b w.log) k.saw.aside k.works.first.second.front) is k.works.first.second.first) in_aside file in (
+          has_text (files_of k.saw) c.texts (aside_path w.log) k.works.second.files_are (aside_file k.saw (aside_path w.log) stood),
+          waits_so k.saw.aside (aside_path w.log) c.how k.ended stood,
+        );
     log = λ file. has_text (files_of k.saw) c.texts w.log k.works.second.files_are (log_file k.saw w.log
         (file_stood (a.mid ▸ begin) q (reverse behind) later a.second quiet w.log k.saw.log k.works.first.second.back k.works.first.second.second in_log file));
     texts = λ t i. let r = one_text c.texts k.works.back k.works.second.reads t i in

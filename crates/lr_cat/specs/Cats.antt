@@ -1,5 +1,5 @@
 -- What a call leaves behind its configuration.
-use Rattle.std.specs.Prelude.{◌≡◌, ◌⊎◌, List, [], Option, Some}
+use Rattle.std.specs.Prelude.{◌≡◌, ◌⊎◌, Bool, List, [], Result, Err}
 use Rattle.lr_rules.specs.declared.clock.Clock.{Clock}
 use Rattle.lr_rules.specs.declared.rule.Naming.{Naming}
 use Rattle.lr_rules.specs.declared.rules.Rules.{Rules}
@@ -19,16 +19,16 @@ use Rattle.lr_cat.specs.declared.words.Wanted.{Wanted}
 use Rattle.lr_cat.specs.Saw.{Works}
 use Rattle.lr_cat.specs.Texts.{FileText}
 
--- Behind its configuration a call has this fault of its own, or none, and read these texts: the state's directory isn't there, or
--- the look at it failed; the begin failed, with its entry or without; or it began, and ended.
-pub data Cats (w : Wanted) (clock : Clock) (rules : Rules) (n : Naming) (own : Option Fault) (texts : List FileText)
+-- Behind its configuration a call ended so, and read these texts: the state's directory isn't there, or the look at it failed; the
+-- begin failed, with its entry or without; or it began, and ended.
+pub data Cats (w : Wanted) (clock : Clock) (rules : Rules) (n : Naming) (how : Result Bool Fault) (texts : List FileText)
     (ts : List Entry) : Type 0 where
-  no_directory : own ≡ Some (fault.NoDir (parent_of w.state)) → texts ≡ [] → Sees (parent_of w.state) IsNotDir ts
-      → Cats w clock rules n own texts ts
-  not_seen : own ≡ Some (fault.Call call.Look (parent_of w.state)) → texts ≡ [] → ts ≡ [] → Cats w clock rules n own texts ts
-  not_begun : own ≡ Some (fault.Call call.Begin w.state) → texts ≡ []
-      → Then (Sees (parent_of w.state) IsDir) (Maybe (Starts w.state clock.now rules)) ts → Cats w clock rules n own texts ts
-  began : Inside w.state clock rules (Works n w.log own texts) ts → Cats w clock rules n own texts ts
+  no_directory : how ≡ Err (fault.NoDir (parent_of w.state)) → texts ≡ [] → Sees (parent_of w.state) IsNotDir ts
+      → Cats w clock rules n how texts ts
+  not_seen : how ≡ Err (fault.Call call.Look (parent_of w.state)) → texts ≡ [] → ts ≡ [] → Cats w clock rules n how texts ts
+  not_begun : how ≡ Err (fault.Call call.Begin w.state) → texts ≡ []
+      → Then (Sees (parent_of w.state) IsDir) (Maybe (Starts w.state clock.now rules)) ts → Cats w clock rules n how texts ts
+  began : Inside w.state clock rules (Works n w.log how texts) ts → Cats w clock rules n how texts ts
 
 -- Where it wasn't carried through: another run has the lock; or there was no memory, before the first call, or under the lock,
 -- where nothing was changed.

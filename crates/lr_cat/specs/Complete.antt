@@ -1,5 +1,5 @@
 -- When a call prints all that stands.
-use Rattle.std.specs.Prelude.{◌≡◌, ◌≢◌, ◌≤◌, ℕ, true, length, Option, Some, None}
+use Rattle.std.specs.Prelude.{◌≡◌, ◌≢◌, ◌≤◌, ℕ, Bool, true, length, Option, Some, None, Ok}
 use Rattle.lr_rules.specs.declared.path.Path.{Path}
 use Rattle.lr_rules.specs.Names.{aside_path}
 use Rattle.lr_rules.specs.Path.{parent_of}
@@ -49,9 +49,10 @@ pub record IsClear (w : Wanted) (c : Came) (before after : Past) : Type 0 where
   pub short : (t : FileText) (g : ℕ) → IsIn t c.texts → names (world after) t.path ≡ thing.File g
       → length ((world after).files g).bytes ≤ 1_099_511_627_776
 
--- It came to the files of its log, and no fault of its own ended it: so it answers by the faults of the configuration alone. Else
--- no definition gives the log, or there was no memory.
+-- It came to the files of its log, and no fault of its own ended it: so it answers by the faults of the configuration alone, and
+-- tells whether the log waits. Else no definition gives the log, or there was no memory.
 pub data PrintsAll (outcome : CatOutcome) (came : Option Came) : Type 0 where
-  printed : (c : Came) → came ≡ Some c → c.own ≡ None → outcome ≡ Done (report_by c.meaning None) → PrintsAll outcome came
+  printed : (c : Came) (waits : Bool) → came ≡ Some c → c.how ≡ Ok waits → outcome ≡ Done (report_by c.meaning None) waits
+      → PrintsAll outcome came
   no_log : outcome ≡ NoLog → PrintsAll outcome came
   short : outcome ≡ OutOfMemory → PrintsAll outcome came

@@ -1,5 +1,5 @@
 -- The whole history of a log: which files it has, and what was read of them.
-use Rattle.std.specs.Prelude.{◌≡◌, List, ◌++◌, ℕ, true}
+use Rattle.std.specs.Prelude.{◌≡◌, List, ◌++◌, ℕ, true, Ok}
 use Rattle.lr_rules.specs.declared.path.Path.{Path}
 use Rattle.lr_rules.specs.Names.{aside_path}
 use Rattle.lr_host.specs.declared.entry.Entry.TheVariants.{Starts}
@@ -29,12 +29,13 @@ pub record IsTextRead (t : FileText) (before after : Past) : Type 0 where
   pub same : (bytes : List ℕ) → Has t.path file bytes before → Has t.path file bytes after → t.bytes ≡ bytes
 
 -- The run began at this moment; each member that stood then is among the files; so is the file that a run which broke off had set
--- aside, where the log's way does that; and so is the log, if it stood. Each text is its file's.
+-- aside, where the log's way does that, and it is told of; and so is the log, if it stood. Each text is its file's.
 pub record IsHistory (w : Wanted) (c : Came) (before after : Past) : Type 0 where
   pub at : Past
   pub since : IsPrefix before at
   pub begun : IsPrefix (at ▸ Starts w.state c.clock.now c.rules) after
   pub members : (x : Path) → IsMember c.naming x → IsFileAt (names (world at)) x → HasTextOf c.texts x
-  pub aside : c.naming.aside ≡ true → IsFileAt (names (world at)) (aside_path w.log) → HasTextOf c.texts (aside_path w.log)
+  pub aside : c.naming.aside ≡ true → IsFileAt (names (world at)) (aside_path w.log)
+      → HasTextOf c.texts (aside_path w.log) × (c.how ≡ Ok true)
   pub log : IsFileAt (names (world at)) w.log → HasTextOf c.texts w.log
   pub texts : (t : FileText) → IsIn t c.texts → IsTextRead t before after

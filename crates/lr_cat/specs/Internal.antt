@@ -1,5 +1,5 @@
 -- For proofs: what a part of a call came to, with what the output took.
-use Rattle.std.specs.Prelude.{◌≡◌, ◌⊎◌, ℕ, List, [], ◌∷◌, Option, Some, None, Result, Ok, Err}
+use Rattle.std.specs.Prelude.{◌≡◌, ◌⊎◌, ℕ, Bool, false, List, [], ◌∷◌, Option, Some, None, Result, Ok, Err}
 use Rattle.lr_rules.specs.declared.fault.Fault.{Fault}
 use Rattle.lr_rules.specs.declared.fault.Notice.{Notice}
 use Rattle.lr_host.specs.declared.entry.Entry.{Entry}
@@ -15,15 +15,15 @@ use Rattle.lr_cat.specs.Came.{Came, with_own}
 use Rattle.lr_cat.specs.Says.{TookOf}
 
 -- the answer of a call that was carried through, or stopped so, behind a configuration with these notices and faults
-abbrev pub answer_by : List Notice → List Fault → Result (Unit {0}) CatStop → CatOutcome
-answer_by notices faults (Ok done) = Done (record { notices = notices; faults = with_own faults None })
-answer_by notices faults (Err (stop.Fault f)) = Done (record { notices = notices; faults = with_own faults (Some f) })
+abbrev pub answer_by : List Notice → List Fault → Result Bool CatStop → CatOutcome
+answer_by notices faults (Ok waits) = Done (record { notices = notices; faults = with_own faults None }) waits
+answer_by notices faults (Err (stop.Fault f)) = Done (record { notices = notices; faults = with_own faults (Some f) }) false
 answer_by notices faults (Err stop.Held) = Held
 answer_by notices faults (Err stop.Memory) = OutOfMemory
 
 -- the answer of a call that has no clock, for this cause; there may be no memory for the report
 abbrev pub IsNoClock : ClockStop → CatOutcome → Type 0
-IsNoClock (clock_stop.Fault f) outcome = (outcome ≡ Done (record { notices = []; faults = f ∷ [] })) ⊎ (outcome ≡ OutOfMemory)
+IsNoClock (clock_stop.Fault f) outcome = (outcome ≡ Done (record { notices = []; faults = f ∷ [] }) false) ⊎ (outcome ≡ OutOfMemory)
 IsNoClock clock_stop.Memory outcome = outcome ≡ OutOfMemory
 
 -- What was left shows what it came to, and so does what the output took.

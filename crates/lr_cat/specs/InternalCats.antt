@@ -1,5 +1,5 @@
 -- For proofs: the parts of a call under the lock.
-use Rattle.std.specs.Prelude.{◌≡◌, List, [], ◌∷◌, ◌++◌, Option, Some}
+use Rattle.std.specs.Prelude.{◌≡◌, Bool, List, [], ◌∷◌, ◌++◌, Result, Err}
 use Rattle.lr_rules.specs.declared.path.Path.{Path}
 use Rattle.lr_rules.specs.declared.clock.Clock.{Clock}
 use Rattle.lr_rules.specs.declared.rule.Naming.{Naming}
@@ -28,11 +28,11 @@ abbrev pub BeginsAndEnds : Wanted → Clock → Rules → (List Entry → Type 0
 BeginsAndEnds w clock rules P = Then (Are (Starts w.state clock.now rules ∷ [])) (EndsWork P)
 
 -- from the begin on: it failed, or the run began and ended
-pub data Goes (w : Wanted) (clock : Clock) (rules : Rules) (n : Naming) (own : Option Fault) (texts : List FileText)
+pub data Goes (w : Wanted) (clock : Clock) (rules : Rules) (n : Naming) (how : Result Bool Fault) (texts : List FileText)
     (ts : List Entry) : Type 0 where
-  begun : BeginsAndEnds w clock rules (Works n w.log own texts) ts → Goes w clock rules n own texts ts
-  not_begun : own ≡ Some (fault.Call call.Begin w.state) → texts ≡ [] → Maybe (Starts w.state clock.now rules) ts
-      → Goes w clock rules n own texts ts
+  begun : BeginsAndEnds w clock rules (Works n w.log how texts) ts → Goes w clock rules n how texts ts
+  not_begun : how ≡ Err (fault.Call call.Begin w.state) → texts ≡ [] → Maybe (Starts w.state clock.now rules) ts
+      → Goes w clock rules n how texts ts
 
 abbrev pub GoesShort : Wanted → Clock → Rules → CatStop → List Entry → Type 0
 GoesShort w clock rules stop.Held ts = ts ≡ []

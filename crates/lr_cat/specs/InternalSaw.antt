@@ -1,5 +1,5 @@
 -- For proofs: the looks, one by one.
-use Rattle.std.specs.Prelude.{◌≡◌, Bool, true, false, List, [], reverse, Option, Some, None}
+use Rattle.std.specs.Prelude.{◌≡◌, Bool, true, false, List, [], reverse, Option, Some, None, is_some}
 use Rattle.lr_rules.specs.declared.path.Path.{Path}
 use Rattle.lr_rules.specs.declared.rule.Naming.{Naming}
 use Rattle.lr_rules.specs.declared.fault.CallKind.TheVariants as call
@@ -36,11 +36,13 @@ stand_stop (stands.Call kind path) = stop.Fault (fault.Call kind path)
 stand_stop (stands.NotFile path) = stop.Fault (fault.NotFile path)
 stand_stop stands.Memory = stop.Memory
 
--- what stands was seen, and these are its files, of which the last is the oldest
-pub record SeesAll (n : Naming) (log : Path) (files : List Path) (told later : Option Journal) : Type 0 where
+-- what stands was seen, and these are its files, of which the last is the oldest; and the log that is set aside waits among them,
+-- or doesn't
+pub record SeesAll (n : Naming) (log : Path) (files : List Path) (waits : Bool) (told later : Option Journal) : Type 0 where
   pub saw : FamilySaw
   pub shows : Left (ShowsFamilySaw n log saw) told later
   pub files_are : reverse files ≡ files_of saw
+  pub waits_is : waits ≡ is_some saw.aside
 
 -- it wasn't, for this cause
 abbrev pub SeesNot : Naming → Path → CatStop → Option Journal → Option Journal → Type 0

@@ -1,5 +1,6 @@
 -- What a call saw of a log's history, and the files that this has.
-use Rattle.std.specs.Prelude.{◌≡◌, ◌⊎◌, Bool, true, false, List, [], ◌∷◌, ◌++◌, map, reverse, Option, Some, None}
+use Rattle.std.specs.Prelude.{◌≡◌, ◌⊎◌, Bool, true, false, List, [], ◌∷◌, ◌++◌, map, reverse, Option, Some, None, is_some}
+use Rattle.std.specs.Prelude.{Result, Ok, Err}
 use Rattle.lr_rules.specs.declared.path.Path.{Path}
 use Rattle.lr_rules.specs.declared.rule.Naming.{Naming}
 use Rattle.lr_rules.specs.declared.fault.CallKind.TheVariants as call
@@ -51,8 +52,7 @@ FindsNone aside log f ts = FindsNot aside f ts ⊎ ((set : Option Path) × Then 
 
 -- ---- all of it
 
--- What stands of the family; the path where the log waits that is set aside, if a file stands there; and the log's own, if one
--- does.
+-- What stands of the family; the path where the log waits that is set aside, if a file stands there; the log's own, if one does.
 pub record FamilySaw : Type 0 where
   pub stand : Stand
   pub aside : Option Path
@@ -75,12 +75,13 @@ pub data SeesNone (n : Naming) (log : Path) (f : Fault) (ts : List Entry) : Type
   not_stood : (why : StandStop) → stop_fault why ≡ f ∷ [] → ShowsStop n why ts → SeesNone n log f ts
   not_found : (stand : Stand) → Then (ShowsStand n stand) (FindsNone (aside_of n.aside log) log f) ts → SeesNone n log f ts
 
--- Under the lock a call has this fault of its own, or none, and read these texts: what stands wasn't seen; or it was, and the
--- reading of its files broke off, or came to its end.
-pub data Works (n : Naming) (log : Path) (own : Option Fault) (texts : List FileText) (ts : List Entry) : Type 0 where
-  not_seen : (f : Fault) → own ≡ Some f → texts ≡ [] → SeesNone n log f ts → Works n log own texts ts
-  broke_off : (saw : FamilySaw) (f : Fault) → own ≡ Some f
+-- Under the lock a call ended so, and read these texts: by a fault of its own, since what stands wasn't seen, or since the reading
+-- of its files broke off; or it came to the end of them, and this tells whether the log waits that is set aside.
+pub data Works (n : Naming) (log : Path) (how : Result Bool Fault) (texts : List FileText) (ts : List Entry) : Type 0 where
+  not_seen : (f : Fault) → how ≡ Err f → texts ≡ [] → SeesNone n log f ts → Works n log how texts ts
+  broke_off : (saw : FamilySaw) (f : Fault) → how ≡ Err f
       → Then (ShowsFamilySaw n log saw) (TextBreaksOff (files_of saw) f texts) ts
-      → Works n log own texts ts
-  read_all : (saw : FamilySaw) → own ≡ None → Then (ShowsFamilySaw n log saw) (ReadsAllOf (files_of saw) texts) ts
-      → Works n log own texts ts
+      → Works n log how texts ts
+  read_all : (saw : FamilySaw) → how ≡ Ok (is_some saw.aside)
+      → Then (ShowsFamilySaw n log saw) (ReadsAllOf (files_of saw) texts) ts
+      → Works n log how texts ts

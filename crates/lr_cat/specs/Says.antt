@@ -1,5 +1,5 @@
 -- All that is told of a call, by what it came to.
-use Rattle.std.specs.Prelude.{◌≡◌, ◌⊎◌, ℕ, ℤ, List, [], ◌∷◌, Option, Some, None, Contains}
+use Rattle.std.specs.Prelude.{◌≡◌, ◌⊎◌, ℕ, ℤ, Bool, List, [], ◌∷◌, Option, Some, None, Ok, Contains}
 use Rattle.lr_rules.specs.declared.fault.Fault.{Fault}
 use Rattle.lr_rules.specs.declared.fault.Fault.TheVariants as fault
 use Rattle.lr_rules.specs.declared.path.Path.{Path}
@@ -15,7 +15,7 @@ use Rattle.lr_report.specs.Puts.{Took, TookPart}
 use Rattle.lr_cat.specs.declared.outcome.CatOutcome.{CatOutcome}
 use Rattle.lr_cat.specs.declared.outcome.CatOutcome.TheVariants.{Done, Held}
 use Rattle.lr_cat.specs.declared.words.Wanted.{Wanted}
-use Rattle.lr_cat.specs.Came.{Came, CatShows}
+use Rattle.lr_cat.specs.Came.{Came, CatShows, own_of}
 use Rattle.lr_cat.specs.Complete.{IsClear, NoRise, PrintsAll}
 use Rattle.lr_cat.specs.History.{IsHistory}
 use Rattle.lr_cat.specs.Texts.{TookBy, joined}
@@ -25,7 +25,7 @@ use Rattle.lr_cat.specs.Words.{wanted}
 -- where its own fault ended the call; else nothing.
 abbrev pub TookOf : Option Came → Option (List ℕ) → Option (List ℕ) → Type 0
 TookOf None before after = after ≡ before
-TookOf (Some c) before after = TookBy c.own (joined c.texts) before after
+TookOf (Some c) before after = TookBy (own_of c.how) (joined c.texts) before after
 
 -- All that is told of a call with these words, at these seconds, by what it came to.
 pub record CatSays (here : Path) (words : List (List ℕ)) (seconds : ℤ) (outcome : CatOutcome) (told later : Option Journal)
@@ -42,7 +42,7 @@ pub record CatSays (here : Path) (words : List (List ℕ)) (seconds : ℤ) (outc
   pub safe : KeepsSafe told later
   -- where no fault of its own ended it, the files are those that stood as it began, and the texts are theirs
   pub whole : (w : Wanted) → wanted here words ≡ Some w
-      → WhereCame came told later (λ c j k. c.own ≡ None → IsHistory w c (past j) (past k))
+      → WhereCame came told later (λ c j k. (waits : Bool) → c.how ≡ Ok waits → IsHistory w c (past j) (past k))
   -- none did where the words are good, the clock is in range, no count rose and nothing was in its way: then all is printed, and no
   -- fault is told but those of the configuration; unless no definition gives the log, or there was no memory
   pub complete : (w : Wanted) (j k : Journal) → wanted here words ≡ Some w → IsInRange seconds → told ≡ Some j → later ≡ Some k
@@ -52,12 +52,12 @@ pub record CatSays (here : Path) (words : List (List ℕ)) (seconds : ℤ) (outc
 
 -- the report has the fault
 abbrev pub HasFault : CatOutcome → Fault → Type 0
-HasFault (Done report) f = Contains report.faults f
+HasFault (Done report waits) f = Contains report.faults f
 HasFault _ f = ⊥
 
 -- No more failed calls are told than the count rose by; and another run had the lock only where that was counted.
 abbrev pub HasCounted : CatOutcome → Counts → Counts → Type 0
-HasCounted (Done report) counted counts = RoseBy (calls_in report.faults) counted.faults counts.faults
+HasCounted (Done report waits) counted counts = RoseBy (calls_in report.faults) counted.faults counts.faults
 HasCounted Held counted counts = Rose counted.held counts.held
 HasCounted _ counted counts = Unit {0}
 

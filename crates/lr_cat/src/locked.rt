@@ -13,7 +13,7 @@ ghost use Rattle.lr_cat.specs.InternalCats.{EndsWork, Goes, GoesShort, unseen_di
 ghost use Rattle.lr_cat.specs.Saw.{Works, aside_of};
 ghost use Rattle.lr_cat.specs.Stops.{CameTo, StopCause};
 
-use crate::seeing::see;
+use crate::seeing::{Files, see};
 use crate::stop::CatStop;
 use crate::texts::put_texts;
 use crate::words::Wanted;
@@ -22,7 +22,7 @@ use lr_host::{Host, Sink};
 use lr_rules::{CallKind, Clock, Fault, Memory, Path, Rules, aside_path};
 use std::alloc::Global;
 
-// Looks at what stands, and puts it out.
+// Looks at what stands, and puts it out; whether the log waits that is set aside.
 fn see_and_put<H: Host, K: Sink>(
     alloc: Global,
     host: &mut H,
@@ -31,12 +31,12 @@ fn see_and_put<H: Host, K: Sink>(
     log: Path,
     buffer: &mut [u8],
     out: &mut K,
-) -> Result<(), CatStop>
+) -> Result<bool, CatStop>
     requires format { or_none is_format family.now.naming.dated ≡ true }
     requires aside { aside ≡ aside_of family.now.naming.aside log }
     requires room { 0 < length buffer.old }
     requires short { length buffer.old ≤ 65536 }
-    ensures came { CameTo (λ own texts ts. Works family.now.naming log own texts ts) result (H.told host.old) (H.told host.new)
+    ensures came { CameTo (λ how texts ts. Works family.now.naming log how texts ts) result (H.told host.old) (H.told host.new)
         (K.taken out.old) (K.taken out.new) }
     ensures sights { Left AreSights (H.told host.old) (H.told host.new) }
     ensures held { result ≢ Err CatStop.Held }
@@ -46,10 +46,13 @@ fn see_and_put<H: Host, K: Sink>(
     ensures puts { K.faults out.old ≤ K.faults out.new }
 {
     match see(alloc, host, family, aside, log) {
-        Ok(files) => match put_texts(host, files, buffer, out) {
-            Ok(()) => Ok(()),
-            Err(fault) => Err(CatStop::Fault(fault)),
-        },
+        Ok(files) => {
+            let Files { paths, waits } = files;
+            match put_texts(host, paths, buffer, out) {
+                Ok(()) => Ok(waits),
+                Err(fault) => Err(CatStop::Fault(fault)),
+            }
+        }
         Err(why) => Err(why),
     }
 }
@@ -63,13 +66,13 @@ fn put_to_end<H: Host, K: Sink>(
     log: Path,
     buffer: &mut [u8],
     out: &mut K,
-) -> Result<(), CatStop>
+) -> Result<bool, CatStop>
     requires format { or_none is_format family.now.naming.dated ≡ true }
     requires aside { aside ≡ aside_of family.now.naming.aside log }
     requires room { 0 < length buffer.old }
     requires short { length buffer.old ≤ 65536 }
     requires on { WhereTold (H.told host.old) (λ p. (world p).running ≡ true) }
-    ensures came { CameTo (λ own texts ts. EndsWork (Works family.now.naming log own texts) ts) result (H.told host.old)
+    ensures came { CameTo (λ how texts ts. EndsWork (Works family.now.naming log how texts) ts) result (H.told host.old)
         (H.told host.new) (K.taken out.old) (K.taken out.new) }
     ensures short { result ≡ Err CatStop.Memory → Left (EndsWork AreSights) (H.told host.old) (H.told host.new) }
     ensures held { result ≢ Err CatStop.Held }
@@ -138,7 +141,7 @@ fn begin_to_end<H: Host, K: Sink>(
     names: Names,
     buffer: &mut [u8],
     out: &mut K,
-) -> Result<(), CatStop>
+) -> Result<bool, CatStop>
     requires format { or_none is_format family.now.naming.dated ≡ true }
     requires there { Can (H.told host.old) (entry.Starts wanted.now.state clock.now.now rules.now) }
     requires state { names.state ≡ wanted.now.state }
@@ -146,7 +149,7 @@ fn begin_to_end<H: Host, K: Sink>(
     requires log { names.log ≡ wanted.now.log }
     requires room { 0 < length buffer.old }
     requires short { length buffer.old ≤ 65536 }
-    ensures came { CameTo (λ own texts ts. Goes wanted.now clock.entry.now rules.now family.now.naming own texts ts) result
+    ensures came { CameTo (λ how texts ts. Goes wanted.now clock.entry.now rules.now family.now.naming how texts ts) result
         (H.told host.old) (H.told host.new) (K.taken out.old) (K.taken out.new) }
     ensures stopped { IfErr result (λ why. Left (GoesShort wanted.now clock.entry.now rules.now why) (H.told host.old)
         (H.told host.new)) }
@@ -198,7 +201,7 @@ pub fn put_locked<H: Host, K: Sink>(
     names: Names,
     buffer: &mut [u8],
     out: &mut K,
-) -> Result<(), CatStop>
+) -> Result<bool, CatStop>
     requires format { or_none is_format family.now.naming.dated ≡ true }
     requires dir { names.dir ≡ parent_of wanted.now.state }
     requires state { names.state ≡ wanted.now.state }
@@ -206,7 +209,7 @@ pub fn put_locked<H: Host, K: Sink>(
     requires log { names.log ≡ wanted.now.log }
     requires room { 0 < length buffer.old }
     requires short { length buffer.old ≤ 65536 }
-    ensures came { CameTo (λ own texts ts. Cats wanted.now clock.entry.now rules.now family.now.naming own texts ts) result
+    ensures came { CameTo (λ how texts ts. Cats wanted.now clock.entry.now rules.now family.now.naming how texts ts) result
         (H.told host.old) (H.told host.new) (K.taken out.old) (K.taken out.new) }
     ensures stopped { IfErr result (λ why. Left (StopsSo wanted.now clock.entry.now rules.now why) (H.told host.old)
         (H.told host.new)) }

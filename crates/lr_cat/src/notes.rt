@@ -1,15 +1,53 @@
 // What there is to say of an outcome, put out.
-ghost use Rattle.std.specs.Prelude.{◌≡◌, ◌≤◌, OnErr, OnOk};
+ghost use Rattle.std.specs.Prelude.{◌≡◌, ◌≤◌, ◌++◌, OnErr, OnOk};
 ghost use Rattle.lr_host.specs.Told.{Rose};
+ghost use Rattle.lr_report.specs.Lines.{lines};
 ghost use Rattle.lr_report.specs.Outcome.{outcome_text};
 ghost use Rattle.lr_report.specs.Puts.{Took, TookPart};
-ghost use Rattle.lr_cat.specs.Outcome.{cat_outcome, notes_of};
+ghost use Rattle.lr_cat.specs.Outcome.{cat_outcome, notes_of, waits_line};
 ghost use Rattle.lr_cat.specs.Says.{Noted};
 
 use crate::outcome::{CatOutcome, cat_outcome};
 use lr_host::{Sink, SinkFault};
-use lr_report::{Outcome, printed, put_report, put_said, put_three};
+use lr_report::{Outcome, Report, printed, put_report, put_said, put_three};
 use lr_rules::Path;
+
+// Puts the line of a log that waits, if it does.
+fn put_waits<N: Sink>(log: &Path, waits: bool, notes: &mut N) -> Result<(), SinkFault>
+    ensures whole { OnOk result (Took (waits_line waits log.now) (N.taken notes.old) (N.taken notes.new)) }
+    ensures part { TookPart (waits_line waits log.now) (N.taken notes.old) (N.taken notes.new) }
+    ensures cause { OnErr result (Rose (N.faults notes.old) (N.faults notes.new)) }
+    ensures counts { N.faults notes.old ≤ N.faults notes.new }
+{
+    if !waits {
+        return Ok(());
+    }
+    put_three(
+        notes,
+        b"logrotate: notice: ",
+        log.bytes(),
+        b".tmp: waits for the next rotation\n",
+    )
+}
+
+#[tactic(auto, using(lr_report::proofs::PutLemmas::part_first))]
+// Puts the lines of the report, and behind them that of a log that waits.
+fn put_done<N: Sink>(
+    report: &Report,
+    waits: bool,
+    log: &Path,
+    notes: &mut N,
+) -> Result<(), SinkFault>
+    ensures whole { OnOk result (Took (lines report.now.notices report.now.faults ++ waits_line waits log.now)
+        (N.taken notes.old) (N.taken notes.new)) }
+    ensures part { TookPart (lines report.now.notices report.now.faults ++ waits_line waits log.now) (N.taken notes.old)
+        (N.taken notes.new) }
+    ensures cause { OnErr result (Rose (N.faults notes.old) (N.faults notes.new)) }
+    ensures counts { N.faults notes.old ≤ N.faults notes.new }
+{
+    put_report(report, notes)?;
+    put_waits(log, waits, notes)
+}
 
 // Puts the lines of an outcome's report, or its one line.
 fn put_notes<N: Sink>(log: &Path, outcome: &CatOutcome, notes: &mut N) -> Result<(), SinkFault>
@@ -19,7 +57,7 @@ fn put_notes<N: Sink>(log: &Path, outcome: &CatOutcome, notes: &mut N) -> Result
     ensures counts { N.faults notes.old ≤ N.faults notes.new }
 {
     match outcome {
-        CatOutcome::Done(report) => put_report(report, notes),
+        CatOutcome::Done(report, waits) => put_done(report, *waits, log, notes),
         CatOutcome::BadWords => put_said(b"bad command line", notes),
         CatOutcome::NoLog => put_three(notes, b"logrotate: ", log.bytes(), b": not defined\n"),
         CatOutcome::Held => put_said(b"state file is locked", notes),

@@ -7,8 +7,9 @@ use lr_report::{Outcome, Report};
 /// How a call ends.
 #[derive(Drop)]
 pub enum CatOutcome {
-    /// The log's history was read, with this report: all of it where that has no fault but those of the configuration.
-    Done(Report),
+    /// The log's history was read, with this report: all of it where that has no fault but those of the configuration. Then
+    /// this is true where a run that broke off had set the log aside, so that it waits at `LOG.tmp` for the next rotation.
+    Done(Report, bool),
     /// The words of the command line aren't `[-s FILE] CONF LOG`.
     BadWords,
     /// No definition gives the log.
@@ -25,7 +26,7 @@ pub fn cat_status(outcome: &CatOutcome) -> u8
     ensures { result ≡ cat_status_of outcome.now }
 {
     match outcome {
-        CatOutcome::Done(report) => {
+        CatOutcome::Done(report, _) => {
             if report.faults.as_slice().is_empty() {
                 0
             } else {
@@ -44,7 +45,7 @@ pub fn cat_outcome(outcome: Outcome) -> CatOutcome
     ensures { result ≡ cat_outcome outcome }
 {
     match outcome {
-        Outcome::Done(report) => CatOutcome::Done(report),
+        Outcome::Done(report) => CatOutcome::Done(report, false),
         Outcome::BadWords => CatOutcome::BadWords,
         Outcome::Held => CatOutcome::Held,
         Outcome::OutOfMemory => CatOutcome::OutOfMemory,

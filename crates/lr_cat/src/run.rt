@@ -1,5 +1,5 @@
 // A call, from its clock on.
-ghost use Rattle.std.specs.Prelude.{◌≡◌, ◌≢◌, ◌≤◌, ◌+◌, ◌⊎◌, ◌∷◌, [], true, None, All, IfErr, vec_len, vec_capacity};
+ghost use Rattle.std.specs.Prelude.{◌≡◌, ◌≢◌, ◌≤◌, ◌+◌, ◌⊎◌, ◌∷◌, [], true, false, None, All, IfErr, vec_len, vec_capacity};
 ghost use Rattle.lr_rules.specs.declared.fault.Fault.TheVariants as fault;
 ghost use Rattle.lr_rules.specs.Limits.{is_format, or_none};
 ghost use Rattle.lr_host.specs.Counted.{calls_in};
@@ -37,10 +37,10 @@ fn put_log<H: Host, K: Sink>(
     clock: &Clock,
     family: &Family,
     out: &mut K,
-) -> Result<(), CatStop>
+) -> Result<bool, CatStop>
     requires format { or_none is_format family.now.naming.dated ≡ true }
     requires log { can_be_log wanted.now.log ≡ true }
-    ensures came { CameTo (λ own texts ts. Cats wanted.now clock.entry.now rules.now family.now.naming own texts ts) result
+    ensures came { CameTo (λ how texts ts. Cats wanted.now clock.entry.now rules.now family.now.naming how texts ts) result
         (H.told host.old) (H.told host.new) (K.taken out.old) (K.taken out.new) }
     ensures stopped { IfErr result (λ why. Left (StopsSo wanted.now clock.entry.now rules.now why) (H.told host.old)
         (H.told host.new)) }
@@ -69,21 +69,22 @@ fn put_log<H: Host, K: Sink>(
 }
 
 // The answer of a call that was carried through, or stopped so. There is room for one fault more.
-fn answer_of(notices: Listed<Notice>, faults: Vec<Fault>, done: Result<(), CatStop>) -> CatOutcome
+fn answer_of(notices: Listed<Notice>, faults: Vec<Fault>, done: Result<bool, CatStop>) -> CatOutcome
     requires { vec_len faults + 1 ≤ vec_capacity faults }
     ensures { result ≡ answer_by notices faults.items done }
 {
     let mut faults = faults;
-    match done {
-        Ok(()) => {}
-        Err(CatStop::Fault(fault)) => faults.push_reserved(fault),
+    let waits = match done {
+        Ok(waits) => waits,
+        Err(CatStop::Fault(fault)) => {
+            faults.push_reserved(fault);
+            false
+        }
         Err(CatStop::Held) => return CatOutcome::Held,
         Err(CatStop::Memory) => return CatOutcome::OutOfMemory,
-    }
-    CatOutcome::Done(Report {
-        notices,
-        faults: Listed::from_vec(faults),
-    })
+    };
+    let faults = Listed::from_vec(faults);
+    CatOutcome::Done(Report { notices, faults }, waits)
 }
 
 // The call, by the family that the first definition that gives the log says.
@@ -157,14 +158,14 @@ fn call_rules<H: Host, K: Sink>(
 
 // The report of a configuration alone.
 fn reported(reading: Reading) -> CatOutcome
-    ensures { result ≡ CatOutcome.Done (report_by (meaning_of reading) None) }
+    ensures { result ≡ CatOutcome.Done (report_by (meaning_of reading) None) false }
 {
     let Reading {
         notices,
         faults,
         ..
     } = reading;
-    CatOutcome::Done(Report { notices, faults })
+    CatOutcome::Done(Report { notices, faults }, false)
 }
 
 // The call, by this clock. A call that fails as the configuration is read ends it: what wasn't read may say more of the log.
@@ -197,14 +198,14 @@ fn call_confs<H: Host, K: Sink>(
 
 // The report of this fault alone.
 fn alone(alloc: Global, fault: Fault) -> CatOutcome
-    ensures { (result ≡ CatOutcome.Done (record { notices = []; faults = fault ∷ [] })) ⊎ (result ≡ CatOutcome.OutOfMemory) }
+    ensures { (result ≡ CatOutcome.Done (record { notices = []; faults = fault ∷ [] }) false) ⊎ (result ≡ CatOutcome.OutOfMemory) }
 {
     let mut faults = Listed::new(alloc);
     match faults.push(fault) {
-        Ok(()) => CatOutcome::Done(Report {
-            notices: Listed::new(alloc),
-            faults,
-        }),
+        Ok(()) => {
+            let notices = Listed::new(alloc);
+            CatOutcome::Done(Report { notices, faults }, false)
+        }
         Err(_) => CatOutcome::OutOfMemory,
     }
 }
@@ -233,7 +234,7 @@ pub fn call_at<H: Host, K: Sink>(
     ensures counted { HasCounted result (H.counts host.old) (H.counts host.new) }
     ensures out { HasFault result fault.Out → Rose (K.faults out.old) (K.faults out.new) }
     ensures clock { HasFault result fault.Clock → ¬ (IsInRange seconds) }
-    ensures no_clock { ¬ (IsInRange seconds) → (result ≡ CatOutcome.Done clock_fault) ⊎ (result ≡ CatOutcome.OutOfMemory) }
+    ensures no_clock { ¬ (IsInRange seconds) → (result ≡ CatOutcome.Done clock_fault false) ⊎ (result ≡ CatOutcome.OutOfMemory) }
     ensures words { result ≢ CatOutcome.BadWords }
     ensures counts { Onward (H.counts host.old) (H.counts host.new) }
     ensures puts { K.faults out.old ≤ K.faults out.new }

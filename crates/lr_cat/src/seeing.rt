@@ -1,5 +1,5 @@
 // The looks at a log's family, where the log waits that is set aside, and at the log.
-ghost use Rattle.std.specs.Prelude.{◌≡◌, ◌++◌, [], ℕ, map, true, Some, Ok, Err, IfOk, IfErr, OnOk};
+ghost use Rattle.std.specs.Prelude.{◌≡◌, ◌++◌, [], ℕ, is_some, map, true, Some, Ok, Err, IfOk, IfErr, OnOk};
 ghost use Rattle.lr_rules.specs.Limits.{is_format, or_none};
 ghost use Rattle.lr_host.specs.declared.entry.Entry.TheVariants as entry;
 ghost use Rattle.lr_host.specs.Told.{Left, Can, Onward, Rose};
@@ -21,6 +21,15 @@ pub enum FileStop {
     Call,
     /// Something else than a regular file stands there.
     NotFile,
+}
+
+/// The files of a log's history.
+#[derive(Drop)]
+pub struct Files {
+    /// Their paths, of which the last is the oldest.
+    pub paths: Vec<Path>,
+    /// Whether the log that is set aside waits among them.
+    pub waits: bool,
 }
 
 /// The paths of the files that stand beside the members.
@@ -129,31 +138,33 @@ fn add_paths(alloc: Global, files: &mut Vec<Path>, members: &[Member]) -> Result
     Ok(())
 }
 
-// The paths of the files: the log, where it is there, what was set aside, and the members behind them.
-fn files_of(alloc: Global, found: Found, members: &[Member]) -> Result<Vec<Path>, Memory>
-    ensures { IfOk result (λ files. files.items ≡ files_behind found.log found.aside members.now) }
+// The files: the log, where it is there, what was set aside, and the members behind them.
+fn files_of(alloc: Global, found: Found, members: &[Member]) -> Result<Files, Memory>
+    ensures paths { IfOk result (λ files. files.paths.items ≡ files_behind found.log found.aside members.now) }
+    ensures waits { IfOk result (λ files. files.waits ≡ is_some found.aside) }
 {
     let Found { aside, log } = found;
-    let mut files = Vec::new(alloc);
-    add_found(&mut files, log)?;
-    add_found(&mut files, aside)?;
-    add_paths(alloc, &mut files, members)?;
-    Ok(files)
+    let waits = aside.is_some();
+    let mut paths = Vec::new(alloc);
+    add_found(&mut paths, log)?;
+    add_found(&mut paths, aside)?;
+    add_paths(alloc, &mut paths, members)?;
+    Ok(Files { paths, waits })
 }
 
-/// Looks at the family, then where the log waits that is set aside, if its way does that, and at the log; the paths of the files
-/// that stand, of which the last is the oldest.
+/// Looks at the family, then where the log waits that is set aside, if its way does that, and at the log; the files that stand.
 pub fn see<H: Host>(
     alloc: Global,
     host: &mut H,
     family: &Family,
     aside: Option<Path>,
     log: Path,
-) -> Result<Vec<Path>, CatStop>
+) -> Result<Files, CatStop>
     requires format { or_none is_format family.now.naming.dated ≡ true }
     requires aside { aside ≡ aside_of family.now.naming.aside log }
-    ensures told { IfOk result (λ files. SeesAll family.now.naming log files.items (H.told host.old) (H.told host.new)) }
-    ensures can { IfOk result (λ files. CanReadAll (H.told host.new) files.items) }
+    ensures told { IfOk result (λ files. SeesAll family.now.naming log files.paths.items files.waits (H.told host.old)
+        (H.told host.new)) }
+    ensures can { IfOk result (λ files. CanReadAll (H.told host.new) files.paths.items) }
     ensures stopped { IfErr result (λ why. SeesNot family.now.naming log why (H.told host.old) (H.told host.new)) }
     ensures cause { IfErr result (λ why. (puts later : ℕ) → StopCause why (H.counts host.old) (H.counts host.new) puts later) }
     ensures counts { Onward (H.counts host.old) (H.counts host.new) }

@@ -1,5 +1,5 @@
 // The top call.
-ghost use Rattle.std.specs.Prelude.{◌≡◌, ◌≢◌, ◌≤◌, ◌↔◌, Some, None};
+ghost use Rattle.std.specs.Prelude.{◌≡◌, ◌≢◌, ◌≤◌, ◌↔◌, false, Some, None};
 ghost use Rattle.lr_rules.specs.declared.fault.Fault.TheVariants as fault;
 ghost use Rattle.lr_host.specs.Opening.{IsJournal};
 ghost use Rattle.lr_host.specs.Told.{Onward, Rose, WhereTold};
@@ -57,7 +57,7 @@ pub fn lrcat<H: Host, K: Sink, N: Sink>(
     ensures bad_words { result ≢ CatOutcome.OutOfMemory → (result ≡ CatOutcome.BadWords ↔ wanted here.now words.now ≡ None) }
     ensures clock { HasFault result fault.Clock → ¬ (IsInRange now) }
     ensures no_clock { (w : Wanted) → wanted here.now words.now ≡ Some w → ¬ (IsInRange now) → result ≢ CatOutcome.OutOfMemory
-        → result ≡ CatOutcome.Done clock_fault }
+        → result ≡ CatOutcome.Done clock_fault false }
     ensures counted { HasCounted result (H.counts host.old) (H.counts host.new) }
     ensures counts { Onward (H.counts host.old) (H.counts host.new) }
     ensures sink_counts { K.faults out.old ≤ K.faults out.new }

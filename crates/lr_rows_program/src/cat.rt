@@ -10,7 +10,7 @@ use std::alloc::Global;
 // Whether the report's last fault is that of the output.
 fn tells_out(outcome: &CatOutcome) -> bool {
     match outcome {
-        CatOutcome::Done(report) => matches!(report.faults.as_slice().last(), Some(Fault::Out)),
+        CatOutcome::Done(report, _) => matches!(report.faults.as_slice().last(), Some(Fault::Out)),
         _ => false,
     }
 }

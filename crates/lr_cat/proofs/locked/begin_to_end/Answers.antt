@@ -14,12 +14,12 @@ put_to_end-requires-clause-on g c = is_on c.args.wanted.now.state c.args.clock.n
 
 pub returns-in-Ok-true-clause-came : goal.returns-in-Ok-true-clause-came
 returns-in-Ok-true-clause-came g c = begun_so c.args.wanted.now c.args.clock.now c.args.rules.now c.args.family.now.naming c.put_to_end.result (g.H.Host.told c.args.host.now) (g.H.Host.told c.begin.new.self) (g.H.Host.told c.put_to_end.new.host) (g.K.Sink.taken c.args.out.now) (g.K.Sink.taken c.put_to_end.new.out) (did_begin c.args.wanted.now.state c.args.clock.now c.args.rules.now c.in-Ok-true.field-0 c.in-Ok-true.field-0-test c.in-Ok-true.ensures.told)
-    (subst (λ x. CameTo (λ own texts ts. EndsWork (Works c.args.family.now.naming x own texts) ts) c.put_to_end.result (g.H.Host.told c.begin.new.self) (g.H.Host.told c.put_to_end.new.host) (g.K.Sink.taken c.args.out.now) (g.K.Sink.taken c.put_to_end.new.out))
+    (subst (λ x. CameTo (λ how texts ts. EndsWork (Works c.args.family.now.naming x how texts) ts) c.put_to_end.result (g.H.Host.told c.begin.new.self) (g.H.Host.told c.put_to_end.new.host) (g.K.Sink.taken c.args.out.now) (g.K.Sink.taken c.put_to_end.new.out))
     c.requires.log c.put_to_end.ensures.came)
 
 pub returns-in-Ok-true-clause-stopped : goal.returns-in-Ok-true-clause-stopped
 returns-in-Ok-true-clause-stopped g c = begun_stops c.args.wanted.now c.args.clock.now c.args.rules.now c.args.family.now.naming c.put_to_end.result (g.H.Host.told c.args.host.now) (g.H.Host.told c.begin.new.self) (g.H.Host.told c.put_to_end.new.host) (g.K.Sink.taken c.args.out.now) (g.K.Sink.taken c.put_to_end.new.out) (did_begin c.args.wanted.now.state c.args.clock.now c.args.rules.now c.in-Ok-true.field-0 c.in-Ok-true.field-0-test c.in-Ok-true.ensures.told) c.put_to_end.ensures.held c.put_to_end.ensures.short
-    (subst (λ x. CameTo (λ own texts ts. EndsWork (Works c.args.family.now.naming x own texts) ts) c.put_to_end.result (g.H.Host.told c.begin.new.self) (g.H.Host.told c.put_to_end.new.host) (g.K.Sink.taken c.args.out.now) (g.K.Sink.taken c.put_to_end.new.out))
+    (subst (λ x. CameTo (λ how texts ts. EndsWork (Works c.args.family.now.naming x how texts) ts) c.put_to_end.result (g.H.Host.told c.begin.new.self) (g.H.Host.told c.put_to_end.new.host) (g.K.Sink.taken c.args.out.now) (g.K.Sink.taken c.put_to_end.new.out))
     c.requires.log c.put_to_end.ensures.came)
 
 pub returns-in-Ok-false-clause-stopped : goal.returns-in-Ok-false-clause-stopped

@@ -14,14 +14,14 @@ pub returns-in-Ok-true-clause-stopped : goal.returns-in-Ok-true-clause-stopped
 returns-in-Ok-true-clause-stopped g c = cats_stops c.args.wanted.now c.args.clock.now c.args.rules.now c.args.family.now.naming c.args.names.dir c.begin_to_end.result (g.H.Host.told c.args.host.now) (g.H.Host.told c.look_for_dir.new.host) (g.H.Host.told c.begin_to_end.new.host) c.requires.dir (seen_so c.args.names.dir c.in-Ok-true.field-0 true c.in-Ok-true.field-0-test c.in-Ok-true.ensures.told) c.begin_to_end.ensures.stopped
 
 pub returns-in-Ok-false-clause-came : goal.returns-in-Ok-false-clause-came
-returns-in-Ok-false-clause-came g c = stop_is (λ own texts ts. Cats c.args.wanted.now c.args.clock.now c.args.rules.now c.args.family.now.naming own texts ts) c.no_dir.result (stop.Fault (fault.NoDir c.args.names.dir)) (g.H.Host.told c.args.host.now) (g.H.Host.told c.look_for_dir.new.host) (g.K.Sink.taken c.args.out.now) (g.K.Sink.taken c.args.out.now) c.no_dir.ensures
+returns-in-Ok-false-clause-came g c = stop_is (λ how texts ts. Cats c.args.wanted.now c.args.clock.now c.args.rules.now c.args.family.now.naming how texts ts) c.no_dir.result (stop.Fault (fault.NoDir c.args.names.dir)) (g.H.Host.told c.args.host.now) (g.H.Host.told c.look_for_dir.new.host) (g.K.Sink.taken c.args.out.now) (g.K.Sink.taken c.args.out.now) c.no_dir.ensures
     (dir_missing c.args.wanted.now c.args.clock.now c.args.rules.now c.args.family.now.naming c.args.names.dir (g.K.Sink.taken c.args.out.now) c.requires.dir (seen_so c.args.names.dir c.in-Ok-false.field-0 false c.in-Ok-false.field-0-test c.in-Ok-false.ensures.told))
 
 pub returns-in-Ok-false-clause-stopped : goal.returns-in-Ok-false-clause-stopped
 returns-in-Ok-false-clause-stopped g c = stops_is c.args.wanted.now c.args.clock.now c.args.rules.now c.no_dir.result (stop.Fault (fault.NoDir c.args.names.dir)) c.no_dir.ensures (dir_short c.args.wanted.now c.args.clock.now c.args.rules.now c.args.family.now.naming (fault.NoDir c.args.names.dir) c.in-Ok-false.ensures.told)
 
 pub returns-in-Err-clause-came : goal.returns-in-Err-clause-came
-returns-in-Err-clause-came g c = stop_is (λ own texts ts. Cats c.args.wanted.now c.args.clock.now c.args.rules.now c.args.family.now.naming own texts ts) c.not_dir.result (stop.Fault (unseen_dir_fault c.in-Err.why c.args.names.dir)) (g.H.Host.told c.args.host.now) (g.H.Host.told c.look_for_dir.new.host) (g.K.Sink.taken c.args.out.now) (g.K.Sink.taken c.args.out.now) c.not_dir.ensures
+returns-in-Err-clause-came g c = stop_is (λ how texts ts. Cats c.args.wanted.now c.args.clock.now c.args.rules.now c.args.family.now.naming how texts ts) c.not_dir.result (stop.Fault (unseen_dir_fault c.in-Err.why c.args.names.dir)) (g.H.Host.told c.args.host.now) (g.H.Host.told c.look_for_dir.new.host) (g.K.Sink.taken c.args.out.now) (g.K.Sink.taken c.args.out.now) c.not_dir.ensures
     (dir_stopped c.args.wanted.now c.args.clock.now c.args.rules.now c.args.family.now.naming c.args.names.dir c.in-Err.why (g.K.Sink.taken c.args.out.now) c.requires.dir c.in-Err.ensures.stopped)
 
 pub returns-in-Err-clause-stopped : goal.returns-in-Err-clause-stopped

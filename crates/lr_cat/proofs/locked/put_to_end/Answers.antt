@@ -8,7 +8,7 @@ pub end-requires : goal.end-requires
 end-requires g c = stays_on c.see_and_put-done.ensures.sights c.requires.on
 
 pub returns-clause-came : goal.returns-clause-came
-returns-clause-came g c = ended_so (λ own texts ts. Works c.args.family.now.naming c.args.log own texts ts) c.see_and_put-done.result (g.H.Host.told c.args.host.now) (g.H.Host.told c.see_and_put-done.new.host) (g.H.Host.told c.end.new.self)
+returns-clause-came g c = ended_so (λ how texts ts. Works c.args.family.now.naming c.args.log how texts ts) c.see_and_put-done.result (g.H.Host.told c.args.host.now) (g.H.Host.told c.see_and_put-done.new.host) (g.H.Host.told c.end.new.self)
     (g.K.Sink.taken c.args.out.now) (g.K.Sink.taken c.see_and_put-done.new.out) c.see_and_put-done.ensures.came c.end.ensures.told
 
 pub returns-clause-short : goal.returns-clause-short
