@@ -226,7 +226,7 @@ tell_build() {
     elif [ -n "$trial" ]; then
         echo 'a trial build: not proved, with AddressSanitizer, 30 to 100 times slower, and without much memory it ends: for a look, not for a server'
     elif [ ! -f "$here/logrotate" ]; then
-        echo 'the programs are proved and built: some seconds where this tree has passed the gate on this machine, else about 47 minutes of four processors'
+        echo 'the programs are proved and built: some seconds where this tree has passed the gate on this machine, else about an hour of four processors'
     fi
 }
 
