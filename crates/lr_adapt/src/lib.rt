@@ -17,8 +17,9 @@
 //! - `list`: the names of the directory, but for `.` and `..`, those that aren't UTF-8, and those with a newline
 //! - `read`: reads once from the place on; the file is held open while `lstat` says that the path names it, and another that
 //!   got its path isn't read on from its middle. Behind a making, up to the sync of what was made, it is read for a copy: then
-//!   it has one name, and the first such file has the mode that the copy was made with. The file is opened for writing too; one
-//!   that this user may only read is opened so, and so is one on a file system that can't be written, but not for a copy
+//!   it has one name, and the first such file has the mode that the copy was made with; the copy is given to whom that belongs
+//!   before its first byte is answered. The file is opened for writing too; one that this user may only read is opened so, and
+//!   so is one on a file system that can't be written, but not for a copy
 //! - `rename`: `rename`; where the file went is noted, and whose it is where it leaves its directory
 //! - `make_new`: opens with `O_EXCL`, so a link that leads nowhere is a name too; then `fchown` to whom the file belongs that
 //!   the last rename took from this path, and `fchmod`, since the process's mask cuts the mode; where one is refused the name
@@ -30,7 +31,7 @@
 //! - `unlink`: `unlink`
 //! - `sync_file`, `sync_dir`: `fsync` of the file that was made last, where it was made by this path and the path names it
 //!   still, else of what the path names, or of the directory; a file that was made, and behind whose making another was read,
-//!   is given to whom that belongs before
+//!   is given to whom that belongs before, once more
 //! - `make_dir`: `mkdir`, then `fchmod`, where the process's mask cut the mode, on a directory that is younger than its
 //!   parent's last change before; with a mode it waits, two seconds at most, until the clock of the file systems has moved on
 //!   since that change: by 20 milliseconds, and as a change of the lock's file tells it, which is given the mode that it has

@@ -1,7 +1,8 @@
 // The files that are made, and to whom they are given.
 //
 // The file that was made last is held open: only that file gets what is appended to its path and the owner of a copy, whatever
-// else gets the path meanwhile.
+// else gets the path meanwhile. A copy is given away before it gets its first byte: else one that breaks off would be root's, with
+// the bytes of another user.
 ghost use Rattle.std.specs.Prelude.{◌≤◌, ◌<◌, length, IfOk};
 
 use crate::calls::{Moved, owner_before};
@@ -112,6 +113,18 @@ pub(crate) fn make_new_at<R: Files<File = File> + AllocGlobal>(
     }
 }
 
+/// Gives the file that was made last to whom the file belongs that is read first since, and its mode: it is a copy of that.
+pub(crate) fn give_made(made: &mut Option<Made>, owner: Owner) -> io::Result<()> {
+    match made {
+        Some(made) if made.owner.is_none() => {
+            give(&made.opened.file, Some(owner), made.mode)?;
+            made.owner = Some(owner);
+            Ok(())
+        }
+        _ => Ok(()),
+    }
+}
+
 /// Appends a first part of the piece: to the file that was made last, where it was made by this path, else to what the path
 /// itself names.
 pub(crate) fn append_made<R: Files<File = File> + AllocGlobal>(
@@ -148,8 +161,8 @@ fn append(file: &mut File, piece: &[u8]) -> io::Result<usize>
     Ok(count)
 }
 
-/// Syncs a file. The one that was made last, where it was made by this path, is a copy if another was read since: it is given to
-/// whom that belongs before.
+/// Syncs a file. The one that was made last, where it was made by this path, is a copy if another was read since: before, it is
+/// given to whom that belongs once more, since a write takes bits of its mode away where the caller isn't root.
 pub(crate) fn sync_made<R: Files<File = File> + AllocGlobal>(
     rt: &R,
     ways: &mut Ways,

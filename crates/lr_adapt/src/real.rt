@@ -9,7 +9,7 @@ use crate::calls::{
 };
 use crate::dirs::make_dir_at;
 use crate::held::{Held, read_held, truncate_held};
-use crate::made::{Made, append_made, make_new_at, sync_made};
+use crate::made::{Made, append_made, give_made, make_new_at, sync_made};
 use crate::opened::Owner;
 use crate::ways::Ways;
 use lr_host::{CallFault, Host, ListFault, RunFault, Seen};
@@ -117,20 +117,6 @@ impl<R> RealHost<R> {
                 None => true,
             },
             _ => true,
-        }
-    }
-
-    // Notes whose the first file is that is read behind a making.
-    fn note_read(&mut self, owner: Owner)
-        ensures faults { self.old.faults ≡ self.new.faults }
-        ensures bad_ends { self.old.bad_ends ≡ self.new.bad_ends }
-        ensures held { self.old.held ≡ self.new.held }
-        ensures lock { is_some self.old.lock ≡ is_some self.new.lock }
-    {
-        if let Some(made) = &mut self.made {
-            if made.owner.is_none() {
-                made.owner = Some(owner);
-            }
         }
     }
 }
@@ -253,7 +239,8 @@ impl<R: Files<File = File> + Processes + AllocGlobal + Eprint + Clock + Drop> Ho
                     raise(&mut self.faults);
                     return Err(CallFault::Failed);
                 }
-                self.note_read(owner);
+                let given = give_made(&mut self.made, owner);
+                self.count("give", path, given)?;
                 Ok(count)
             }
             Err(fault) => Err(fault),
