@@ -23,7 +23,8 @@
 //! - `rename`: `rename`; where the file went is noted, and whose it is where it leaves its directory
 //! - `make_new`: opens with `O_EXCL`, so a link that leads nowhere is a name too; then `fchown` to whom the file belongs that
 //!   the last rename took from this path, and `fchmod`, since the process's mask cuts the mode; where one is refused the name
-//!   is taken away again. The file is held open
+//!   is taken away again. It has the bits behind `u+s` and `g+s` only once it is given to an owner, and where others may change
+//!   the directory, only if the file has them that the last rename took. The file is held open
 //! - `append`: writes once behind the end: of the file that was made last, where it was made by this path and the path names it
 //!   still; else of one that the path names, which has one name; one that is missing isn't made
 //! - `truncate`: cuts to nothing (`ftruncate`) what was read last, where it was read by this path and the path names it still;

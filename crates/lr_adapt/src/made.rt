@@ -15,6 +15,9 @@ use std::os::unix::fs::{MetadataExt, OpenOptionsExt, PermissionsExt, fchown};
 use std::rt::Files;
 use std::{fs, io};
 
+// The bits of a mode by which a program that is started from the file runs as the file's user and group.
+const AS_OWNER: u32 = 0o6000;
+
 /// The last file that was made: its path and mode, and whose the file is that was read first since.
 #[derive(Drop)]
 pub(crate) struct Made {
@@ -70,6 +73,17 @@ fn finished<R: Files>(
     }
 }
 
+// The mode that a new file may have. As long as it isn't given to an owner it is the run's own, and so it lacks the bits by which
+// a program runs as that one. `open` says whether others may change the directory: there the file whose owner it gets may be
+// another than the one whose mode is asked for, and it gets such a bit only where that file has it.
+fn mode_with(mode: u32, owner: Option<Owner>, open: bool) -> u32 {
+    match owner {
+        Some(owner) if open => mode & !(AS_OWNER & !owner.mode),
+        Some(_) => mode,
+        None => mode & !AS_OWNER,
+    }
+}
+
 // Makes an empty file; None where the path is named. A mode is given at the making, and again behind it, since the process's
 // mask cuts the first.
 fn make_file<R: Files<File = File>>(
@@ -81,7 +95,7 @@ fn make_file<R: Files<File = File>>(
     let mut options = OpenOptions::new();
     options.append(true).create_new(true);
     if let Some(mode) = mode {
-        options.mode(mode);
+        options.mode(mode & !AS_OWNER);
     }
     match options.open(rt, at) {
         Ok(file) => Ok(Some(finished(rt, at, file, mode, owner)?)),
@@ -102,7 +116,9 @@ pub(crate) fn make_new_at<R: Files<File = File> + AllocGlobal>(
     let owner = owner_before(rt, ways, moved, path)?;
     let at = ways.place(rt, path)?;
     let kept = path.copy(rt.alloc())?;
-    match make_file(rt, at.text(path), mode, owner)? {
+    let open = ways.is_held();
+    let first = mode.map(|mode| mode_with(mode, owner, open));
+    match make_file(rt, at.text(path), first, owner)? {
         Some(opened) => Ok(Some(Made {
             path: kept,
             mode,

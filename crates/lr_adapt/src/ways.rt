@@ -403,6 +403,14 @@ impl Ways {
         }
     }
 
+    /// Whether others may change the directory that was found last, or one above it.
+    pub(crate) fn is_held(&self) -> bool {
+        match &self.first {
+            Some(way) => way.stand.handle.is_some(),
+            None => true,
+        }
+    }
+
     /// The text by which the system finds what the path itself names. It holds until two further directories are found.
     pub(crate) fn place<R: Files<File = File> + AllocGlobal>(
         &mut self,
