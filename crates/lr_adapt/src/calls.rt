@@ -3,6 +3,7 @@ ghost use Rattle.std.specs.Prelude.{◌≡◌, ◌≤◌, IfOk, length, take};
 
 use crate::opened::{
     Opened, Owner, is_exposed, open_followed, open_lock, open_lock_to_read, open_to_read, owner_of,
+    want_own,
 };
 use crate::ways::{Ways, parted};
 use lr_host::{Kind, Seen};
@@ -58,6 +59,14 @@ pub(crate) fn look_at<R: Files<File = File> + AllocGlobal>(
             Ok(None)
         }
         Err(e) => Err(e),
+    }
+}
+
+/// Whether others may write what a look saw.
+pub(crate) fn saw_exposed(got: &io::Result<Option<Seen>>) -> bool {
+    match got {
+        Ok(Some(seen)) => seen.exposed,
+        _ => false,
     }
 }
 
@@ -126,16 +135,22 @@ fn add_name(alloc: Global, name: &str, names: &mut Vec<Text>) -> io::Result<()>
     }
 }
 
-/// Bytes of a file from a place on, with the links in its path followed.
+/// Bytes of a file from a place on, with the links in its path followed. Who may change a directory may put another file in the
+/// place of one that was looked at: so one that others may write is read only where the look saw one (`exposed`).
 pub(crate) fn read_followed<R: Files<File = File>>(
     rt: &R,
+    caller: u32,
     path: &str,
+    exposed: bool,
     from: u64,
     into: &mut [u8],
 ) -> io::Result<usize>
     ensures { IfOk result (λ count. count ≤ length into.new) }
 {
     let opened = open_followed(rt, path)?;
+    if !exposed {
+        want_own(&opened, caller)?;
+    }
     opened.file.read_at(into, from)
 }
 

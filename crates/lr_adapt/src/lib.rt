@@ -19,7 +19,8 @@
 //!   got its path isn't read on from its middle. Behind a making, up to the sync of what was made, it is read for a copy: then
 //!   it has one name, and the first such file has the mode that the copy was made with; the copy is given to whom that belongs
 //!   before its first byte is answered. The file is opened for writing too; one that this user may only read is opened so, and
-//!   so is one on a file system that can't be written, but not for a copy
+//!   so is one on a file system that can't be written, but not for a copy. Where links are followed a file that others may write
+//!   isn't read, unless the last such look saw what others may write
 //! - `rename`: `rename`; where the file went is noted, and whose it is where it leaves its directory
 //! - `make_new`: opens with `O_EXCL`, so a link that leads nowhere is a name too; then `fchown` to whom the file belongs that
 //!   the last rename took from this path, and `fchmod`, since the process's mask cuts the mode; where one is refused the name

@@ -152,6 +152,15 @@ fn open_plainly<R: Files<File = File>>(rt: &R, path: &str, follow: bool) -> io::
     checked(rt, path, follow, file)
 }
 
+/// Nobody but root and the caller may write what was opened.
+pub(crate) fn want_own(opened: &Opened, caller: u32) -> io::Result<()> {
+    if is_exposed(&opened.seen, caller) {
+        Err(Error::other("others may write the file that has the path now"))
+    } else {
+        Ok(())
+    }
+}
+
 /// Opens a file for reading, with links followed. It may wait at a pipe that is swapped in behind the look.
 pub(crate) fn open_followed<R: Files<File = File>>(rt: &R, path: &str) -> io::Result<Opened> {
     open_plainly(rt, path, true)

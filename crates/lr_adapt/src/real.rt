@@ -4,8 +4,8 @@ ghost use Rattle.std.specs.Prelude.{◌≡◌, ◌≤◌, is_some, false, Ok, If
 ghost use Rattle.lr_host.specs.Told.{Rose};
 
 use crate::calls::{
-    Moved, input_of, look_at, names_at, read_followed, rename_at, run_program, sync_dir_at,
-    take_lock, unlink_at,
+    Moved, input_of, look_at, names_at, read_followed, rename_at, run_program, saw_exposed,
+    sync_dir_at, take_lock, unlink_at,
 };
 use crate::dirs::make_dir_at;
 use crate::held::{Held, read_held, truncate_held};
@@ -46,6 +46,8 @@ pub struct RealHost<R> {
     made: Option<Made>,
     // The file that the last read opened.
     reading: Option<Held>,
+    // Whether the last look that followed links saw what others may write.
+    exposed: bool,
     // Whether it is lent to a call that only reads.
     only_reads: bool,
 }
@@ -69,6 +71,7 @@ impl<R: Files> RealHost<R> {
             moved: None,
             made: None,
             reading: None,
+            exposed: false,
             only_reads: false,
         }
     }
@@ -196,6 +199,9 @@ impl<R: Files<File = File> + Processes + AllocGlobal + Eprint + Clock + Drop> Ho
 
     fn look(&mut self, path: &Path, follow: bool) -> Result<Option<Seen>, CallFault> {
         let got = look_at(&self.rt, &mut self.ways, path, follow);
+        if follow {
+            self.exposed = saw_exposed(&got);
+        }
         self.count("look", path, got)
     }
 
@@ -219,7 +225,8 @@ impl<R: Files<File = File> + Processes + AllocGlobal + Eprint + Clock + Drop> Ho
         into: &mut [u8],
     ) -> Result<usize, CallFault> {
         if follow {
-            let got = read_followed(&self.rt, path.as_str(), from, into);
+            let caller = self.ways.caller();
+            let got = read_followed(&self.rt, caller, path.as_str(), self.exposed, from, into);
             return self.count("read", path, got);
         }
         let sole = self.copies(path);
