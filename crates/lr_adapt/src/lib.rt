@@ -27,7 +27,8 @@
 //!   is taken away again. It has the bits behind `u+s` and `g+s` only once it is given to an owner, and where others may change
 //!   the directory, only if the file has them that the last rename took. The file is held open
 //! - `append`: writes once behind the end: of the file that was made last, where it was made by this path and the path names it
-//!   still; else of one that the path names, which has one name; one that is missing isn't made
+//!   still; else of one that the path names, which has one name; one that is missing isn't made. A piece of zeros makes the file
+//!   longer (`ftruncate`) and isn't written, where the file system lets it
 //! - `truncate`: cuts to nothing (`ftruncate`) what was read last, where it was read by this path and the path names it still;
 //!   else a file that the path names; it has one name
 //! - `unlink`: `unlink`

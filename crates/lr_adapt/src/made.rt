@@ -166,10 +166,28 @@ pub(crate) fn append_made<R: Files<File = File> + AllocGlobal>(
     }
 }
 
+// So many zeros, a block of most file systems, take no room of the disk in a file that is made longer by them.
+const HOLE: usize = 4096;
+
+fn is_hole(piece: &[u8]) -> bool {
+    piece.len() >= HOLE && piece.iter().all(|byte| *byte == 0)
+}
+
+// Makes a file longer by so many zeros, which aren't written.
+fn lengthen(file: &File, count: usize) -> io::Result<()> {
+    let length = file.metadata()?.len();
+    file.set_len(length.saturating_add(count as u64))
+}
+
+// A hole of a log stays one in its copy, where the file system lets it: a writer that keeps its place in a log which is emptied
+// behind each copy leaves a larger one each time.
 fn append(file: &mut File, piece: &[u8]) -> io::Result<usize>
     ensures bound { IfOk result (λ count. count ≤ length piece.now) }
     ensures some { IfOk result (λ count. 0 < length piece.now → 0 < count) }
 {
+    if is_hole(piece) && lengthen(file, piece.len()).is_ok() {
+        return Ok(piece.len());
+    }
     let count = file.write(piece)?;
     if count == 0 && !piece.is_empty() {
         return Err(Error::from(ErrorKind::WriteZero));
