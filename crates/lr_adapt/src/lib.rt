@@ -63,6 +63,7 @@ mod made;
 mod opened;
 mod real;
 mod sink;
+mod streams;
 mod ways;
 
 pub use real::RealHost;

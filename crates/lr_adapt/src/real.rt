@@ -11,6 +11,7 @@ use crate::dirs::make_dir_at;
 use crate::held::{Held, read_held, truncate_held};
 use crate::made::{Made, append_made, give_made, make_new_at, sync_made};
 use crate::opened::Owner;
+use crate::streams::Streams;
 use crate::ways::Ways;
 use lr_host::{CallFault, Host, ListFault, RunFault, Seen};
 use lr_rules::{Ended, Moment, Path, Rules, Text};
@@ -35,6 +36,8 @@ pub(crate) fn raise(count: &mut u64)
 #[derive(Drop)]
 pub struct RealHost<R> {
     rt: R,
+    // What keeps the files below off the numbers of the standard streams.
+    streams: Streams,
     // The lock of the run, which closing it gives back.
     lock: Option<File>,
     faults: u64,
@@ -52,7 +55,7 @@ pub struct RealHost<R> {
     only_reads: bool,
 }
 
-impl<R: Files> RealHost<R> {
+impl<R: Files<File = File>> RealHost<R> {
     /// The file system that the runtime reaches.
     pub fn new(rt: R) -> RealHost<R>
         ensures faults { result.faults ≡ 0 }
@@ -60,9 +63,11 @@ impl<R: Files> RealHost<R> {
         ensures held { result.held ≡ 0 }
         ensures lock { is_some result.lock ≡ false }
     {
+        let streams = Streams::taken(&rt);
         let ways = Ways::new(&rt);
         RealHost {
             rt,
+            streams,
             lock: None,
             faults: 0,
             bad_ends: 0,
