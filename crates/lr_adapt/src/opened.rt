@@ -215,18 +215,23 @@ pub(crate) fn open_dir<R: Files<File = File> + AllocGlobal>(
     Ok(Opened { file, seen })
 }
 
-/// Opens the file of a lock, which is made with mode 0600 where it is missing.
+// Opens the file of a lock that is there.
+fn open_old_lock<R: Files<File = File>>(rt: &R, path: &str) -> io::Result<File> {
+    let mut options = OpenOptions::new();
+    options.read(true).write(true);
+    let Opened { file, .. } = open_with(rt, path, &options, false)?;
+    Ok(file)
+}
+
+/// Opens the file of a lock, which is made with mode 0600 where nothing has its path: so none is made where a link leads to.
 pub(crate) fn open_lock<R: Files<File = File>>(rt: &R, path: &str) -> io::Result<File> {
     let mut options = OpenOptions::new();
-    options.read(true).write(true).create(true).mode(0o600);
-    match named(rt, path, false) {
-        Ok(seen) => want_file(&seen)?,
-        Err(e) if e.kind() == ErrorKind::NotFound => {}
-        Err(e) => return Err(e),
+    options.read(true).write(true).create_new(true).mode(0o600);
+    match options.open(rt, path) {
+        Ok(file) => Ok(file),
+        Err(e) if e.kind() == ErrorKind::AlreadyExists => open_old_lock(rt, path),
+        Err(e) => Err(e),
     }
-    let file = options.open(rt, path)?;
-    let Opened { file, .. } = checked(rt, path, false, file)?;
-    Ok(file)
 }
 
 /// The same of a call that only reads. On a file system that can't be written a file that is there is opened for reading, which
