@@ -2,6 +2,7 @@
 //
 //   swapper exchange PATH OTHER [PATH OTHER]..   gives each path and the other each other's file, and back
 //   swapper churn FOLDER NAME..                  files, links and pipes of these names in the folder come and go
+//   swapper once PATH OTHER                      gives each the other's file, and ends with 0 where that can be
 #define _GNU_SOURCE
 #include <fcntl.h>
 #include <stdio.h>
@@ -54,6 +55,9 @@ static void churn(const char *name) {
 
 int main(int count, char **words) {
     seed = (unsigned)getpid();
+    if (count == 4 && strcmp(words[1], "once") == 0) {
+        return exchange(words[2], words[3]) != 0;
+    }
     // Whoever waits for it knows that it can be killed from here on.
     puts("ready");
     fflush(stdout);
