@@ -19,7 +19,8 @@
 # systemd reads the units of /usr and /usr/local; those below another PREFIX are told to it by `systemctl link`.
 set -eu
 umask 022
-here=$(cd "$(dirname "$0")" && pwd)
+# By CDPATH a relative folder would be looked for elsewhere first.
+here=$(CDPATH='' cd "$(dirname "$0")" && pwd)
 
 usage() {
     sed -n '6,7s/^# *//p' "$here/install.sh"
