@@ -1,6 +1,7 @@
 -- Which paths a word gives, and which definition gives a log first.
 use Rattle.std.proofs.Common.{◌≡◌, ◌⊎◌, inl, inr, ◌≤◌, ◌<◌, ◌↔◌, ℕ, zero, suc, ◌+◌, Bool, true, false, not, ◌&&◌, List, [], ◌∷◌, length, get_or, refl, sym, ap, ◌∙◌, subst, arith, drop, Some, None}
 use Rattle.std.specs.List.{list_all, list_any}
+use Rattle.std.proofs.lemmas.Bool.{and_parts}
 use Rattle.lr_rules.specs.declared.path.Path.{Path}
 use Rattle.lr_rules.specs.declared.rule.Rule.{Rule}
 use Rattle.lr_rules.specs.Limits.{meets_limits}
@@ -20,10 +21,6 @@ use Rattle.lr_looks.proofs.Kindred.{format_fine, kin_of}
 use Rattle.lr_laws_family.specs.Members.{IsFamily}
 use Rattle.lr_laws_family.proofs.DatedNames.{no_member}
 use Rattle.lr_cat.specs.First.{AreMatched, IsFound, GivesNoneBefore}
-
-both : (a b : Bool) → (a && b) ≡ true → (a ≡ true) × (b ≡ true)
-both true b h = (refl, h)
-both false b h = absurd (cc)
 
 -- ---- a wildcard
 
@@ -64,10 +61,10 @@ pub by_parts : (word x : List ℕ) (answer : Bool) → is_wildcard word ≡ true
 by_parts word x answer wild ok by = (to, from)
   where
     first : (is_absolute word ≡ true) × ((is_absolute x && not (ends_with part_end x)) ≡ true)
-    first = both (is_absolute word) (is_absolute x && not (ends_with part_end x)) ok
+    first = and_parts (is_absolute word) (is_absolute x && not (ends_with part_end x)) ok
 
     second : (is_absolute x ≡ true) × (not (ends_with part_end x) ≡ true)
-    second = both (is_absolute x) (not (ends_with part_end x)) first.1
+    second = and_parts (is_absolute x) (not (ends_with part_end x)) first.1
 
     to : answer ≡ true → WordGives word x
     to gives = WordGives.wildcard wild
@@ -84,7 +81,7 @@ pub may_now : (p y word x : List ℕ) (r b : Bool) → p ≡ word → y ≡ x �
 may_now p y word x r b same also is answer = sym (ap (λ (q : List ℕ). may q x) same) ∙ (sym (ap (may p) also) ∙ (sym is ∙ answer))
 
 pub first_of_may : (word x : List ℕ) → may word x ≡ true → (is_absolute word ≡ true) × (is_absolute x ≡ true)
-first_of_may word x ok = let a = both (is_absolute word) (is_absolute x && not (ends_with part_end x)) ok in (a.0, (both (is_absolute x) (not (ends_with part_end x)) a.1).0)
+first_of_may word x ok = let a = and_parts (is_absolute word) (is_absolute x && not (ends_with part_end x)) ok in (a.0, (and_parts (is_absolute x) (not (ends_with part_end x)) a.1).0)
 
 pub by_slices : (word x : List ℕ) (parts names : List (List ℕ)) (answer : Bool) → parts ≡ parts_in word → names ≡ parts_in x → (answer ≡ true) ↔ AreMatched parts names → (answer ≡ true) ↔ AreMatched (parts_in word) (parts_in x)
 by_slices word x parts names answer a b h = subst (λ (ps : List (List ℕ)). (answer ≡ true) ↔ AreMatched ps (parts_in x)) a (subst (λ (ns : List (List ℕ)). (answer ≡ true) ↔ AreMatched parts ns) b h)
@@ -132,8 +129,8 @@ none_more P xs i x is lt never none k y k_lt y_is p = go (less_or k i)
 
 pub limits_at : (rules : List Rule) (i : ℕ) (rule : Rule) → list_all meets_limits rules ≡ true → i < length rules → rule ≡ get_or rules i rule → meets_limits rule ≡ true
 limits_at [] i rule limits lt is = absurd (omega (arith, lt))
-limits_at (r ∷ rs) zero rule limits lt is = ap meets_limits is ∙ (both (meets_limits r) (list_all meets_limits rs) limits).0
-limits_at (r ∷ rs) (suc i) rule limits lt is = limits_at rs i rule (both (meets_limits r) (list_all meets_limits rs) limits).1 (omega (arith, lt)) is
+limits_at (r ∷ rs) zero rule limits lt is = ap meets_limits is ∙ (and_parts (meets_limits r) (list_all meets_limits rs) limits).0
+limits_at (r ∷ rs) (suc i) rule limits lt is = limits_at rs i rule (and_parts (meets_limits r) (list_all meets_limits rs) limits).1 (omega (arith, lt)) is
 
 pub before_of : (rules : List Rule) (log : Path) (i : ℕ) → NoneTo (λ rule. RuleGives rule log) rules i → GivesNoneBefore i rules log
 before_of rules log i none = λ k rule lt at gives. none k rule lt at.1 gives

@@ -3,7 +3,7 @@ use Rattle.std.proofs.Common.{◌≡◌, ℕ, zero, suc, ◌+◌, ◌<◌, ◌==
 use Rattle.std.specs.Prelude.{ℤ, All, Any, Contains, filter}
 use Rattle.std.specs.List.{list_any, AllPairs}
 use Rattle.std.specs.List.Sorted.{IsStrictlyIncreasing}
-use Rattle.std.proofs.lemmas.Bool.{and_from, and_parts, not_from_false, or_left}
+use Rattle.std.proofs.lemmas.Bool.{and_from, and_parts, not_from_false, or_left, not-true}
 use Rattle.std.proofs.lemmas.List.{reverse-reverse}
 use Rattle.std.proofs.lemmas.List.Elements.{All-head, All-tail, All-cons, All-nil, All-map}
 use Rattle.std.proofs.lemmas.List.Folds.{Any-from_list_any, list_any-from_Any}
@@ -14,7 +14,6 @@ use Rattle.lr_family.specs.Stands.{number_in}
 use Rattle.lr_chain.specs.Rotation.{places_of, is_left, is_expired, goes, going}
 use Rattle.lr_chain.specs.Standing.{AreGoing}
 use Rattle.lr_chain.proofs.Has.{has, has_it, it_has, has_reverse}
-use Rattle.lr_chain.proofs.Kept.{not_left}
 
 -- numbers that rise, by the members that have them
 all_of : (P : ℕ → Type 0) (members : List Member) → All P (map (λ m. number_in m.place) members) → All (λ m. P (number_in m.place)) members
@@ -77,7 +76,7 @@ going_are c maxage now members h = record {
 
     stays : (k : ℕ) (m : Member) → (goes c maxage now m ≡ true) × (is_at k m ≡ true) → is_left c k ≡ false
     stays k m e = subst (λ (j : ℕ). is_left c j ≡ false) (eqb-true (number_in m.place) k e.1)
-        (not_left (is_left c (number_in m.place)) (and_parts (not (is_left c (number_in m.place))) (is_left c (suc (number_in m.place)) || is_expired maxage now m) e.0).0)
+        (not-true (is_left c (number_in m.place)) (and_parts (not (is_left c (number_in m.place))) (is_left c (suc (number_in m.place)) || is_expired maxage now m) e.0).0)
 
     no_room : (k : ℕ) (m : Member) → is_at k m ≡ true → is_left c k ≡ false → is_left c (suc k) ≡ true → goes c maxage now m ≡ true
     no_room k m at stays full =

@@ -1,15 +1,12 @@
 -- The places of members that are moved.
-use Rattle.std.proofs.Common.{◌≡◌, ℕ, Bool, true, false, not, List, refl}
+use Rattle.std.proofs.Common.{◌≡◌, ℕ, true, false, not, List}
+use Rattle.std.proofs.lemmas.Bool.{not-true}
 use Rattle.lr_rules.specs.declared.rule.Count.{Count}
 use Rattle.lr_family.proofs.Numbers.{Every, every_as, every_both, every_filter, every_passes}
 use Rattle.lr_chain.specs.Rotation.{is_left, kept}
 
-pub not_left : (b : Bool) → not b ≡ true → b ≡ false
-not_left true e = absurd (cc)
-not_left false e = refl
-
 pub kept_stay : (c : Count) (places : List ℕ) → Every (λ k. is_left c k ≡ false) (kept c places)
-kept_stay c places = every_as (λ k. not (is_left c k) ≡ true) (λ k. is_left c k ≡ false) (kept c places) (λ k e. not_left (is_left c k) e) (every_passes (λ k. not (is_left c k)) places)
+kept_stay c places = every_as (λ k. not (is_left c k) ≡ true) (λ k. is_left c k ≡ false) (kept c places) (λ k e. not-true (is_left c k) e) (every_passes (λ k. not (is_left c k)) places)
 
 -- what holds of each place that the count leaves room for holds of each of these
 pub kept_as : (P : ℕ → Type 0) (c : Count) (places : List ℕ) → Every (λ k. is_left c k ≡ false → P k) places → Every P (kept c places)

@@ -4,6 +4,7 @@ use Rattle.std.specs.List.{AllByRecursion as Each, list_all}
 use Rattle.std.specs.Prelude.{IsAscii}
 use Rattle.std.specs.Str.{is_utf8}
 use Rattle.std.proofs.lemmas.Str.{is_utf8-from_IsUtf8, IsUtf8-from_ascii}
+use Rattle.std.proofs.lemmas.Bool.{and_from}
 use Rattle.lr_rules.specs.declared.path.Path.{Path}
 use Rattle.lr_rules.specs.declared.fault.ConfKind.{ConfKind}
 use Rattle.lr_rules.specs.declared.fault.Fault.{Fault}
@@ -17,7 +18,6 @@ use Rattle.lr_rules.specs.declared.rule.Make.TheVariants as make
 use Rattle.lr_rules.specs.declared.rule.Piece.{Piece}
 use Rattle.lr_rules.specs.declared.rule.Rule.{Rule}
 use Rattle.lr_rules.specs.Limits.{is_log_word, is_criterion, is_count, is_small, is_size, is_extension, is_olddir, is_make, is_address, is_format, or_none, meets_limits}
-use Rattle.lr_rules.proofs.Bools.{also}
 use Rattle.lr_forms.specs.declared.set.Set.{Set}
 use Rattle.lr_forms.specs.declared.set.Set.TheVariants as set
 use Rattle.lr_forms.specs.declared.said.Said.{Said}
@@ -69,7 +69,7 @@ then_true false b h = absurd (cc)
 
 more_ok : (xs ys : List (List ℕ)) → N xs → N ys → N (xs ++ ys)
 more_ok [] ys x y = y
-more_ok (w ∷ xs) ys x y = also (is_log_word w) (list_all is_log_word (xs ++ ys)) (first_true (is_log_word w) (list_all is_log_word xs) x) (more_ok xs ys (then_true (is_log_word w) (list_all is_log_word xs) x) y)
+more_ok (w ∷ xs) ys x y = and_from (is_log_word w) (list_all is_log_word (xs ++ ys)) (first_true (is_log_word w) (list_all is_log_word xs) x) (more_ok xs ys (then_true (is_log_word w) (list_all is_log_word xs) x) y)
 
 -- ---- fields
 
@@ -184,20 +184,20 @@ format_ok true c (Some ps) at serial h = h
 
 rule_ok : (file : Path) (at : ℕ) (words : List (List ℕ)) (vs : List Set) → N words → Each S vs → meets_limits (rule_of file at words (fields_of vs)) ≡ true
 rule_ok file at words vs n ok =
-    also _ _ n
-    (also _ _ (last_given S (λ c. is_criterion c ≡ true) criterion_set (criterion.Size 1048576) refl criterion_given vs ok)
-    (also _ _ (last_given S (λ c. is_count c ≡ true) count_set (count.Keep 0) refl count_given vs ok)
-    (also _ _ (last_given S (λ o. or_none is_small o ≡ true) maxage_set None refl maxage_given vs ok)
-    (also _ _ (last_given S (λ o. or_none is_small o ≡ true) minage_set None refl minage_given vs ok)
-    (also _ _ (last_given S (λ o. or_none is_size o ≡ true) minsize_set None refl minsize_given vs ok)
-    (also _ _ (last_given S (λ o. or_none is_size o ≡ true) maxsize_set None refl maxsize_given vs ok)
-    (also _ _ (last_given S (λ k. is_small k ≡ true) start_set 1 refl start_given vs ok)
-    (also _ _ (last_given S (λ o. or_none is_extension o ≡ true) extension_set None refl extension_given vs ok)
-    (also _ _ (last_given S (λ o. or_none is_extension o ≡ true) addextension_set None refl addextension_given vs ok)
-    (also _ _ (last_given S (λ o. or_none is_olddir o ≡ true) olddir_set None refl olddir_given vs ok)
-    (also _ _ (last_given S (λ m. is_make m ≡ true) createolddir_set make.No refl createolddir_given vs ok)
-    (also _ _ (last_given S (λ m. is_make m ≡ true) create_set make.No refl create_given vs ok)
-    (also _ _ (last_given S (λ o. or_none is_address o ≡ true) mail_set None refl mail_given vs ok)
+    and_from _ _ n
+    (and_from _ _ (last_given S (λ c. is_criterion c ≡ true) criterion_set (criterion.Size 1048576) refl criterion_given vs ok)
+    (and_from _ _ (last_given S (λ c. is_count c ≡ true) count_set (count.Keep 0) refl count_given vs ok)
+    (and_from _ _ (last_given S (λ o. or_none is_small o ≡ true) maxage_set None refl maxage_given vs ok)
+    (and_from _ _ (last_given S (λ o. or_none is_small o ≡ true) minage_set None refl minage_given vs ok)
+    (and_from _ _ (last_given S (λ o. or_none is_size o ≡ true) minsize_set None refl minsize_given vs ok)
+    (and_from _ _ (last_given S (λ o. or_none is_size o ≡ true) maxsize_set None refl maxsize_given vs ok)
+    (and_from _ _ (last_given S (λ k. is_small k ≡ true) start_set 1 refl start_given vs ok)
+    (and_from _ _ (last_given S (λ o. or_none is_extension o ≡ true) extension_set None refl extension_given vs ok)
+    (and_from _ _ (last_given S (λ o. or_none is_extension o ≡ true) addextension_set None refl addextension_given vs ok)
+    (and_from _ _ (last_given S (λ o. or_none is_olddir o ≡ true) olddir_set None refl olddir_given vs ok)
+    (and_from _ _ (last_given S (λ m. is_make m ≡ true) createolddir_set make.No refl createolddir_given vs ok)
+    (and_from _ _ (last_given S (λ m. is_make m ≡ true) create_set make.No refl create_given vs ok)
+    (and_from _ _ (last_given S (λ o. or_none is_address o ≡ true) mail_set None refl mail_given vs ok)
     (format_ok (last_set dated_set false vs) (last_set criterion_set (criterion.Size 1048576) vs) (last_set pieces_set None vs) (last_set back_set back.Now vs) (last_set serial_set false vs)
     (last_given S (λ o. or_none are_format o ≡ true) pieces_set None refl pieces_given vs ok)))))))))))))))
 
@@ -206,7 +206,7 @@ walk = record { line = λ inside i. line_ok (said inside i) (said_fine inside i)
 
 all_true : (rs : List Rule) → Each (λ r. meets_limits r ≡ true) rs → list_all meets_limits rs ≡ true
 all_true [] a = refl
-all_true (r ∷ rs) a = also (meets_limits r) (list_all meets_limits rs) a.0 (all_true rs a.1)
+all_true (r ∷ rs) a = and_from (meets_limits r) (list_all meets_limits rs) a.0 (all_true rs a.1)
 
 pub limits : (lines : List Line) → list_all meets_limits (meaning false [] lines).rules ≡ true
 limits lines = all_true (meaning false [] lines).rules (each_rule walk lines)

@@ -5,10 +5,10 @@ use Rattle.std.specs.List.{list_any}
 use Rattle.std.specs.Cmp.{IsEquivalence}
 use Rattle.std.proofs.lemmas.Map.Views.{list_any-from_Contains, Contains-from_any}
 use Rattle.std.proofs.lemmas.List.Folds.{list_any-append}
+use Rattle.std.proofs.lemmas.Bool.{and_parts, not-true}
 use Rattle.lr_rules.specs.declared.path.Path.{Path}
 use Rattle.lr_rules.specs.Path.{path_fault, is_slash, is_empty, joined, parent_of, last_of}
 use Rattle.lr_rules.proofs.PathLemmas.{parent_joined, last_joined, joined_parts, last_plain}
-use Rattle.lr_rules.proofs.Bools.{both}
 use Rattle.lr_host.specs.declared.thing.Thing.{Thing}
 use Rattle.lr_host.specs.declared.thing.Thing.TheVariants as thing
 use Rattle.lr_host.specs.Fits.{IsPart, AreNamesIn}
@@ -29,10 +29,6 @@ itself p q e = (bytes_tell p q).1 e
 pub or_cases : (a b : Bool) (P : Type 0) → (a || b) ≡ true → (a ≡ true → P) → (b ≡ true → P) → P
 or_cases true b P h f g = f refl
 or_cases false b P h f g = g h
-
-not_true : (b : Bool) → not b ≡ true → b ≡ false
-not_true true h = absurd (cc)
-not_true false h = refl
 
 something : (t : Thing) → t ≢ thing.Nothing → is_nothing t ≡ false
 something thing.Nothing ne = absurd (ne refl)
@@ -59,9 +55,9 @@ record Inside (dir : Path) (n : Pair) : Type 0 where
 
 inside : (dir : Path) (n : Pair) → stands_right_in dir n ≡ true → Inside dir n
 inside dir n h =
-    let a = both (not (is_nothing n.1)) (bytes_eq (parent_of n.0) dir && not (is_empty (last_of n.0))) h in
-    let b = both (bytes_eq (parent_of n.0) dir) (not (is_empty (last_of n.0))) a.1 in
-    record { named = nothing n.1 (not_true _ a.0); parent = same (parent_of n.0) dir b.0; some = not_true _ b.1 }
+    let a = and_parts (not (is_nothing n.1)) (bytes_eq (parent_of n.0) dir && not (is_empty (last_of n.0))) h in
+    let b = and_parts (bytes_eq (parent_of n.0) dir) (not (is_empty (last_of n.0))) a.1 in
+    record { named = nothing n.1 (not-true _ a.0); parent = same (parent_of n.0) dir b.0; some = not-true _ b.1 }
 
 -- what one pair lists
 one_listed : (dir : Path) (name : List ℕ) (n : Pair) (b : Bool) → stands_right_in dir n ≡ b → list_any (bytes_eq name) (cond b (last_of n.0 ∷ []) []) ≡ true → Inside dir n × (name ≡ last_of n.0)

@@ -3,6 +3,7 @@ use Rattle.std.proofs.Common.{◌≡◌, ◌≢◌, ◌⊎◌, inl, inr, ℕ, ze
 use Rattle.std.specs.Prelude.{slice_set}
 use Rattle.std.proofs.lemmas.Bool.Decides.{Decides-eqb}
 use Rattle.std.proofs.lemmas.Slice.Eq.{bytes_eq-Decides}
+use Rattle.std.proofs.lemmas.Bool.{or_parts}
 use Rattle.lr_host.specs.Lists.{AreDistinct, IsNotIn}
 use Rattle.lr_disk.specs.Pairs.{pair_value, keys, has, with_value}
 
@@ -15,10 +16,6 @@ bytes_tell x y = ((bytes_eq-Decides x y).0, (bytes_eq-Decides x y).1)
 
 pub numbers_tell : Tells nat_eq
 numbers_tell x y = ((Decides-eqb x y).0, (Decides-eqb x y).1)
-
-or_false : (a b : Bool) → (a || b) ≡ false → (a ≡ false) × (b ≡ false)
-or_false true b h = absurd (cc)
-or_false false b h = (refl, h)
 
 twice : {V : Type 0} (t : Bool) (v a b : V) → cond t v b ≡ cond t v (cond t a b)
 twice true v a b = refl
@@ -38,7 +35,7 @@ set_is eq tells none (p ∷ ps) zero d x v y lt new hit =
     subst (λ z. cond (eq p.0 y) v (pair_value eq none ps y) ≡ cond (eq z y) v (cond (eq p.0 y) p.1 (pair_value eq none ps y)))
     ((tells p.0 x).0 hit) (twice (eq p.0 y) v p.1 (pair_value eq none ps y))
 set_is eq tells none (p ∷ ps) (suc i) d x v y lt new hit =
-    let o = or_false (eq p.0 x) (has eq (take i ps) x) new in
+    let o = or_parts (eq p.0 x) (has eq (take i ps) x) new in
     let later : pair_value eq none (slice_set ps i ((get_or ps i d).0, v)) y ≡ cond (eq x y) v (pair_value eq none ps y) =
     set_is eq tells none ps i d x v y (omega arith) o.1 hit in
     ap (λ r. cond (eq p.0 y) p.1 r) later
@@ -104,7 +101,7 @@ not_in_last (p ∷ ps) q x h ne = (h.0, not_in_last ps q x h.1 ne)
 pub once_last : {K V : Type 0} (eq : K → K → Bool) → Tells eq → (ps : List (K × V)) (q : K × V) → has eq ps q.0 ≡ false → AreDistinct (keys ps) → AreDistinct (keys (ps ++ q ∷ []))
 once_last eq tells [] q new once = (tt, tt)
 once_last eq tells (p ∷ ps) q new once =
-    let o = or_false (eq p.0 q.0) (has eq ps q.0) new in
+    let o = or_parts (eq p.0 q.0) (has eq ps q.0) new in
     (not_in_last ps q p.0 once.0 (λ same. let t : eq p.0 q.0 ≡ true = (tells p.0 q.0).1 same in let f = o.0 in cc), once_last eq tells ps q o.1 once.1)
 
 -- a key that some pair has

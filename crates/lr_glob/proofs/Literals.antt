@@ -3,7 +3,7 @@ use Rattle.std.proofs.Common.{◌≡◌, inl, inr, ℕ, suc, ◌<◌, ◌≤◌,
 use Rattle.std.specs.Prelude.{chars, IsUtf8}
 use Rattle.std.specs.List.{list_any, slice_split, onto_first}
 use Rattle.std.proofs.Math.Utf8.{encode, encodes, scalar, scalars}
-use Rattle.std.proofs.lemmas.Bool.{or_parts, or_from}
+use Rattle.std.proofs.lemmas.Bool.{or_parts, or_from, and_parts, and_from}
 use Rattle.std.proofs.lemmas.Bool.Decides.{Decides-eqb, Decides-ltb, nat_tests}
 use Rattle.std.proofs.lemmas.List.{append-nil}
 use Rattle.std.proofs.lemmas.List.Folds.{list_any-append}
@@ -161,30 +161,20 @@ matches_itself f (c ∷ d ∷ cs) h s = by (c == 92) refl p.1 (λ g. matches_its
         subst (λ x. Matches f (c ∷ d ∷ cs) (literal_path (x ∷ d ∷ cs))) (sym is) (subst (Matches f (c ∷ d ∷ cs)) (sym (drops d cs next.0)) (Matches.escaped is (two (sym (ap (λ t. has_sign t (d ∷ cs)) e) ∙ g))))
     by false e g one two = subst (Matches f (c ∷ d ∷ cs)) (sym (stay c (d ∷ cs) e)) (Matches.itself (is_plain c (d ∷ cs) p.0 (no_last e)) (one (sym (ap (λ t. has_sign t (d ∷ cs)) e) ∙ g)))
 
-both_true : (a b : Bool) → (a && b) ≡ true → (a ≡ true) × (b ≡ true)
-both_true true true h = (refl, refl)
-both_true true false h = absurd (cc)
-both_true false b h = absurd (cc)
-
-true_both : (a b : Bool) → a ≡ true → b ≡ true → (a && b) ≡ true
-true_both true true h g = refl
-true_both true false h g = absurd (cc)
-true_both false b h g = absurd (cc)
-
 pub literal_scalars : (cs : List ℕ) → scalars cs ≡ true → scalars (literal_path cs) ≡ true
 literal_scalars [] h = refl
 literal_scalars (c ∷ []) h = h
 literal_scalars (c ∷ d ∷ cs) h = by (c == 92 && not (is_slash d)) (literal_scalars (d ∷ cs) p.1) (literal_scalars cs q.1)
   where
     p : (scalar c ≡ true) × (scalars (d ∷ cs) ≡ true)
-    p = both_true (scalar c) (scalars (d ∷ cs)) h
+    p = and_parts (scalar c) (scalars (d ∷ cs)) h
 
     q : (scalar d ≡ true) × (scalars cs ≡ true)
-    q = both_true (scalar d) (scalars cs) p.1
+    q = and_parts (scalar d) (scalars cs) p.1
 
     by : (b : Bool) → scalars (literal_path (d ∷ cs)) ≡ true → scalars (literal_path cs) ≡ true → scalars (cond b (d ∷ literal_path cs) (c ∷ literal_path (d ∷ cs))) ≡ true
-    by true x y = true_both (scalar d) (scalars (literal_path cs)) q.0 y
-    by false x y = true_both (scalar c) (scalars (literal_path (d ∷ cs))) p.0 x
+    by true x y = and_from (scalar d) (scalars (literal_path cs)) q.0 y
+    by false x y = and_from (scalar c) (scalars (literal_path (d ∷ cs))) p.0 x
 
 -- a part of a text without signs matches the name without its backslashes
 pub literal_matches : (part : List ℕ) → IsUtf8 part → is_wildcard part ≡ false → list_any is_slash part ≡ false → Matches true (chars part) (chars (literal_path part))
@@ -272,7 +262,7 @@ split_utf8 [] h part (inr i) = absurd i
 split_utf8 (c ∷ cs) h part i = by (is_slash c) refl (λ q j. split_utf8 cs p.1 q j)
   where
     p : (scalar c ≡ true) × (scalars cs ≡ true)
-    p = both_true (scalar c) (scalars cs) h
+    p = and_parts (scalar c) (scalars cs) h
 
     slash_low : 47 < 128
     slash_low = omega arith
@@ -288,7 +278,7 @@ split_utf8 (c ∷ cs) h part i = by (is_slash c) refl (λ q j. split_utf8 cs p.1
     longer _ e f (some_parts q qs) plain = go (subst (IsIn part) (split_onto (encode c) (encodes cs) q qs (spelt_plain c (encode c) (spelt c) plain) e) i)
       where
         go : IsIn part ((encode c ++ q) ∷ qs) → IsUtf8 part
-        go (inl is) = let u = f q (inl refl) in subst IsUtf8 is (c ∷ u.0, (true_both (scalar c) (scalars u.0) p.0 u.1.0, ap (λ ys. encode c ++ ys) u.1.1))
+        go (inl is) = let u = f q (inl refl) in subst IsUtf8 is (c ∷ u.0, (and_from (scalar c) (scalars u.0) p.0 u.1.0, ap (λ ys. encode c ++ ys) u.1.1))
         go (inr j) = f part (inr j)
 
     by : (t : Bool) → is_slash c ≡ t → ((q : List ℕ) → IsIn q (slice_split is_slash (encodes cs)) → IsUtf8 q) → IsUtf8 part

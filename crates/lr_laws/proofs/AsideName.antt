@@ -1,9 +1,9 @@
 -- The path where a log waits while it is set aside is no member's: its last part has the digits of the log's name, and that of a member has more.
-use Rattle.std.proofs.Common.{◌≡◌, ◌⊎◌, inl, inr, ⊎_elim, ℕ, suc, ◌+◌, ◌-◌, ◌<◌, ◌≤◌, ◌^◌, Bool, true, false, not, cond, ◌&&◌, ◌||◌, bytes_eq, refl, sym, ◌∙◌, ap, subst, arith, append_assoc, List, [], ◌∷◌, ◌++◌, length, take, drop, Option, Some, None, ℤ}
+use Rattle.std.proofs.Common.{◌≡◌, ◌⊎◌, inl, inr, ⊎_elim, ℕ, suc, ◌+◌, ◌-◌, ◌<◌, ◌≤◌, ◌^◌, Bool, true, false, not, cond, ◌&&◌, bytes_eq, refl, sym, ◌∙◌, ap, subst, arith, append_assoc, List, [], ◌∷◌, ◌++◌, length, take, drop, Option, Some, None, ℤ}
 use Rattle.std.specs.Prelude.{nat_le, ◌==◌, decimal, codes}
 use Rattle.std.specs.List.{list_any, list_all}
 use Rattle.std.specs.Str.{is_utf8}
-use Rattle.std.proofs.lemmas.Bool.{and_parts, or_parts, or_from, not-true, le-leb}
+use Rattle.std.proofs.lemmas.Bool.{and_parts, or_parts, or_from, not-true, le-leb, or_cases}
 use Rattle.std.proofs.lemmas.List.{take-append-drop}
 use Rattle.std.proofs.lemmas.List.Elements.{All-head, All-tail}
 use Rattle.std.proofs.lemmas.Slice.Eq.{bytes_eq-Decides}
@@ -87,14 +87,10 @@ first_field ps h = field_there 0 ps (and_parts (times 0 ps == 1) _ h).0
 alone_field : (ps : List Piece) → is_epoch_alone ps ≡ true → has_field ps ≡ true
 alone_field ps h = field_there 6 ps (and_parts (times 6 ps == 1) _ h).0
 
-either : (a b : Bool) → (a || b) ≡ true → (a ≡ true) ⊎ (b ≡ true)
-either true b e = inl refl
-either false b e = inr e
-
 format_field : (f : Format) → is_format f ≡ true → has_field f.pieces ≡ true
 format_field f good =
     let rest = (and_parts (nat_le (length (written f.pieces)) 64) _ (and_parts (is_utf8 (written f.pieces)) _ (and_parts (list_all is_plain_piece f.pieces) _ good).1).1).1 in
-    ⊎_elim (first_field f.pieces) (alone_field f.pieces) (either (are_first f.pieces) (is_epoch_alone f.pieces) rest)
+    ⊎_elim (first_field f.pieces) (alone_field f.pieces) (or_cases (are_first f.pieces) (is_epoch_alone f.pieces) rest)
 
 middle_digits : (f : Format) (w : List ℕ) → is_format f ≡ true → IsMiddleShape (Some f) w → 0 < digits w
 middle_digits f w good (inl h) = stamp_some f.pieces w (format_field f good) h

@@ -1,5 +1,5 @@
 -- Each log and dated naming make a set: the stamp and the serial number of a path are read back from it.
-use Rattle.std.proofs.Common.{◌≡◌, ◌⊎◌, inl, inr, ℕ, zero, suc, ◌+◌, ◌-◌, ◌*◌, ◌/◌, ◌%◌, ◌<◌, Bool, true, false, cond, ◌&&◌, ◌||◌, bytes_eq, refl, sym, ◌∙◌, ap, subst, arith, Option, Some, None, List, [], ◌∷◌, ◌++◌, length, take, drop, get_or, ℤ, length-append, append-nil}
+use Rattle.std.proofs.Common.{◌≡◌, ◌⊎◌, inl, inr, ℕ, zero, suc, ◌+◌, ◌-◌, ◌*◌, ◌/◌, ◌%◌, ◌<◌, Bool, true, false, cond, ◌&&◌, bytes_eq, refl, sym, ◌∙◌, ap, subst, arith, Option, Some, None, List, [], ◌∷◌, ◌++◌, length, take, drop, get_or, ℤ, length-append, append-nil}
 use Rattle.std.specs.Prelude.{decimal, nat_lt, ◌==◌}
 use Rattle.std.specs.List.{list_any}
 use Rattle.std.specs.Str.Parse.{digits_value}
@@ -8,6 +8,8 @@ use Rattle.std.proofs.lemmas.Fmt.{decimal_is_IsNumeral}
 use Rattle.std.proofs.lemmas.List.{append_assoc}
 use Rattle.std.proofs.Math.Seq.{drop-append_seam, take-append_seam}
 use Rattle.std.proofs.lemmas.Slice.Eq.{bytes_eq-Decides}
+use Rattle.std.proofs.lemmas.Bool.{and_parts, and_from, or_left, or_parts}
+use Rattle.std.proofs.lemmas.Option.{same_Some}
 use Rattle.lr_rules.specs.declared.path.Path.{Path}
 use Rattle.lr_rules.specs.declared.stamp_parts.StampParts.{StampParts}
 use Rattle.lr_rules.specs.declared.rule.Field.{Field}
@@ -99,16 +101,13 @@ known_by field.Hour ps q w l e = tt
 known_by field.Minute ps q w l e = tt
 known_by field.Second ps q w l e = tt
 
-here : (a b : Bool) → a ≡ true → (a || b) ≡ true
-here a b p = ap (λ c. c || b) p
-
 guess_is : (ps : List Piece) (before q : StampParts) (w : List ℕ) → FieldsDiffer ps → IsStampReading ps before q w → guess ps w before ≡ q
 guess_is [] before q w a r = sym (parts_same q before (λ f. r.rest f refl))
 guess_is (piece.Byte b ∷ ps) before q w a r = guess_is ps before q (drop 1 w) a (record { text = ap (drop 1) r.text; small = r.small; rest = r.rest })
 guess_is (piece.Field f ∷ ps) before q w a r =
     let v : ℕ = part q f in
     let k : ℕ = length w - length ps in
-    let low : part q f < bound f = r.small f (here (same_field f f) (is_in f ps) (itself f)) in
+    let low : part q f < bound f = r.small f (or_left (same_field f f) (is_in f ps) (itself f)) in
     let left : HasLeft f (length ps) (stamp_text q ps) = left_text f ps q a in
     let known : IsKnown f (length w - length ps) (length (field_text f (part q f))) = known_by f ps q w left r.text in
     let value : value_of f (length w - length ps) w ≡ part q f = ap (value_of f (length w - length ps)) r.text ∙ value_read f (part q f) (length w - length ps) (stamp_text q ps) low known in
@@ -117,16 +116,12 @@ guess_is (piece.Field f ∷ ps) before q w a r =
     ∙ (ap (λ (n : ℕ). guess ps (stamp_text q ps) (with_part before f n)) value
     ∙ guess_is ps (with_part before f (part q f)) q (stamp_text q ps) (apart_rest f ps a) (field_from before q f (part q f) ps w (stamp_text q ps) a low r.text left r))
 
-either_out : (a b : Bool) → (a || b) ≡ false → (a ≡ false) × (b ≡ false)
-either_out true b e = absurd (cc)
-either_out false b e = (refl, e)
-
 -- what lacks stays as it was
 guess_rest : (ps : List Piece) (w : List ℕ) (p : StampParts) (g : Field) → is_in g ps ≡ false → part (guess ps w p) g ≡ part p g
 guess_rest [] w p g out = refl
 guess_rest (piece.Byte b ∷ ps) w p g out = guess_rest ps (drop 1 w) p g out
 guess_rest (piece.Field f ∷ ps) w p g out =
-    let n = either_out (same_field g f) (is_in g ps) out in
+    let n = or_parts (same_field g f) (is_in g ps) out in
     guess_rest ps (drop (width f (length w - length ps)) w) (with_part p f (value_of f (length w - length ps) w)) g n.1 ∙ with_other p f (value_of f (length w - length ps) w) g n.0
 
 -- ---- what stands behind the last dot
@@ -212,22 +207,12 @@ middle_found n w x e =
     ∙ (ap (λ (y : List ℕ). take (length w) (drop (length (front_of n)) y)) is
     ∙ (ap (take (length w)) (drop-append_seam (front_of n) (w ++ n.ext)) ∙ take-append_seam w n.ext))
 
-both : (a b : Bool) → (a && b) ≡ true → (a ≡ true) × (b ≡ true)
-both true b e = (refl, e)
-both false b e = absurd (cc)
-
-also : (a b : Bool) → a ≡ true → b ≡ true → (a && b) ≡ true
-also a b p q = cc
-
-some : {A : Type 0} (a b : A) → Some a ≡ Some b → a ≡ b
-some a b e = cc
-
 -- ---- a path with a key is a member
 
 right_member : (n : Naming) (f : Format) (x : Path) (p : StampParts) (k : ℕ) → ((g : Field) → is_in g f.pieces ≡ false → part p g ≡ part least g) → n.dated ≡ Some f → IsSerial f k → is_right n f x p k ≡ true → IsDatedAt n (seconds_by f.pieces p) k x
 right_member n f x p k lacks d s e =
-    let a = both (is_moment p) (nat_lt p.epoch 1000000000000 && bytes_eq x (written n f p k)) e in
-    let b = both (nat_lt p.epoch 1000000000000) (bytes_eq x (written n f p k)) a.1 in
+    let a = and_parts (is_moment p) (nat_lt p.epoch 1000000000000 && bytes_eq x (written n f p k)) e in
+    let b = and_parts (nat_lt p.epoch 1000000000000) (bytes_eq x (written n f p k)) a.1 in
     let m = moment_told p a.0 in
     record {
       format = f;
@@ -256,19 +241,19 @@ reads n f x k d is = first (is_right n f x (plain_parts n f x) 0) refl is
   where
     second : (b : Bool) → (is_counted f (serial_in n x) && is_right n f x (serial_parts n f x) (serial_in n x)) ≡ b → key_if b (stamp_key (seconds_by f.pieces (serial_parts n f x)) (serial_in n x)) None ≡ Some k → Keyed n k x
     second true e q =
-        let a = both (is_counted f (serial_in n x)) (is_right n f x (serial_parts n f x) (serial_in n x)) e in
-        let c = both f.serial (nat_lt 0 (serial_in n x) && nat_lt (serial_in n x) 4294967296) a.0 in
-        let h = both (nat_lt 0 (serial_in n x)) (nat_lt (serial_in n x) 4294967296) c.1 in
+        let a = and_parts (is_counted f (serial_in n x)) (is_right n f x (serial_parts n f x) (serial_in n x)) e in
+        let c = and_parts f.serial (nat_lt 0 (serial_in n x) && nat_lt (serial_in n x) 4294967296) a.0 in
+        let h = and_parts (nat_lt 0 (serial_in n x)) (nat_lt (serial_in n x) 4294967296) c.1 in
         let below : serial_in n x < 4294967296 = (Decides-ltb (serial_in n x) 4294967296).0 h.1 in (
           seconds_by f.pieces (serial_parts n f x),
           serial_in n x,
-          sym (some (stamp_key (seconds_by f.pieces (serial_parts n f x)) (serial_in n x)) k q),
+          sym (same_Some (stamp_key (seconds_by f.pieces (serial_parts n f x)) (serial_in n x)) k q),
           right_member n f x (serial_parts n f x) (serial_in n x) (λ g i. guess_rest f.pieces (front_bytes (middle_in n x)) least g i) d (inr (c.0, omega (arith, below))) a.1,
         )
     second false e q = absurd (cc)
 
     first : (b : Bool) → is_right n f x (plain_parts n f x) 0 ≡ b → key_if b (stamp_key (seconds_by f.pieces (plain_parts n f x)) 0) (serial_key n f x (serial_parts n f x) (serial_in n x)) ≡ Some k → Keyed n k x
-    first true e q = (seconds_by f.pieces (plain_parts n f x), 0, sym (some (stamp_key (seconds_by f.pieces (plain_parts n f x)) 0) k q), right_member n f x (plain_parts n f x) 0 (λ g i. guess_rest f.pieces (middle_in n x) least g i) d (inl refl) e)
+    first true e q = (seconds_by f.pieces (plain_parts n f x), 0, sym (same_Some (stamp_key (seconds_by f.pieces (plain_parts n f x)) 0) k q), right_member n f x (plain_parts n f x) 0 (λ g i. guess_rest f.pieces (middle_in n x) least g i) d (inl refl) e)
     first false e q = second (is_counted f (serial_in n x) && is_right n f x (serial_parts n f x) (serial_in n x)) refl q
 
 -- ---- a member has its key
@@ -281,8 +266,8 @@ epoch_small ps q w r = go (is_in field.Epoch ps) refl
     go false e = let z : q.epoch ≡ 0 = r.rest field.Epoch e in omega arith
 
 right_by : (n : Naming) (f : Format) (x : Path) (t : ℤ) (w : List ℕ) (k : ℕ) (s : IsStamp f.pieces t w) → x ≡ joined n.dir (n.base ++ (w ++ serial_text k) ++ n.ext) → is_right n f x s.parts k ≡ true
-right_by n f x t w k s e = also (is_moment s.parts) (nat_lt s.parts.epoch 1000000000000 && bytes_eq x (written n f s.parts k)) (moment_tells s.parts s.moment)
-    (also (nat_lt s.parts.epoch 1000000000000) (bytes_eq x (written n f s.parts k)) ((Decides-ltb s.parts.epoch 1000000000000).1 (epoch_small f.pieces s.parts w s.reading))
+right_by n f x t w k s e = and_from (is_moment s.parts) (nat_lt s.parts.epoch 1000000000000 && bytes_eq x (written n f s.parts k)) (moment_tells s.parts s.moment)
+    (and_from (nat_lt s.parts.epoch 1000000000000) (bytes_eq x (written n f s.parts k)) ((Decides-ltb s.parts.epoch 1000000000000).1 (epoch_small f.pieces s.parts w s.reading))
     ((bytes_eq-Decides x (written n f s.parts k)).1 (e ∙ ap (λ (v : List ℕ). joined n.dir (n.base ++ (v ++ serial_text k) ++ n.ext)) s.reading.text)))
 
 plain_key : (n : Naming) (f : Format) (x : Path) (t : ℤ) (w : List ℕ) → is_format f ≡ true → IsStamp f.pieces t w → x ≡ joined n.dir (n.base ++ w ++ n.ext) → key_of n f x ≡ Some (stamp_key t 0)
@@ -317,7 +302,7 @@ counted_key n f x t k w e d serial c is = ap (λ (b : Bool). key_if b (stamp_key
     no_plain : (b : Bool) → is_right n f x (plain_parts n f x) 0 ≡ b → is_right n f x (plain_parts n f x) 0 ≡ false
     no_plain true q =
         let m = right_member n f x (plain_parts n f x) 0 (λ g i. guess_rest f.pieces (middle_in n x) least g i) d (inl refl) q in
-        let is_one : IsNumberedStamp f (seconds_by f.pieces (plain_parts n f x)) 0 m.middle = subst (λ (g : Format). IsNumberedStamp g (seconds_by f.pieces (plain_parts n f x)) 0 m.middle) (some m.format f (sym m.dated ∙ d)) m.is in
+        let is_one : IsNumberedStamp f (seconds_by f.pieces (plain_parts n f x)) 0 m.middle = subst (λ (g : Format). IsNumberedStamp g (seconds_by f.pieces (plain_parts n f x)) 0 m.middle) (same_Some m.format f (sym m.dated ∙ d)) m.is in
         let same : m.middle ≡ w = sym (middle_found n m.middle x m.named) ∙ middle in
         absurd (not_both f.pieces (seconds_by f.pieces (plain_parts n f x)) t k w (format_apart f e) (subst (IsStamp f.pieces (seconds_by f.pieces (plain_parts n f x))) same (without f (seconds_by f.pieces (plain_parts n f x)) m.middle is_one)) c)
     no_plain false q = q
@@ -329,7 +314,7 @@ counted_key n f x t k w e d serial c is = ap (λ (b : Bool). key_if b (stamp_key
     number = ap (λ (v : List ℕ). digits_value 10 (end_bytes v)) middle ∙ (ap (digits_value 10) (end_is c.stamp (decimal k) w no_dot c.text) ∙ (decimal_is_IsNumeral k (omega (arith, c.within))).1)
 
     counted : is_counted f k ≡ true
-    counted = also f.serial (nat_lt 0 k && nat_lt k 4294967296) serial (also (nat_lt 0 k) (nat_lt k 4294967296) ((Decides-ltb 0 k).1 c.above) ((Decides-ltb k 4294967296).1 (omega (arith, c.within))))
+    counted = and_from f.serial (nat_lt 0 k && nat_lt k 4294967296) serial (and_from (nat_lt 0 k) (nat_lt k 4294967296) ((Decides-ltb 0 k).1 c.above) ((Decides-ltb k 4294967296).1 (omega (arith, c.within))))
 
     text : w ≡ c.stamp ++ serial_text k
     text = go k c.above c.text
@@ -339,13 +324,13 @@ counted_key n f x t k w e d serial c is = ap (λ (b : Bool). key_if b (stamp_key
         go (suc k) a b = b
 
     right : (is_counted f k && is_right n f x c.is.parts k) ≡ true
-    right = also (is_counted f k) (is_right n f x c.is.parts k) counted (right_by n f x t c.stamp k c.is (is ∙ ap (λ (v : List ℕ). joined n.dir (n.base ++ v ++ n.ext)) text))
+    right = and_from (is_counted f k) (is_right n f x c.is.parts k) counted (right_by n f x t c.stamp k c.is (is ∙ ap (λ (v : List ℕ). joined n.dir (n.base ++ v ++ n.ext)) text))
 
 writes : (n : Naming) (f : Format) (x : Path) (k : ℤ) → is_format f ≡ true → n.dated ≡ Some f → Keyed n k x → key_of n f x ≡ Some k
 writes n f x k e d (t, serial, same, m) = go (numbered_or f t serial m.middle is) ∙ ap Some (sym same)
   where
     is : IsNumberedStamp f t serial m.middle
-    is = subst (λ (g : Format). IsNumberedStamp g t serial m.middle) (some m.format f (sym m.dated ∙ d)) m.is
+    is = subst (λ (g : Format). IsNumberedStamp g t serial m.middle) (same_Some m.format f (sym m.dated ∙ d)) m.is
 
     go : ((serial ≡ 0) × IsStamp f.pieces t m.middle) ⊎ ((f.serial ≡ true) × IsCounted f.pieces t serial m.middle) → key_of n f x ≡ Some (stamp_key t serial)
     go (inl p) = plain_key n f x t m.middle e p.1 m.named ∙ ap (λ (j : ℕ). Some (stamp_key t j)) (sym p.0)

@@ -1,5 +1,6 @@
 -- Safe goes on over the steps of a dated rotation.
 use Rattle.std.proofs.Common.{◌≡◌, ◌⊎◌, inl, inr, Bool, true, false, ◌||◌, refl, sym, ◌∙◌, ap, subst, Option, Some, None, is_some, List, [], ◌∷◌, ℤ, pos}
+use Rattle.std.proofs.lemmas.Bool.{or_right}
 use Rattle.lr_rules.specs.declared.path.Path.{Path}
 use Rattle.lr_rules.specs.declared.rule.Rule.{Rule}
 use Rattle.lr_rules.specs.declared.rule.Count.TheVariants.{Keep}
@@ -31,7 +32,7 @@ use Rattle.lr_laws.proofs.Going.{safe_on}
 use Rattle.lr_laws.proofs.LogPath.{moved_aside, NoneToLog, log_walk}
 use Rattle.lr_laws.proofs.Moves.{some_rule, may_unlink_old, may_unlink_aside, may_put_aside, elsewhere, keyless}
 use Rattle.lr_laws.proofs.Reach.{aside_apart, unplaced_no_key, out_log}
-use Rattle.lr_laws.proofs.Sound.{IsSound, sound, or_right}
+use Rattle.lr_laws.proofs.Sound.{IsSound, sound}
 use Rattle.lr_laws.proofs.Stamps.{room_for_one, may_turn_dated, may_unlink_dated}
 use Rattle.lr_laws.proofs.Walk.{IsSameRun, same_run_on, by_age_on, changed_alike}
 use Rattle.lr_laws.proofs.Writing.{attached_before, wrote_member, member_apart, may_follow, not_starts, not_to_log, keeps_attached, no_key}

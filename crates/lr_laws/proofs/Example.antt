@@ -5,6 +5,7 @@ use Rattle.std.proofs.lemmas.List.Elements.{All-cons}
 use Rattle.std.proofs.lemmas.Slice.Eq.{bytes_eq-Decides}
 use Rattle.std.proofs.lemmas.Fmt.{decimal_digit}
 use Rattle.std.specs.Fmt.{decimal}
+use Rattle.std.proofs.lemmas.Bool.{and_parts}
 use Rattle.lr_rules.specs.declared.path.Path.{Path}
 use Rattle.lr_rules.specs.declared.civil.Moment.{Moment}
 use Rattle.lr_rules.specs.declared.rule.Count.TheVariants.{Keep}
@@ -59,20 +60,16 @@ abbrev are_new : List Path → Bool
 are_new [] = true
 are_new (y ∷ ys) = is_new y ys && are_new ys
 
-both : (a b : Bool) → (a && b) ≡ true → (a ≡ true) × (b ≡ true)
-both true b h = (refl, h)
-both false b h = absurd (cc)
-
 not_in : (x : Path) (ys : List Path) → is_new x ys ≡ true → IsNotIn x ys
 not_in x [] h = tt
-not_in x (y ∷ ys) h = let s = both (not (bytes_eq x y)) (is_new x ys) h in ((λ same. let t : bytes_eq x y ≡ true = (bytes_eq-Decides x y).1 same in clash (bytes_eq x y) s.0 t), not_in x ys s.1)
+not_in x (y ∷ ys) h = let s = and_parts (not (bytes_eq x y)) (is_new x ys) h in ((λ same. let t : bytes_eq x y ≡ true = (bytes_eq-Decides x y).1 same in clash (bytes_eq x y) s.0 t), not_in x ys s.1)
   where
     clash : (b : Bool) → not b ≡ true → b ≡ true → ⊥
     clash b p q = cc
 
 distinct : (ys : List Path) → are_new ys ≡ true → AreDistinct ys
 distinct [] h = tt
-distinct (y ∷ ys) h = let s = both (is_new y ys) (are_new ys) h in (not_in y ys s.0, distinct ys s.1)
+distinct (y ∷ ys) h = let s = and_parts (is_new y ys) (are_new ys) h in (not_in y ys s.0, distinct ys s.1)
 
 pub found_valid : IsValid found
 found_valid = record {

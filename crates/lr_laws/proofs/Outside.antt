@@ -2,6 +2,7 @@
 use Rattle.std.proofs.Common.{◌≡◌, inl, ⊎_elim, ℕ, ◌+◌, ◌≤◌, Bool, true, false, ◌&&◌, bytes_eq, refl, sym, subst, arith, Option, Some, None, is_some, ◌∷◌, ◌++◌, ℤ, pos}
 use Rattle.std.specs.Prelude.{decimal}
 use Rattle.std.proofs.lemmas.Slice.Eq.{bytes_eq-Decides}
+use Rattle.std.proofs.lemmas.Bool.{or_cases}
 use Rattle.lr_rules.specs.declared.path.Path.{Path}
 use Rattle.lr_rules.specs.declared.rule.Naming.{Naming}
 use Rattle.lr_rules.specs.declared.rule.Format.{Format}
@@ -13,7 +14,6 @@ use Rattle.lr_host.specs.declared.entry.Entry.{Entry}
 use Rattle.lr_host.specs.declared.entry.Entry.TheVariants as entry
 use Rattle.lr_host.specs.Sets.{LogSet, Order, Numbered, Dated, order, order_of, IsKeyBy, is_unplaced, in_reach}
 use Rattle.lr_laws.specs.Follow.{IsElsewhere, MeetsNone}
-use Rattle.lr_laws.proofs.Sound.{or_cases}
 
 numbered_none : (d : Option Format) → order_of d ≡ Numbered → d ≡ None
 numbered_none None q = refl

@@ -1,7 +1,7 @@
 -- The paths that a set reaches: its log, that where it waits while it is set aside, and its members.
 use Rattle.std.proofs.Common.{◌≡◌, inl, inr, ◌+◌, Bool, true, false, ◌&&◌, bytes_eq, sym, ◌∙◌, ap, arith, length-append, ◌++◌, length, Option, Some, None, is_some, ℤ}
 use Rattle.std.specs.Prelude.{codes}
-use Rattle.std.proofs.lemmas.Bool.{or_left, or_right, or_parts, or_from}
+use Rattle.std.proofs.lemmas.Bool.{or_left, or_right, or_parts, or_from, and_from}
 use Rattle.std.proofs.lemmas.Slice.Eq.{bytes_eq-Decides}
 use Rattle.lr_rules.specs.declared.path.Path.{Path}
 use Rattle.lr_rules.specs.Names.{aside_path}
@@ -9,10 +9,6 @@ use Rattle.lr_host.specs.Sets.{LogSet, in_set, IsAsideOf, IsUnplaced, is_unplace
 
 not_both : (b : Bool) → b ≡ true → b ≡ false → ⊥
 not_both b p q = cc
-
-both_true : (a b : Bool) → a ≡ true → b ≡ true → (a && b) ≡ true
-both_true true b p q = q
-both_true false b p q = p
 
 is_keyed : (o : Option ℤ) (k : ℤ) → o ≡ Some k → is_some o ≡ true
 is_keyed o k is = ap is_some is
@@ -37,7 +33,7 @@ unplaced_no_key s x k u is = no_key (s.key x) k is (unplaced_keyless s x u)
 
 pub unplaced_true : (s : LogSet) (x : Path) → IsUnplaced s x → is_unplaced s x ≡ true
 unplaced_true s x (inl at_log) = or_left (bytes_eq s.log x) (s.naming.aside && bytes_eq (aside_path s.log) x) ((bytes_eq-Decides s.log x).1 (sym at_log))
-unplaced_true s x (inr a) = or_right (bytes_eq s.log x) (s.naming.aside && bytes_eq (aside_path s.log) x) (both_true s.naming.aside (bytes_eq (aside_path s.log) x) a.asked ((bytes_eq-Decides (aside_path s.log) x).1 (sym a.path)))
+unplaced_true s x (inr a) = or_right (bytes_eq s.log x) (s.naming.aside && bytes_eq (aside_path s.log) x) (and_from s.naming.aside (bytes_eq (aside_path s.log) x) a.asked ((bytes_eq-Decides (aside_path s.log) x).1 (sym a.path)))
 
 pub unplaced_reach : (s : LogSet) (x : Path) → IsUnplaced s x → in_reach s x ≡ true
 unplaced_reach s x u = or_left (is_unplaced s x) (is_some (s.key x)) (unplaced_true s x u)

@@ -1,5 +1,6 @@
 -- How a file stands, over names and limits; entries that change no name.
-use Rattle.std.proofs.Common.{◌≡◌, ◌⊎◌, inl, inr, ⊎_elim, ℕ, ◌≤◌, List, [], ◌∷◌, length, Bool, true, false, refl, sym, ◌∙◌, ap, subst, arith, Option, Some, None, ℤ, pos}
+use Rattle.std.proofs.Common.{◌≡◌, ◌⊎◌, inl, inr, ⊎_elim, ℕ, ◌≤◌, List, [], ◌∷◌, length, true, sym, ◌∙◌, ap, subst, arith, Option, Some, None, ℤ, pos}
+use Rattle.std.proofs.lemmas.Bool.{or_right, or_cases, false_from_ne_true}
 use Rattle.lr_rules.specs.declared.path.Path.{Path}
 use Rattle.lr_host.specs.declared.entry.Entry.{Entry}
 use Rattle.lr_host.specs.World.{Names, names, Past, Opens, ◌▸◌, world, is_file, opening_names}
@@ -8,7 +9,7 @@ use Rattle.lr_laws.specs.Follow.{KeepsPlaces}
 use Rattle.lr_host.specs.Later.{stood, IsGeneration, later, leaves}
 use Rattle.lr_host.specs.Kept.{IsWhole, Stands, IsKept}
 use Rattle.lr_host.specs.Released.{IsUnnamed, IsReleased}
-use Rattle.lr_laws.proofs.Sound.{or_cases, or_right, is_file_true, true_is_file}
+use Rattle.lr_laws.proofs.Sound.{is_file_true, true_is_file}
 use Rattle.lr_laws.proofs.Counting.{later_grows, IsWritten, whole_on}
 use Rattle.lr_host.specs.declared.thing.Thing.TheVariants as thing
 
@@ -62,10 +63,6 @@ pub stood_now : (s : LogSet) (p : Past) (g : ℕ) → names (world p) s.log ≡ 
 stood_now s (Opens o) g is = true_is_file (opening_names o s.log) g is
 stood_now s (p ▸ e) g is = or_right (stood s p g) (is_file (names (world (p ▸ e)) s.log) g) (true_is_file (names (world (p ▸ e)) s.log) g is)
 
-pub not_true : (b : Bool) → (b ≡ true → ⊥) → b ≡ false
-not_true true m = absurd (m refl)
-not_true false m = refl
-
 -- a file stands under other names that name the same
 stands_alike : (s : LogSet) (n n' : Names) (l g : ℕ) → ((x : Path) → n' x ≡ n x) → Stands s n l g → Stands s n' l g
 stands_alike s n n' l g same st = record {
@@ -98,7 +95,7 @@ kept_same s p e same nl nw k g gen' = go (old_one gen')
     old_one (inl there) = inl (⊎_elim (λ was_there. was_there) stood_p (or_cases (stood s p g) (is_file (names (world (p ▸ e)) s.log) g) there))
 
     grown : later s p g ≤ later s (p ▸ e) g
-    grown = later_grows s p e g (not_true (leaves s (world p) e g) (nl g)) stood_p
+    grown = later_grows s p e g (false_from_ne_true (leaves s (world p) e g) (nl g)) stood_p
 
     go : IsGeneration s p g → IsReleased s (p ▸ e) g ⊎ (Stands s (names (world (p ▸ e))) (later s (p ▸ e) g) g × IsWhole (p ▸ e) g)
     go gen = by (k g gen)

@@ -4,6 +4,7 @@ use Rattle.std.specs.Prelude.{int_le}
 use Rattle.std.specs.List.{prefix_len}
 use Rattle.std.proofs.Math.ListN.{get_or-map}
 use Rattle.std.proofs.lemmas.List.{length-map}
+use Rattle.std.proofs.lemmas.Option.{same_Some}
 use Rattle.jiff_core.specs.declared.Offset.{Offset}
 use Rattle.jiff_tz.specs.declared.posix.Day.{Day}
 use Rattle.jiff_tz.specs.declared.posix.DayTime.{DayTime}
@@ -28,9 +29,6 @@ use Rattle.lr_due.specs.Zone.{IsZoneOf}
 
 -- ---- rules
 
-some_same : {A : Type 0} (a b : A) → Some a ≡ Some b → a ≡ b
-some_same a b e = cc
-
 -- the same day and time are the same moment of each year
 nanos_same : (y : ℤ) (d e : DayTime) (s t : ℤ) → day_time_view d ≡ day_time_view e → s ≡ t → rule_nanos y d s ≡ rule_nanos y e t
 unfolding rule_nanos
@@ -54,8 +52,8 @@ by_dst a b None None n h e = h
 by_dst a b None (Some d) n h e = absurd (cc)
 by_dst a b (Some d) None n h e = absurd (cc)
 by_dst a b (Some d) (Some f) n h e =
-    ap (λ (w : ℤ × ℤ). (match_some (if in_window w n then Some d else None) a (λ (x : Dst). x.offset)).seconds) (window_same (year_of_nanos n) d f a b (some_same (dst_view d) (dst_view f) e) h)
-    ∙ in_force (in_window (utc_window f (year_of_nanos n) b) n) a b d f h (ap (λ (t : DstText). t.seconds) (some_same (dst_view d) (dst_view f) e))
+    ap (λ (w : ℤ × ℤ). (match_some (if in_window w n then Some d else None) a (λ (x : Dst). x.offset)).seconds) (window_same (year_of_nanos n) d f a b (same_Some (dst_view d) (dst_view f) e) h)
+    ∙ in_force (in_window (utc_window f (year_of_nanos n) b) n) a b d f h (ap (λ (t : DstText). t.seconds) (same_Some (dst_view d) (dst_view f) e))
 
 -- two rules that say the same have the same offset
 rules_same : (p q : PosixTimeZone) (n : ℤ) → tz_view p ≡ tz_view q → (PosixRule.offset_at p n).seconds ≡ (PosixRule.offset_at q n).seconds
@@ -90,7 +88,7 @@ by_rule false o p a b n e h = h
 by_rule true None None a b n e h = h
 by_rule true None (Some q) a b n e h = absurd (cc)
 by_rule true (Some r) None a b n e h = absurd (cc)
-by_rule true (Some r) (Some q) a b n e h = rules_same r q n (some_same (tz_view r) (tz_view q) e)
+by_rule true (Some r) (Some q) a b n e h = rules_same r q n (same_Some (tz_view r) (tz_view q) e)
 
 -- two tables that say the same have the same offset
 tables_same : (z w : Table) (n : ℤ) → tzif_view z ≡ tzif_view w → (TableRule.offset_at z n).seconds ≡ (TableRule.offset_at w n).seconds
@@ -130,7 +128,7 @@ ok_same r a b e f = cc
 pub offsets_same : (text : ZoneText) (tz other : TimeZone) (n : ℤ) → IsZoneOf text tz → IsZoneOf text other → offset_at tz n ≡ offset_at other n
 unfolding offset_at
 offsets_same Utc tz other n a b = ap (λ (z : TimeZone). offset_at z n) (a ∙ sym b)
-offsets_same (Rule text) (Posix p) (Posix q) n a b = rules_same p q n (some_same (tz_view p) (tz_view q) (sym a ∙ b))
+offsets_same (Rule text) (Posix p) (Posix q) n a b = rules_same p q n (same_Some (tz_view p) (tz_view q) (sym a ∙ b))
 offsets_same (Rule text) (Posix p) _ n a b = absurd b
 offsets_same (Rule text) _ other n a b = absurd a
 offsets_same (Bytes bytes) (Tzif z) (Tzif w) n a b = tables_same z.now w.now n (ok_same (read_tzif bytes) (tzif_view z.now) (tzif_view w.now) a.0 b.0)

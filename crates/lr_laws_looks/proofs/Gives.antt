@@ -3,7 +3,7 @@ use Rattle.std.proofs.Common.{◌≡◌, ◌≢◌, ◌⊎◌, inl, inr, ℕ, ze
 use Rattle.std.specs.Prelude.{IsUtf8}
 use Rattle.std.specs.Borrow.{Bor}
 use Rattle.std.specs.List.{list_all}
-use Rattle.std.proofs.lemmas.Bool.{and_parts}
+use Rattle.std.proofs.lemmas.Bool.{and_parts, not-true}
 use Rattle.std.proofs.lemmas.List.{reverse-reverse}
 use Rattle.std.proofs.lemmas.Slice.Eq.{bytes_eq-Decides}
 use Rattle.lr_rules.specs.declared.fault.Fault.{Fault}
@@ -56,10 +56,6 @@ all_in f (y ∷ ys) x h (inr i) = all_in f ys x (and_parts (f y) (list_all f ys)
 first_part : (a b : Bool) → (a && b) ≡ true → a ≡ true
 first_part a b h = (and_parts a b h).0
 
-not_true : (b : Bool) → not b ≡ true → b ≡ false
-not_true true h = absurd (cc)
-not_true false h = refl
-
 -- a pattern has no empty part
 full_pattern : (word : List ℕ) → is_log_word word ≡ true → is_wildcard word ≡ true → has_empty_part word ≡ false
 full_pattern word h wild =
@@ -67,7 +63,7 @@ full_pattern word h wild =
     let text : is_path_text word ≡ true = first_part (is_path_text word) _ pattern in
     let behind = (and_parts (not (has_bad_byte word)) _ text).1 in
     let parts = (and_parts (is_absolute word) _ behind).1 in
-    not_true (has_empty_part word) (and_parts (not (has_empty_part word)) (not (has_dot_part word)) parts).0
+    not-true (has_empty_part word) (and_parts (not (has_empty_part word)) (not (has_dot_part word)) parts).0
 
 pub text_in : (words : List Word) (w : Word) → AreTexts words → IsIn w words → IsUtf8 w.text
 text_in [] w h i = absurd i

@@ -1,6 +1,6 @@
 -- Each removal of a dated rotation is a step of it.
 use Rattle.std.proofs.Common.{◌≡◌, ◌⊎◌, inl, inr, ⊎_elim, ℕ, suc, ◌≤◌, Bool, true, false, cond, ◌||◌, refl, sym, ◌∙◌, subst, arith, Option, Some, List, [], ◌∷◌, ◌++◌, length, map, ℤ, ◌<ℤ◌}
-use Rattle.std.proofs.lemmas.Bool.{leb-true}
+use Rattle.std.proofs.lemmas.Bool.{leb-true, or_cases}
 use Rattle.lr_rules.specs.declared.path.Path.{Path}
 use Rattle.lr_rules.specs.declared.rule.Count.{Count}
 use Rattle.lr_rules.specs.declared.rule.Count.TheVariants as count
@@ -29,10 +29,6 @@ turned_unlinks s turned base [] = refl
 turned_unlinks s turned base (x ∷ xs) = turned_unlinks s turned base xs
 
 -- ---- each removal is a step
-
-either : (a b : Bool) → (a || b) ≡ true → (a ≡ true) ⊎ (b ≡ true)
-either true b e = inl refl
-either false b e = inr e
 
 -- the key of a set
 abbrev pub HasKey : LogSet → Path → ℤ → Type 0
@@ -104,7 +100,7 @@ removals_rotate s p newest turned c base tb rot rule (m ∷ ms) i ys size d late
     aged o g is = old.0 o g (sym (same m.path mine) ∙ is)
 
     step : (is_left c i || m.old) ≡ true → IsDatedStep s p newest (names_after (names (world p)) (changes_of (map unlink (gone c (suc i) ms) ++ base))) (turned_behind s turned (map unlink (gone c (suc i) ms) ++ base)) (Unlinks m.path)
-    step e = inr (turned_unlinks s turned base (gone c (suc i) ms) ∙ tb, key_of m, keyed.0, ⊎_elim (λ l. inl (many l)) (λ o. inr (aged o)) (either (is_left c i) m.old e))
+    step e = inr (turned_unlinks s turned base (gone c (suc i) ms) ∙ tb, key_of m, keyed.0, ⊎_elim (λ l. inl (many l)) (λ o. inr (aged o)) (or_cases (is_left c i) m.old e))
 
     go : (b : Bool) → (is_left c i || m.old) ≡ b → IsDatedRotationBy s p newest turned (map unlink (gone c (suc i) ms) ++ base) → IsDatedRotationBy s p newest turned (map unlink (cond b (m ∷ gone c (suc i) ms) (gone c (suc i) ms)) ++ base)
     go true e rest = (rest, inr (step e))

@@ -3,10 +3,10 @@ use Rattle.std.proofs.Common.{◌≡◌, ◌≢◌, inl, inr, ℕ, zero, suc, �
 use Rattle.std.specs.Prelude.{slice_index_or, count_by, ◌==◌, filter}
 use Rattle.std.proofs.lemmas.List.Elements.{All-cons}
 use Rattle.std.proofs.lemmas.Slice.Eq.{bytes_eq-Decides}
+use Rattle.std.proofs.lemmas.Bool.{and_parts}
 use Rattle.lr_rules.specs.declared.path.Path.{Path}
 use Rattle.lr_rules.specs.declared.civil.Moment.{Moment}
 use Rattle.lr_rules.specs.Path.{parent_of, joined}
-use Rattle.lr_rules.proofs.Bools.{both}
 use Rattle.lr_host.specs.declared.thing.Thing.TheVariants as thing
 use Rattle.lr_host.specs.declared.entry.Entry.{Entry}
 use Rattle.lr_host.specs.declared.entry.Entry.TheVariants as entry
@@ -232,14 +232,14 @@ are_new (y ∷ ys) = is_new y ys && are_new ys
 
 not_in : (x : Path) (ys : List Path) → is_new x ys ≡ true → IsNotIn x ys
 not_in x [] h = tt
-not_in x (y ∷ ys) h = let s = both (not (bytes_eq x y)) (is_new x ys) h in ((λ same. clash (bytes_eq x y) s.0 ((bytes_eq-Decides x y).1 same)), not_in x ys s.1)
+not_in x (y ∷ ys) h = let s = and_parts (not (bytes_eq x y)) (is_new x ys) h in ((λ same. clash (bytes_eq x y) s.0 ((bytes_eq-Decides x y).1 same)), not_in x ys s.1)
   where
     clash : (b : Bool) → not b ≡ true → b ≡ true → ⊥
     clash b p q = cc
 
 distinct : (ys : List Path) → are_new ys ≡ true → AreDistinct ys
 distinct [] h = tt
-distinct (y ∷ ys) h = let s = both (is_new y ys) (are_new ys) h in (not_in y ys s.0, distinct ys s.1)
+distinct (y ∷ ys) h = let s = and_parts (is_new y ys) (are_new ys) h in (not_in y ys s.0, distinct ys s.1)
 
 -- it is a disk
 pub valid : IsValid stood

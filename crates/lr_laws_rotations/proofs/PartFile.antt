@@ -6,6 +6,7 @@ use Rattle.std.proofs.lemmas.Bool.{le-leb}
 use Rattle.std.proofs.lemmas.Fmt.{length-decimal-le}
 use Rattle.std.proofs.lemmas.List.{length-append, reverse-append}
 use Rattle.std.proofs.lemmas.List.Elements.{All-head, All-tail}
+use Rattle.std.proofs.lemmas.Option.{same_Some}
 use Rattle.lr_rules.specs.declared.path.Path.{Path}
 use Rattle.lr_rules.specs.declared.rule.Format.{Format}
 use Rattle.lr_rules.specs.declared.rule.Naming.{Naming}
@@ -114,9 +115,6 @@ near_marks f v w h k = go (middle_marks f v h) (middle_marks f w k)
     go (inr a) (inl b) = omega (arith, a, b)
     go (inr a) (inr b) = omega (arith, a, b)
 
-format_same : (f g : Format) → Some f ≡ Some g → f ≡ g
-format_same f g e = cc
-
 -- ---- paths
 
 -- what stands in a directory isn't that directory
@@ -215,7 +213,7 @@ module _ (log : Path) (n : Naming) (family : IsFamily log n) where
       let other_front : marks (n.base ++ by.middle) ≡ marks n.base + marks by.middle = marks_on n.base by.middle in
       let equal : marks ((n.base ++ at.middle ++ n.ext) ++ part_end) ≡ marks (n.base ++ by.middle ++ n.ext) = ap marks same in
       let near : marks by.middle ≤ marks at.middle + 1 = near_marks at.format by.middle at.middle
-      (subst (λ (f : Format). IsMiddleShape (Some f) by.middle) (format_same by.format at.format (sym by.dated ∙ at.dated)) (numbered_shape by.format u l by.middle by.is)) (numbered_shape at.format t k at.middle at.is) in
+      (subst (λ (f : Format). IsMiddleShape (Some f) by.middle) (same_Some by.format at.format (sym by.dated ∙ at.dated)) (numbered_shape by.format u l by.middle by.is)) (numbered_shape at.format t k at.middle at.is) in
       omega (arith, whole, own, front, other, other_front, equal, near)
 
   pub part_no_member : (member : Path) → IsMember n member → IsNoMember n (part_of member)

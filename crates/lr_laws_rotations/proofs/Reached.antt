@@ -1,12 +1,11 @@
 -- The paths of a log that may be set aside, as those of its set: where it waits it has no place, and its part file lies outside.
 use Rattle.std.proofs.Common.{◌≡◌, ◌≢◌, ◌⊎◌, inr, ⊎_elim, Bool, true, false, ◌&&◌, ◌||◌, bytes_eq, refl, sym, ◌∙◌, ap, subst, Option, Some, None, is_some, ℤ}
-use Rattle.std.proofs.lemmas.Bool.{and_parts}
+use Rattle.std.proofs.lemmas.Bool.{and_parts, or_cases}
 use Rattle.std.proofs.lemmas.Slice.Eq.{bytes_eq-Decides}
 use Rattle.lr_rules.specs.declared.path.Path.{Path}
 use Rattle.lr_rules.specs.declared.rule.Naming.{Naming}
 use Rattle.lr_rules.specs.Names.{aside_path, Meet}
 use Rattle.lr_host.specs.Sets.{LogSet, IsAsideOf, IsUnplaced, is_unplaced, in_reach}
-use Rattle.lr_laws.proofs.Sound.{or_cases}
 use Rattle.lr_family.specs.Parts.{part_of, IsMember}
 use Rattle.lr_copy.specs.declared.job.Job.{Job}
 use Rattle.lr_copy.specs.Fits.{ArePaths}

@@ -2,11 +2,10 @@
 use Rattle.std.proofs.Common.{◌≡◌, ◌≤◌, ◌+◌, ◌-◌, ℕ, zero, suc, Bool, true, false, not, cond, ◌&&◌, List, [], ◌∷◌, ◌++◌, length, take, drop, min, None, Option, Some, refl, ap, ◌∙◌, arith, nat_lt}
 use Rattle.std.specs.Prelude.{decimal, filter, flat_map, nat_le}
 use Rattle.std.specs.List.{list_any, list_all, slice_split, onto_first}
-use Rattle.std.proofs.lemmas.Bool.Decides.{nat_tests}
 use Rattle.std.proofs.lemmas.List.Concat.{flat_map-append}
 use Rattle.std.proofs.lemmas.List.{length-take, length-append}
 use Rattle.std.specs.Str.{is_utf8}
-use Rattle.std.proofs.lemmas.Bool.{and_parts, or_from, or_parts}
+use Rattle.std.proofs.lemmas.Bool.{and_parts, or_from, or_parts, not-true, leb-true}
 use Rattle.lr_rules.specs.declared.path.PathFault.{PathFault}
 use Rattle.lr_rules.specs.declared.path.PathFault.TheVariants as fault
 use Rattle.lr_rules.specs.declared.path.Path.{Path}
@@ -59,9 +58,6 @@ parent_within log = go (nat_lt 1 (last_start_of log))
 
 -- ---- the limits of a rule
 
-nat_le_true : (m n : ℕ) → nat_le m n ≡ true → m ≤ n
-nat_le_true m n h = grind (arith, nat_tests)
-
 abbrev BehindStart : Rule → Bool
 BehindStart r = is_small r.start && (or_none is_extension r.extension && (or_none is_extension r.addextension && (or_none is_olddir r.olddir
     && (is_make r.createolddir && (is_make r.create && (or_none is_address r.mail && or_none is_format r.dated))))))
@@ -77,7 +73,7 @@ behind_start r h =
     (and_parts (or_none is_size r.maxsize) _ f).1
 
 pub start_fine : (r : Rule) → meets_limits r ≡ true → r.start ≤ 999999
-start_fine r h = nat_le_true r.start 999999 (and_parts (is_small r.start) _ (behind_start r h)).0
+start_fine r h = leb-true r.start 999999 (and_parts (is_small r.start) _ (behind_start r h)).0
 
 extension_fine : (r : Rule) → meets_limits r ≡ true → or_none is_extension r.extension ≡ true
 extension_fine r h = (and_parts (or_none is_extension r.extension) _ (and_parts (is_small r.start) _ (behind_start r h)).1).0
@@ -158,7 +154,7 @@ dir_within log None short h = let w = parent_within log in omega (arith, w, shor
 dir_within log (Some word) short h =
     let w = parent_within log in
     let f = from_within (parent_of log) word in
-    let l : length word ≤ 512 = nat_le_true (length word) 512 (and_parts (is_path_text (path_from (47 ∷ []) word)) (nat_le (length word) 512) h).1 in
+    let l : length word ≤ 512 = leb-true (length word) 512 (and_parts (is_path_text (path_from (47 ∷ []) word)) (nat_le (length word) 512) h).1 in
     omega (arith, w, f, short, l)
 
 -- ---- base and extension
@@ -171,17 +167,13 @@ record IsPlainEnd (ext : List ℕ) : Type 0 where
 none_end : IsPlainEnd []
 none_end = record { short = omega arith; clean = refl }
 
-not_false : (b : Bool) → not b ≡ true → b ≡ false
-not_false true h = absurd (cc)
-not_false false h = refl
-
 end_plain : (ext : List ℕ) → is_extension ext ≡ true → IsPlainEnd ext
 end_plain ext h =
     let one = (and_parts (nat_le 1 (length ext)) _ h).1 in
     let two = and_parts (nat_le (length ext) 128) _ one in
     let three = and_parts (not (list_any is_slash ext)) _ two.1 in
     let four = and_parts (not (has_bad_byte ext)) _ three.1 in
-    record { short = nat_le_true (length ext) 128 two.0; clean = unbarred ext (not_false (list_any is_slash ext) three.0) (not_false (list_any is_bad_byte ext) four.0) }
+    record { short = leb-true (length ext) 128 two.0; clean = unbarred ext (not-true (list_any is_slash ext) three.0) (not-true (list_any is_bad_byte ext) four.0) }
 
 own_end : (ext name : List ℕ) → IsPlainEnd ext → IsPlainEnd (cond (ends_with ext name) ext [])
 own_end ext name h = go (ends_with ext name)

@@ -1,8 +1,7 @@
 -- What words came to, one behind another.
 use Rattle.std.proofs.Common.{◌≡◌, ◌≢◌, ◌≤◌, ◌+◌, ◌-◌, ℕ, suc, Bool, true, false, not, cond, nat_le, nat_lt, ◌&&◌, List, [], ◌∷◌, ◌++◌, length, map, take, Option, Result, Ok, Err, OnOk, OnErr, refl, sym, ap, ◌∙◌, subst, arith, append_assoc}
 use Rattle.std.proofs.lemmas.List.{append-nil, length-append, length-map, map-append, take-append-le}
-use Rattle.std.proofs.lemmas.Bool.{and_parts, or_parts}
-use Rattle.std.proofs.lemmas.Bool.Decides.{nat_tests}
+use Rattle.std.proofs.lemmas.Bool.{and_parts, or_parts, leb-true}
 use Rattle.std.specs.List.{list_any}
 use Rattle.lr_rules.specs.declared.fault.Fault.{Fault}
 use Rattle.lr_rules.specs.declared.fault.Fault.TheVariants as fault
@@ -268,10 +267,6 @@ paths_more p q f e h hs = subst HaveLogPaths (sym e) (on p hs)
     on [] g = (h, tt)
     on (x ∷ xs) g = (g.0, on xs g.1)
 
--- a path that isn't too long
-le_from : (a b : ℕ) → nat_le a b ≡ true → a ≤ b
-le_from a b h = grind (arith, nat_tests)
-
 not_true : (b : Bool) → not b ≡ false → b ≡ true
 not_true true h = refl
 not_true false h = absurd (cc)
@@ -279,7 +274,7 @@ not_true false h = absurd (cc)
 pub short_path : (x : Match) → is_long x ≡ false → (length x.path ≤ 2048) × (length (last_of x.path) ≤ 255)
 short_path x h =
     let p = and_parts (nat_le (length x.path) 2048) (nat_le (length (last_of x.path)) 255) (not_true (nat_le (length x.path) 2048 && nat_le (length (last_of x.path)) 255) h) in
-    (le_from (length x.path) 2048 p.0, le_from (length (last_of x.path)) 255 p.1)
+    (leb-true (length x.path) 2048 p.0, leb-true (length (last_of x.path)) 255 p.1)
 
 -- `expand` finds no path that is too long
 no_long : (word : List ℕ) (room : ℕ) (matches : List Match) (ts : List Entry) → Comes word room (Ok matches) ts → list_any is_long matches ≡ true → ⊥

@@ -8,15 +8,15 @@ use Rattle.std.specs.Str.{bytes_eq}
 use Rattle.std.proofs.Math.Seq.{drop-append_seam}
 use Rattle.std.proofs.lemmas.List.{take-append-drop, length-append, get_or_default}
 use Rattle.std.proofs.lemmas.Slice.Eq.{bytes_eq-Decides}
+use Rattle.std.proofs.lemmas.Bool.{and_parts}
 use Rattle.lr_rules.specs.Match.{EndsWith}
-use Rattle.lr_rules.proofs.Bools.{both}
 
 begins_at : (name front end : List ℕ) → name ≡ front ++ end → length name - length end ≡ length front
 begins_at name front end e = let l = ap length e in let m = length-append front end in omega arith
 
 -- the test tells it
 pub ends_tell : (name end : List ℕ) → Decides (ends_with end name) (EndsWith name end)
-ends_tell name end = (λ t. from (both (nat_le (length end) (length name)) (bytes_eq (drop (length name - length end) name) end) t).1, to)
+ends_tell name end = (λ t. from (and_parts (nat_le (length end) (length name)) (bytes_eq (drop (length name - length end) name) end) t).1, to)
   where
     from : bytes_eq (drop (length name - length end) name) end ≡ true → EndsWith name end
     from same =

@@ -4,6 +4,7 @@ use Rattle.std.specs.Prelude.{◌↔◌, is_some}
 use Rattle.std.specs.List.{list_any}
 use Rattle.std.proofs.lemmas.Bool.Decides.{Decides-eqb}
 use Rattle.std.proofs.lemmas.Slice.Eq.{bytes_eq-Decides}
+use Rattle.std.proofs.lemmas.Bool.{or_cases, or_left, or_right, and_parts, and_from}
 use Rattle.lr_rules.specs.declared.path.Path.{Path}
 use Rattle.lr_host.specs.declared.thing.Thing.{Thing}
 use Rattle.lr_host.specs.declared.thing.Thing.TheVariants as thing
@@ -21,7 +22,7 @@ use Rattle.lr_disk.specs.Names.{named_in}
 use Rattle.lr_nights.specs.Summary.{AreSetsOf, logs_of, in_one, IsGenerationOfOne}
 use Rattle.lr_nights.specs.Marks.{is_a_log, is_of_logs, has_name}
 use Rattle.lr_nights.specs.Walk.{may_rename}
-use Rattle.lr_nights.proofs.Lists.{or_parts, or_left, or_right, and_parts, and_both, any_in, any_from}
+use Rattle.lr_nights.proofs.Lists.{any_in, any_from}
 
 -- ---- what is named
 
@@ -87,7 +88,7 @@ found : (s : LogSet) (o : Opening) (x : Path) (g : ℕ) → in_set s x ≡ true 
 found s o x g h e = ⊎_elim
     (λ log. let same : s.log ≡ x = (bytes_eq-Decides s.log x).0 log in inl (true_file (opening_names o s.log) g (ap (opening_names o) same ∙ e)))
     (λ some. inr (member (s.key x) refl some))
-    (or_parts (bytes_eq s.log x) (is_some (s.key x)) h)
+    (or_cases (bytes_eq s.log x) (is_some (s.key x)) h)
   where
     member : (k : Option ℤ) → s.key x ≡ k → is_some k ≡ true → WasMember s o g
     member (Some k) f i = record { at = x; key = k; member = f; named = e }
@@ -107,7 +108,7 @@ first_generations sets o ns are g = (
       record { set = s.0; one = s.1; generation = found s.0 o r.0.0 g s.2 (from_pair ns (opening_names o) are r.0 r.1 ∙ file_true r.0.1 g b.1) }),
   (λ i.
       let r = lost i.set o g i.generation in
-      any_from (λ (n : Path × Thing). in_one sets n.0 && is_file n.1 g) ns (r.0, thing.File g) (in_pairs ns (opening_names o) are r.0 g r.2) (and_both (in_one sets r.0) (is_file (thing.File g) g) (any_from (λ (s : LogSet). in_set s r.0) sets i.set i.one r.1) (true_file (thing.File g) g refl))),
+      any_from (λ (n : Path × Thing). in_one sets n.0 && is_file n.1 g) ns (r.0, thing.File g) (in_pairs ns (opening_names o) are r.0 g r.2) (and_from (in_one sets r.0) (is_file (thing.File g) g) (any_from (λ (s : LogSet). in_set s r.0) sets i.set i.one r.1) (true_file (thing.File g) g refl))),
 )
 
 -- ---- behind an entry
@@ -125,7 +126,7 @@ generations_on logs sets p e g a b are old new = (
   (λ h. ⊎_elim
       (λ was. let i = old.0 was in record { set = i.set; one = i.one; generation = onward i.set i.generation })
       (λ log. let r = any_in here sets (sym (log_files logs sets (world (p ▸ e)) g are) ∙ log) in record { set = r.0; one = r.1; generation = inl (or_right (stood r.0 p g) (here r.0) r.2) })
-      (or_parts a (is_a_log (world (p ▸ e)) logs g) (sym new ∙ h))),
+      (or_cases a (is_a_log (world (p ▸ e)) logs g) (sym new ∙ h))),
   (λ i. new ∙ back i.set i.one i.generation),
 )
   where
@@ -144,7 +145,7 @@ generations_on logs sets p e g a b are old new = (
     back s one (inl h) = ⊎_elim
         (λ st. was s one (inl st))
         (λ log. or_right a (is_a_log (world (p ▸ e)) logs g) (log_files logs sets (world (p ▸ e)) g are ∙ any_from here sets s one log))
-        (or_parts (stood s p g) (here s) h)
+        (or_cases (stood s p g) (here s) h)
 
 -- what the log names now it named at some prefix
 stands_stood : (s : LogSet) (p : Past) (g : ℕ) → is_file (names (world p) s.log) g ≡ true → stood s p g ≡ true
@@ -177,4 +178,4 @@ generations_still sets p e g a still old = (
     back s (inl h) = inl (⊎_elim
         (λ st. st)
         (λ log. stands_stood s p g (ap (λ (t : Thing). is_file t g) (sym (names_still (world p) e s.log still)) ∙ log))
-        (or_parts (stood s p g) (is_file (names (world (p ▸ e)) s.log) g) h))
+        (or_cases (stood s p g) (is_file (names (world (p ▸ e)) s.log) g) h))

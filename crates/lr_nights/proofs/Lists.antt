@@ -4,6 +4,7 @@ use Rattle.std.specs.Prelude.{sum_by}
 use Rattle.std.specs.List.{list_any}
 use Rattle.std.proofs.Math.Seq.{drop-cons}
 use Rattle.std.proofs.lemmas.List.Sums.{sum_by-cons}
+use Rattle.std.proofs.lemmas.Bool.{or_cases, or_left, or_right}
 use Rattle.lr_host.specs.Lists.{IsIn}
 
 -- an item and those behind it
@@ -59,29 +60,9 @@ sum_end f xs i a t le all = let none : sum_by f (drop i xs) ≡ 0 = ap (sum_by f
 
 -- ---- the item that passes a test
 
-pub or_parts : (a b : Bool) → (a || b) ≡ true → (a ≡ true) ⊎ (b ≡ true)
-or_parts true b h = inl refl
-or_parts false b h = inr h
-
-pub or_left : (a b : Bool) → a ≡ true → (a || b) ≡ true
-or_left true b h = refl
-or_left false b h = absurd (cc)
-
-pub or_right : (a b : Bool) → b ≡ true → (a || b) ≡ true
-or_right true b h = refl
-or_right false b h = h
-
-pub and_parts : (a b : Bool) → (a && b) ≡ true → (a ≡ true) × (b ≡ true)
-and_parts true b h = (refl, h)
-and_parts false b h = absurd (cc)
-
-pub and_both : (a b : Bool) → a ≡ true → b ≡ true → (a && b) ≡ true
-and_both true b h k = k
-and_both false b h k = absurd (cc)
-
 pub any_in : {A : Type 0} (p : A → Bool) (xs : List A) → list_any p xs ≡ true → (x : A) × IsIn x xs × (p x ≡ true)
 any_in p [] h = absurd (cc)
-any_in p (x ∷ xs) h = ⊎_elim (λ here. (x, inl refl, here)) (λ more. let r = any_in p xs more in (r.0, inr r.1, r.2)) (or_parts (p x) (list_any p xs) h)
+any_in p (x ∷ xs) h = ⊎_elim (λ here. (x, inl refl, here)) (λ more. let r = any_in p xs more in (r.0, inr r.1, r.2)) (or_cases (p x) (list_any p xs) h)
 
 pub any_from : {A : Type 0} (p : A → Bool) (xs : List A) (x : A) → IsIn x xs → p x ≡ true → list_any p xs ≡ true
 any_from p [] x h here = absurd h

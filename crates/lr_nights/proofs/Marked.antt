@@ -2,6 +2,7 @@
 use Rattle.std.proofs.Common.{◌≡◌, inl, inr, ℕ, zero, suc, ◌<◌, ◌+◌, Bool, true, false, not, ◌&&◌, List, [], ◌∷◌, length, refl, sym, ◌∙◌, ap, subst, arith}
 use Rattle.std.specs.Prelude.{◌↔◌, count_by, filter}
 use Rattle.std.proofs.lemmas.List.Sums.{length-filter}
+use Rattle.std.proofs.lemmas.Bool.{and_parts, and_from, not-true}
 use Rattle.lr_rules.specs.declared.path.Path.{Path}
 use Rattle.lr_host.specs.declared.thing.Thing.{Thing}
 use Rattle.lr_host.specs.World.{Past, world, names}
@@ -10,7 +11,6 @@ use Rattle.lr_host.specs.Lists.{IsIn, AreDistinct, IsNotIn}
 use Rattle.lr_nights.specs.Summary.{IsGenerationOfOne, IsGone}
 use Rattle.lr_nights.specs.Marks.{is_marked, has_name}
 use Rattle.lr_nights.specs.Walk.{AreGone}
-use Rattle.lr_nights.proofs.Lists.{and_parts, and_both}
 use Rattle.lr_nights.proofs.Generations.{AreNames, unnamed_is}
 
 -- the places of the marks, the first of which has this number
@@ -51,10 +51,6 @@ filtered n (false ∷ ms) = filtered (suc n) ms
 marks_counted : (n : ℕ) (ms : List Bool) → count_by (λ (m : Bool). m) ms ≡ length (marked_from n ms)
 marks_counted n ms = sym (length-filter (λ (m : Bool). m) ms) ∙ filtered n ms
 
-not_true : (b : Bool) → not b ≡ true → b ≡ false
-not_true true h = absurd (cc)
-not_true false h = refl
-
 -- the generations whose marks are left are gone
 pub gone_all : (sets : List LogSet) (p : Past) (ns : List (Path × Thing)) (old ms : List Bool) (count : ℕ) → AreNames ns (names (world p)) → ((g : ℕ) → (is_marked old g ≡ true) ↔ IsGenerationOfOne sets p g)
     → ((g : ℕ) → is_marked ms g ≡ (is_marked old g && not (has_name ns g))) → count ≡ count_by (λ (m : Bool). m) ms → AreGone sets p count
@@ -68,7 +64,7 @@ gone_all sets p ns old ms count are marked left counted = record {
     forth g (k, e, h) =
         let same : k ≡ g = omega arith in
         let b = and_parts (is_marked old g) (not (has_name ns g)) (sym (left g) ∙ subst (λ (i : ℕ). is_marked ms i ≡ true) same h) in
-        ((marked g).0 b.0, (unnamed_is ns (names (world p)) are g).0 (not_true (has_name ns g) b.1))
+        ((marked g).0 b.0, (unnamed_is ns (names (world p)) are g).0 (not-true (has_name ns g) b.1))
 
     back : (g : ℕ) → IsGone sets p g → is_marked ms g ≡ true
-    back g h = left g ∙ and_both (is_marked old g) (not (has_name ns g)) ((marked g).1 h.0) (ap not ((unnamed_is ns (names (world p)) are g).1 h.1))
+    back g h = left g ∙ and_from (is_marked old g) (not (has_name ns g)) ((marked g).1 h.0) (ap not ((unnamed_is ns (names (world p)) are g).1 h.1))

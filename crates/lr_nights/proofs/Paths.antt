@@ -2,6 +2,7 @@
 use Rattle.std.proofs.Common.{◌≡◌, ◌⊎◌, inl, inr, ℕ, ◌+◌, Bool, true, false, cond, List, [], ◌∷◌, length, refl, sym, ◌∙◌, ap, arith}
 use Rattle.std.specs.Prelude.{sum_by}
 use Rattle.std.proofs.lemmas.List.Sums.{sum_by-cons}
+use Rattle.std.proofs.lemmas.Bool.{and_parts, and_from}
 use Rattle.lr_rules.specs.declared.path.Path.{Path}
 use Rattle.lr_host.specs.declared.thing.Thing.{Thing}
 use Rattle.lr_host.specs.declared.thing.Thing.TheVariants as thing
@@ -12,7 +13,6 @@ use Rattle.lr_disk.specs.Pairs.{keys}
 use Rattle.lr_nights.specs.declared.standing.Standing.{Standing}
 use Rattle.lr_nights.specs.Summary.{in_one, size_named}
 use Rattle.lr_nights.specs.Walk.{IsStanding, is_regular, stands, count_one, bytes_one}
-use Rattle.lr_nights.proofs.Lists.{and_parts, and_both}
 use Rattle.lr_nights.proofs.Generations.{AreNames, in_pairs, from_pair}
 
 -- the paths of the files that stand
@@ -88,7 +88,7 @@ stand_all sets p ns t are files bytes = record {
     once = once sets ns are.once;
     all = λ x. (
       (λ h. let r = kept_in sets ns x h in let b = and_parts (in_one sets r.0.0) (is_regular r.0.1) r.3 in let f = regular_file r.0.1 b.1 in ((f.0, ap (names (world p)) (sym r.2) ∙ from_pair ns (names (world p)) are r.0 r.1 ∙ f.1), ap (in_one sets) (sym r.2) ∙ b.0)),
-      (λ h. keeps sets ns (x, thing.File h.0.0) (in_pairs ns (names (world p)) are x h.0.0 h.0.1) (and_both (in_one sets x) true h.1 refl)),
+      (λ h. keeps sets ns (x, thing.File h.0.0) (in_pairs ns (names (world p)) are x h.0.0 h.0.1) (and_from (in_one sets x) true h.1 refl)),
     );
   };
   files = files ∙ counted sets ns;

@@ -1,10 +1,10 @@
 -- The path that a log gets is short enough for a part file beside it.
-use Rattle.std.proofs.Common.{◌≡◌, ◌≤◌, ◌<◌, ◌+◌, ◌*◌, ◌||◌, ℕ, zero, suc, ℤ, Bool, true, false, cond, inl, inr, List, [], ◌∷◌, ◌++◌, length, arith, length-append, nat_eq, ap, refl, subst}
+use Rattle.std.proofs.Common.{◌≡◌, ◌≤◌, ◌<◌, ◌+◌, ◌*◌, ℕ, zero, suc, ℤ, Bool, true, false, cond, inl, inr, List, [], ◌∷◌, ◌++◌, length, arith, length-append, nat_eq, ap, subst}
 use Rattle.std.specs.Prelude.{decimal, nat_le}
 use Rattle.std.specs.List.{list_all}
 use Rattle.std.proofs.lemmas.Bool.Decides.{nat_tests}
 use Rattle.std.specs.Str.{is_utf8}
-use Rattle.std.proofs.lemmas.Bool.{and_parts}
+use Rattle.std.proofs.lemmas.Bool.{and_parts, or_left, or_right}
 use Rattle.std.proofs.lemmas.Fmt.{length-decimal-le}
 use Rattle.lr_rules.specs.declared.path.Path.{Path}
 use Rattle.lr_rules.specs.declared.rule.Field.{Field}
@@ -40,13 +40,6 @@ target_short log n kin low =
 
 -- ---- of a dated one
 
-here : (a b : Bool) → a ≡ true → (a || b) ≡ true
-here a b p = ap (λ c. c || b) p
-
-there : (a b : Bool) → b ≡ true → (a || b) ≡ true
-there true b p = refl
-there false b p = p
-
 field_short : (f : Field) (v : ℕ) → v < bound f → length (field_text f v) ≤ 12
 field_short field.Year v lt = omega arith
 field_short field.Epoch v lt = length-decimal-le 12 v (omega arith) (omega arith) (omega (arith, lt))
@@ -60,8 +53,8 @@ stamp_short : (p : StampParts) (ps : List Piece) → ((f : Field) → is_in f ps
 stamp_short p [] h = omega arith
 stamp_short p (piece.Byte b ∷ ps) h = let r : length (stamp_text p ps) ≤ 12 * length ps = stamp_short p ps h in omega (arith, r)
 stamp_short p (piece.Field f ∷ ps) h =
-    let r : length (stamp_text p ps) ≤ 12 * length ps = stamp_short p ps (λ g i. h g (there (same_field g f) (is_in g ps) i)) in
-    let own : length (field_text f (part p f)) ≤ 12 = field_short f (part p f) (h f (here (same_field f f) (is_in f ps) (itself f))) in
+    let r : length (stamp_text p ps) ≤ 12 * length ps = stamp_short p ps (λ g i. h g (or_right (same_field g f) (is_in g ps) i)) in
+    let own : length (field_text f (part p f)) ≤ 12 = field_short f (part p f) (h f (or_left (same_field f f) (is_in f ps) (itself f))) in
     let both : length (field_text f (part p f) ++ stamp_text p ps) ≡ length (field_text f (part p f)) + length (stamp_text p ps) = length-append (field_text f (part p f)) (stamp_text p ps) in
     omega (arith, r, own, both)
 

@@ -3,6 +3,7 @@ use Rattle.std.proofs.Common.{◌≡◌, ℕ, ◌<◌, ◌≤◌, Bool, true, fa
 use Rattle.std.specs.Prelude.{unsigned_abs, ◌==◌}
 use Rattle.std.specs.Int.{IsInRange}
 use Rattle.std.proofs.lemmas.Int.{ints}
+use Rattle.std.proofs.lemmas.Bool.{or_left, or_right}
 use Rattle.jiff_core.specs.Calendar.{IsBetween, days_in_month, is_leap_year}
 use Rattle.lr_rules.specs.declared.path.Path.{Path}
 use Rattle.lr_rules.specs.declared.civil.Civil.{Civil}
@@ -47,19 +48,12 @@ kept_in pieces p f e = kept_is pieces p f ∙ ap (λ b. cond b (part p f) (part 
 kept_out : (pieces : List Piece) (p : StampParts) (f : Field) → is_in f pieces ≡ false → part (kept_fields pieces p) f ≡ part least f
 kept_out pieces p f e = kept_is pieces p f ∙ ap (λ b. cond b (part p f) (part least f)) e
 
-here : (a b : Bool) → a ≡ true → (a || b) ≡ true
-here a b p = ap (λ c. c || b) p
-
-there : (a b : Bool) → b ≡ true → (a || b) ≡ true
-there true b p = refl
-there false b p = p
-
 text_same : (p q : StampParts) (ps : List Piece) → ((f : Field) → is_in f ps ≡ true → part q f ≡ part p f) → stamp_text p ps ≡ stamp_text q ps
 text_same p q [] h = refl
 text_same p q (piece.Byte b ∷ ps) h = ap (λ w. b ∷ w) (text_same p q ps h)
 text_same p q (piece.Field f ∷ ps) h =
-    ap (λ n. field_text f n ++ stamp_text p ps) (sym (h f (here (same_field f f) (is_in f ps) (itself f))))
-    ∙ ap (λ w. field_text f (part q f) ++ w) (text_same p q ps (λ g i. h g (there (same_field g f) (is_in g ps) i)))
+    ap (λ n. field_text f n ++ stamp_text p ps) (sym (h f (or_left (same_field f f) (is_in f ps) (itself f))))
+    ∙ ap (λ w. field_text f (part q f) ++ w) (text_same p q ps (λ g i. h g (or_right (same_field g f) (is_in g ps) i)))
 
 -- ---- a moment of which fields are left out
 

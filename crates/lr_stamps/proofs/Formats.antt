@@ -1,9 +1,9 @@
 -- What the limits of a format give.
 use Rattle.std.proofs.Common.{◌≡◌, ◌⊎◌, inl, inr, ⊎_elim, ℕ, ◌<◌, ◌≤◌, ◌+◌, Bool, true, false, ◌||◌, ◌&&◌, cond, List, [], ◌∷◌, refl, ap, ◌∙◌, arith, length, nat_le, eqb-true}
 use Rattle.std.specs.Prelude.{◌==◌}
-use Rattle.std.proofs.lemmas.Bool.Decides.{nat_tests}
 use Rattle.std.specs.List.{list_all}
 use Rattle.std.specs.Str.{is_utf8}
+use Rattle.std.proofs.lemmas.Bool.{and_parts, or_cases, leb-true}
 use Rattle.lr_rules.specs.declared.rule.Field.{Field}
 use Rattle.lr_rules.specs.declared.rule.Field.TheVariants as field
 use Rattle.lr_rules.specs.declared.rule.Format.{Format}
@@ -11,7 +11,6 @@ use Rattle.lr_rules.specs.declared.rule.Piece.{Piece}
 use Rattle.lr_rules.specs.declared.rule.Piece.TheVariants as piece
 use Rattle.lr_rules.specs.Limits.{rank, is_rank, times, is_plain_piece, written, are_first, is_epoch_alone, is_format}
 use Rattle.lr_rules.specs.Stamps.{is_in}
-use Rattle.lr_rules.proofs.Bools.{both}
 use Rattle.lr_stamps.specs.Asked.{are_bytes, FieldsDiffer}
 
 -- ---- counting fields
@@ -106,13 +105,6 @@ apart_epoch (piece.Field f ∷ ps) h o = here f (count_here f ps) h o
 
 -- ---- what the test of a format says
 
-either : (a b : Bool) → (a || b) ≡ true → (a ≡ true) ⊎ (b ≡ true)
-either true b e = inl refl
-either false b e = inr e
-
-at_most : (a b : ℕ) → nat_le a b ≡ true → a ≤ b
-at_most a b e = grind (arith, nat_tests)
-
 -- how often each field stands in a format of a date
 pub record IsDate (ps : List Piece) : Type 0 where
   pub year : times 0 ps ≡ 1
@@ -125,19 +117,19 @@ pub record IsDate (ps : List Piece) : Type 0 where
 
 date_of : (ps : List Piece) → are_first ps ≡ true → IsDate ps
 date_of ps e =
-    let a = both (times 0 ps == 1) (nat_le (times 1 ps) (times 0 ps) && (nat_le (times 2 ps) (times 1 ps) && (nat_le (times 3 ps) (times 2 ps) && (nat_le (times 4 ps) (times 3 ps) && (nat_le (times 5 ps) (times 4 ps) && times 6 ps == 0))))) e in
-    let b = both (nat_le (times 1 ps) (times 0 ps)) (nat_le (times 2 ps) (times 1 ps) && (nat_le (times 3 ps) (times 2 ps) && (nat_le (times 4 ps) (times 3 ps) && (nat_le (times 5 ps) (times 4 ps) && times 6 ps == 0)))) a.1 in
-    let c = both (nat_le (times 2 ps) (times 1 ps)) (nat_le (times 3 ps) (times 2 ps) && (nat_le (times 4 ps) (times 3 ps) && (nat_le (times 5 ps) (times 4 ps) && times 6 ps == 0))) b.1 in
-    let d = both (nat_le (times 3 ps) (times 2 ps)) (nat_le (times 4 ps) (times 3 ps) && (nat_le (times 5 ps) (times 4 ps) && times 6 ps == 0)) c.1 in
-    let f = both (nat_le (times 4 ps) (times 3 ps)) (nat_le (times 5 ps) (times 4 ps) && times 6 ps == 0) d.1 in
-    let g = both (nat_le (times 5 ps) (times 4 ps)) (times 6 ps == 0) f.1 in
+    let a = and_parts (times 0 ps == 1) (nat_le (times 1 ps) (times 0 ps) && (nat_le (times 2 ps) (times 1 ps) && (nat_le (times 3 ps) (times 2 ps) && (nat_le (times 4 ps) (times 3 ps) && (nat_le (times 5 ps) (times 4 ps) && times 6 ps == 0))))) e in
+    let b = and_parts (nat_le (times 1 ps) (times 0 ps)) (nat_le (times 2 ps) (times 1 ps) && (nat_le (times 3 ps) (times 2 ps) && (nat_le (times 4 ps) (times 3 ps) && (nat_le (times 5 ps) (times 4 ps) && times 6 ps == 0)))) a.1 in
+    let c = and_parts (nat_le (times 2 ps) (times 1 ps)) (nat_le (times 3 ps) (times 2 ps) && (nat_le (times 4 ps) (times 3 ps) && (nat_le (times 5 ps) (times 4 ps) && times 6 ps == 0))) b.1 in
+    let d = and_parts (nat_le (times 3 ps) (times 2 ps)) (nat_le (times 4 ps) (times 3 ps) && (nat_le (times 5 ps) (times 4 ps) && times 6 ps == 0)) c.1 in
+    let f = and_parts (nat_le (times 4 ps) (times 3 ps)) (nat_le (times 5 ps) (times 4 ps) && times 6 ps == 0) d.1 in
+    let g = and_parts (nat_le (times 5 ps) (times 4 ps)) (times 6 ps == 0) f.1 in
     record {
       year = eqb-true (times 0 ps) 1 a.0;
-      month = at_most (times 1 ps) (times 0 ps) b.0;
-      day = at_most (times 2 ps) (times 1 ps) c.0;
-      hour = at_most (times 3 ps) (times 2 ps) d.0;
-      minute = at_most (times 4 ps) (times 3 ps) f.0;
-      second = at_most (times 5 ps) (times 4 ps) g.0;
+      month = leb-true (times 1 ps) (times 0 ps) b.0;
+      day = leb-true (times 2 ps) (times 1 ps) c.0;
+      hour = leb-true (times 3 ps) (times 2 ps) d.0;
+      minute = leb-true (times 4 ps) (times 3 ps) f.0;
+      second = leb-true (times 5 ps) (times 4 ps) g.0;
       epoch = eqb-true (times 6 ps) 0 g.1;
     }
 
@@ -152,12 +144,12 @@ pub record IsEpoch (ps : List Piece) : Type 0 where
 
 epoch_of : (ps : List Piece) → is_epoch_alone ps ≡ true → IsEpoch ps
 epoch_of ps e =
-    let a = both (times 6 ps == 1) (times 0 ps == 0 && (times 1 ps == 0 && (times 2 ps == 0 && (times 3 ps == 0 && (times 4 ps == 0 && times 5 ps == 0))))) e in
-    let b = both (times 0 ps == 0) (times 1 ps == 0 && (times 2 ps == 0 && (times 3 ps == 0 && (times 4 ps == 0 && times 5 ps == 0)))) a.1 in
-    let c = both (times 1 ps == 0) (times 2 ps == 0 && (times 3 ps == 0 && (times 4 ps == 0 && times 5 ps == 0))) b.1 in
-    let d = both (times 2 ps == 0) (times 3 ps == 0 && (times 4 ps == 0 && times 5 ps == 0)) c.1 in
-    let f = both (times 3 ps == 0) (times 4 ps == 0 && times 5 ps == 0) d.1 in
-    let g = both (times 4 ps == 0) (times 5 ps == 0) f.1 in
+    let a = and_parts (times 6 ps == 1) (times 0 ps == 0 && (times 1 ps == 0 && (times 2 ps == 0 && (times 3 ps == 0 && (times 4 ps == 0 && times 5 ps == 0))))) e in
+    let b = and_parts (times 0 ps == 0) (times 1 ps == 0 && (times 2 ps == 0 && (times 3 ps == 0 && (times 4 ps == 0 && times 5 ps == 0)))) a.1 in
+    let c = and_parts (times 1 ps == 0) (times 2 ps == 0 && (times 3 ps == 0 && (times 4 ps == 0 && times 5 ps == 0))) b.1 in
+    let d = and_parts (times 2 ps == 0) (times 3 ps == 0 && (times 4 ps == 0 && times 5 ps == 0)) c.1 in
+    let f = and_parts (times 3 ps == 0) (times 4 ps == 0 && times 5 ps == 0) d.1 in
+    let g = and_parts (times 4 ps == 0) (times 5 ps == 0) f.1 in
     record {
       epoch = eqb-true (times 6 ps) 1 a.0;
       year = eqb-true (times 0 ps) 0 b.0;
@@ -170,10 +162,10 @@ epoch_of ps e =
 
 pub kind_of : (f : Format) → is_format f ≡ true → IsDate f.pieces ⊎ IsEpoch f.pieces
 kind_of f e =
-    let a = both (list_all is_plain_piece f.pieces) (is_utf8 (written f.pieces) && (nat_le (length (written f.pieces)) 64 && (are_first f.pieces || is_epoch_alone f.pieces))) e in
-    let u = both (is_utf8 (written f.pieces)) (nat_le (length (written f.pieces)) 64 && (are_first f.pieces || is_epoch_alone f.pieces)) a.1 in
-    let b = both (nat_le (length (written f.pieces)) 64) (are_first f.pieces || is_epoch_alone f.pieces) u.1 in
-    ⊎_elim (λ t. inl (date_of f.pieces t)) (λ t. inr (epoch_of f.pieces t)) (either (are_first f.pieces) (is_epoch_alone f.pieces) b.1)
+    let a = and_parts (list_all is_plain_piece f.pieces) (is_utf8 (written f.pieces) && (nat_le (length (written f.pieces)) 64 && (are_first f.pieces || is_epoch_alone f.pieces))) e in
+    let u = and_parts (is_utf8 (written f.pieces)) (nat_le (length (written f.pieces)) 64 && (are_first f.pieces || is_epoch_alone f.pieces)) a.1 in
+    let b = and_parts (nat_le (length (written f.pieces)) 64) (are_first f.pieces || is_epoch_alone f.pieces) u.1 in
+    ⊎_elim (λ t. inl (date_of f.pieces t)) (λ t. inr (epoch_of f.pieces t)) (or_cases (are_first f.pieces) (is_epoch_alone f.pieces) b.1)
 
 date_apart : (ps : List Piece) → IsDate ps → FieldsDiffer ps
 date_apart ps d = apart_date ps most d.epoch

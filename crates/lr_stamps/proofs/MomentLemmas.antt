@@ -1,7 +1,7 @@
 -- The parts of a moment.
 use Rattle.std.proofs.Common.{◌≡◌, ℕ, ◌<◌, ◌≤◌, Bool, true, false, cond, ◌||◌, ◌&&◌, refl, arith, ℤ, pos, ◌≤ℤ◌}
 use Rattle.std.specs.Prelude.{◌==◌, nat_le}
-use Rattle.std.proofs.lemmas.Bool.{leb-true, le-leb}
+use Rattle.std.proofs.lemmas.Bool.{leb-true, le-leb, and_parts, and_from}
 use Rattle.std.proofs.lemmas.Int.{ints}
 use Rattle.jiff_core.specs.Calendar.{days_in_month, is_leap_year}
 use Rattle.lr_rules.specs.declared.rule.Field.{Field}
@@ -10,7 +10,6 @@ use Rattle.lr_rules.specs.declared.stamp_parts.StampParts.{StampParts}
 use Rattle.lr_rules.specs.StampParts.{part}
 use Rattle.lr_rules.specs.Stamps.{bound}
 use Rattle.lr_rules.specs.Moments.{AreOfMoment}
-use Rattle.lr_rules.proofs.Bools.{both, also}
 
 few_days : (y : ℤ) (m : ℕ) → days_in_month y m ≤ 31
 few_days y m = go (m == 2) (is_leap_year y) ((m == 4) || (m == 6) || (m == 9) || (m == 11))
@@ -49,32 +48,32 @@ moment_told p e = (
 )
   where
     a : (nat_le 1 p.year ≡ true) × ((nat_le p.year 9999 && (nat_le 1 p.month && (nat_le p.month 12 && (nat_le 1 p.day && (nat_le p.day (days_in_month (pos p.year) p.month) && (nat_le p.hour 23 && (nat_le p.minute 59 && nat_le p.second 59))))))) ≡ true)
-    a = both (nat_le 1 p.year) _ e
+    a = and_parts (nat_le 1 p.year) _ e
 
     b : (nat_le p.year 9999 ≡ true) × ((nat_le 1 p.month && (nat_le p.month 12 && (nat_le 1 p.day && (nat_le p.day (days_in_month (pos p.year) p.month) && (nat_le p.hour 23 && (nat_le p.minute 59 && nat_le p.second 59)))))) ≡ true)
-    b = both (nat_le p.year 9999) _ a.1
+    b = and_parts (nat_le p.year 9999) _ a.1
 
     c : (nat_le 1 p.month ≡ true) × ((nat_le p.month 12 && (nat_le 1 p.day && (nat_le p.day (days_in_month (pos p.year) p.month) && (nat_le p.hour 23 && (nat_le p.minute 59 && nat_le p.second 59))))) ≡ true)
-    c = both (nat_le 1 p.month) _ b.1
+    c = and_parts (nat_le 1 p.month) _ b.1
 
     d : (nat_le p.month 12 ≡ true) × ((nat_le 1 p.day && (nat_le p.day (days_in_month (pos p.year) p.month) && (nat_le p.hour 23 && (nat_le p.minute 59 && nat_le p.second 59)))) ≡ true)
-    d = both (nat_le p.month 12) _ c.1
+    d = and_parts (nat_le p.month 12) _ c.1
 
     f : (nat_le 1 p.day ≡ true) × ((nat_le p.day (days_in_month (pos p.year) p.month) && (nat_le p.hour 23 && (nat_le p.minute 59 && nat_le p.second 59))) ≡ true)
-    f = both (nat_le 1 p.day) _ d.1
+    f = and_parts (nat_le 1 p.day) _ d.1
 
     g : (nat_le p.day (days_in_month (pos p.year) p.month) ≡ true) × ((nat_le p.hour 23 && (nat_le p.minute 59 && nat_le p.second 59)) ≡ true)
-    g = both (nat_le p.day (days_in_month (pos p.year) p.month)) _ f.1
+    g = and_parts (nat_le p.day (days_in_month (pos p.year) p.month)) _ f.1
 
     h : (nat_le p.hour 23 ≡ true) × ((nat_le p.minute 59 && nat_le p.second 59) ≡ true)
-    h = both (nat_le p.hour 23) _ g.1
+    h = and_parts (nat_le p.hour 23) _ g.1
 
     k : (nat_le p.minute 59 ≡ true) × (nat_le p.second 59 ≡ true)
-    k = both (nat_le p.minute 59) _ h.1
+    k = and_parts (nat_le p.minute 59) _ h.1
 
 pub moment_tells : (p : StampParts) → AreOfMoment p → is_moment p ≡ true
 moment_tells p m =
     let year : pos 1 ≤ℤ pos p.year = m.0 in
     let top : pos p.year ≤ℤ pos 9999 = m.1.0.1 in
-    also _ _ (le-leb 1 p.year (omega (arith, ints))) (also _ _ (le-leb p.year 9999 (omega (arith, ints))) (also _ _ (le-leb 1 p.month m.1.1.0) (also _ _ (le-leb p.month 12 m.1.1.1) (also _ _ (le-leb 1 p.day m.1.2.0)
-    (also _ _ (le-leb p.day (days_in_month (pos p.year) p.month) m.1.2.1) (also _ _ (le-leb p.hour 23 (omega arith)) (also _ _ (le-leb p.minute 59 (omega arith)) (le-leb p.second 59 (omega arith)))))))))
+    and_from _ _ (le-leb 1 p.year (omega (arith, ints))) (and_from _ _ (le-leb p.year 9999 (omega (arith, ints))) (and_from _ _ (le-leb 1 p.month m.1.1.0) (and_from _ _ (le-leb p.month 12 m.1.1.1) (and_from _ _ (le-leb 1 p.day m.1.2.0)
+    (and_from _ _ (le-leb p.day (days_in_month (pos p.year) p.month) m.1.2.1) (and_from _ _ (le-leb p.hour 23 (omega arith)) (and_from _ _ (le-leb p.minute 59 (omega arith)) (le-leb p.second 59 (omega arith)))))))))

@@ -1,5 +1,6 @@
 -- Stamps with their serial numbers and members determine each other.
-use Rattle.std.proofs.Common.{◌≡◌, true, subst, sym, ◌∙◌, ℤ, ℕ, Some, ◌++◌}
+use Rattle.std.proofs.Common.{◌≡◌, true, subst, sym, ◌∙◌, ℤ, ℕ, ◌++◌}
+use Rattle.std.proofs.lemmas.Option.{same_Some}
 use Rattle.lr_rules.specs.declared.path.Path.{Path}
 use Rattle.lr_rules.specs.declared.rule.Format.{Format}
 use Rattle.lr_rules.specs.declared.rule.Naming.{Naming}
@@ -14,12 +15,9 @@ use Rattle.lr_stamps.proofs.StampLemmas.{member_same}
 pub one_member : (n : Naming) (t : ℤ) (k : ℕ) (x y : Path) → or_none is_format n.dated ≡ true → IsDatedAt n t k x → IsDatedAt n t k y → x ≡ y
 one_member n t k x y e a b = member_same n a.format t k x y a.dated (subst (λ d. or_none is_format d ≡ true) a.dated e) a b
 
-some_same : (a b : Format) → Some a ≡ Some b → a ≡ b
-some_same a b e = cc
-
 -- one stamp and serial number for each member
 pub one_stamp_at : (n : Naming) (t u : ℤ) (k l : ℕ) (x : Path) → or_none is_format n.dated ≡ true → IsDatedAt n t k x → IsDatedAt n u l x → (t ≡ u) × (k ≡ l)
-one_stamp_at n t u k l x e a b = one_numbered a.format t u k l a.middle (format_apart a.format format) a.is (subst (IsNumberedStamp a.format u l) (sym middle) (subst (λ (g : Format). IsNumberedStamp g u l b.middle) (some_same b.format a.format (sym b.dated ∙ a.dated)) b.is))
+one_stamp_at n t u k l x e a b = one_numbered a.format t u k l a.middle (format_apart a.format format) a.is (subst (IsNumberedStamp a.format u l) (sym middle) (subst (λ (g : Format). IsNumberedStamp g u l b.middle) (same_Some b.format a.format (sym b.dated ∙ a.dated)) b.is))
   where
     format : is_format a.format ≡ true
     format = subst (λ d. or_none is_format d ≡ true) a.dated e

@@ -1,6 +1,7 @@
 -- A reading, piece by piece.
-use Rattle.std.proofs.Common.{◌≡◌, ◌⊎◌, inl, inr, ⊎_elim, ℕ, ◌<◌, Bool, true, false, ◌||◌, List, [], ◌∷◌, ◌++◌, length, refl, sym, ap, ◌∙◌, subst, arith, eqb-true, Some}
+use Rattle.std.proofs.Common.{◌≡◌, ◌⊎◌, ⊎_elim, ℕ, ◌<◌, Bool, true, false, List, [], ◌∷◌, ◌++◌, length, refl, sym, ap, ◌∙◌, subst, arith, eqb-true, Some}
 use Rattle.std.specs.Prelude.{◌≢◌, ◌↔◌, ◌==◌}
+use Rattle.std.proofs.lemmas.Bool.{or_parts, or_from, or_left, or_right, or_cases}
 use Rattle.lr_rules.specs.declared.rule.Field.{Field}
 use Rattle.lr_rules.specs.declared.rule.Field.TheVariants as field
 use Rattle.lr_rules.specs.declared.rule.Piece.{Piece}
@@ -89,24 +90,6 @@ no_byte before p b ps qs w e f r = let t : w ≡ b ∷ stamp_text p ps = (subst 
 
 -- ---- a field
 
-either : (a b : Bool) → (a || b) ≡ true → (a ≡ true) ⊎ (b ≡ true)
-either true b e = inl refl
-either false b e = inr e
-
-neither : (a b : Bool) → (a || b) ≡ false → (a ≡ false) × (b ≡ false)
-neither true b e = absurd (cc)
-neither false b e = (refl, e)
-
-neither_is : (a b : Bool) → a ≡ false → b ≡ false → (a || b) ≡ false
-neither_is a b p q = ap (λ c. c || b) p ∙ q
-
-here : (a b : Bool) → a ≡ true → (a || b) ≡ true
-here a b p = ap (λ c. c || b) p
-
-there : (a b : Bool) → b ≡ true → (a || b) ≡ true
-there true b p = refl
-there false b p = p
-
 field_to : (before p : StampParts) (f : Field) (v : ℕ) (ps : List Piece) (w more : List ℕ) → FieldsDiffer (piece.Field f ∷ ps) → v < bound f → w ≡ field_text f v ++ more → IsStampReading ps (with_part before f v) p more → IsStampReading (piece.Field f ∷ ps) before p w
 field_to before p f v ps w more a low e r = record { text = text; small = small; rest = rest }
   where
@@ -117,20 +100,20 @@ field_to before p f v ps w more a low e r = record { text = text; small = small;
     text = e ∙ (ap (λ u. field_text f v ++ u) r.text ∙ ap (λ n. field_text f n ++ stamp_text p ps) (sym value))
 
     small : (g : Field) → is_in g (piece.Field f ∷ ps) ≡ true → part p g < bound g
-    small g i = ⊎_elim (λ s. subst (λ (h : Field). part p h < bound h) (sym (is_same g f s)) (subst (λ (n : ℕ). n < bound f) (sym value) low)) (λ s. r.small g s) (either (same_field g f) (is_in g ps) i)
+    small g i = ⊎_elim (λ s. subst (λ (h : Field). part p h < bound h) (sym (is_same g f s)) (subst (λ (n : ℕ). n < bound f) (sym value) low)) (λ s. r.small g s) (or_cases (same_field g f) (is_in g ps) i)
 
     rest : (g : Field) → is_in g (piece.Field f ∷ ps) ≡ false → part p g ≡ part before g
-    rest g i = let n = neither (same_field g f) (is_in g ps) i in r.rest g n.1 ∙ with_other before f v g n.0
+    rest g i = let n = or_parts (same_field g f) (is_in g ps) i in r.rest g n.1 ∙ with_other before f v g n.0
 
 pub field_from : (before p : StampParts) (f : Field) (v : ℕ) (ps : List Piece) (w more : List ℕ) → FieldsDiffer (piece.Field f ∷ ps) → v < bound f → w ≡ field_text f v ++ more → HasLeft f (length ps) more → IsStampReading (piece.Field f ∷ ps) before p w → IsStampReading ps (with_part before f v) p more
-field_from before p f v ps w more a low e left r = record { text = sym split.rest; small = λ g i. r.small g (there (same_field g f) (is_in g ps) i); rest = rest }
+field_from before p f v ps w more a low e left r = record { text = sym split.rest; small = λ g i. r.small g (or_right (same_field g f) (is_in g ps) i); rest = rest }
   where
     split : IsSplit (part p f) v (stamp_text p ps) more
-    split = text_split f (part p f) v (length ps) (stamp_text p ps) more (r.small f (here (same_field f f) (is_in f ps) (itself f))) low (left_text f ps p a) left (sym r.text ∙ e)
+    split = text_split f (part p f) v (length ps) (stamp_text p ps) more (r.small f (or_left (same_field f f) (is_in f ps) (itself f))) low (left_text f ps p a) left (sym r.text ∙ e)
 
     by : (g : Field) (b : Bool) → same_field g f ≡ b → is_in g ps ≡ false → part p g ≡ part (with_part before f v) g
     by g true s i = subst (λ (h : Field). part p h ≡ part (with_part before f v) h) (sym (is_same g f s)) (split.value ∙ sym (with_same before f v))
-    by g false s i = r.rest g (neither_is (same_field g f) (is_in g ps) s i) ∙ sym (with_other before f v g s)
+    by g false s i = r.rest g (or_from (same_field g f) (is_in g ps) s i) ∙ sym (with_other before f v g s)
 
     rest : (g : Field) → is_in g ps ≡ false → part p g ≡ part (with_part before f v) g
     rest g i = by g (same_field g f) refl i
@@ -145,7 +128,7 @@ field_read before p f v ps qs w more e a h = (
 pub no_field : (before p : StampParts) (f : Field) (ps qs : List Piece) (w : List ℕ) → qs ≡ piece.Field f ∷ ps → FieldsDiffer qs → ((n : ℕ) (rest : List ℕ) → n < bound f → HasLeft f (length ps) rest → w ≢ field_text f n ++ rest) → IsStampReading qs before p w → ⊥
 no_field before p f ps qs w e a none r =
     let r' : IsStampReading (piece.Field f ∷ ps) before p w = subst (λ (os : List Piece). IsStampReading os before p w) e r in
-    none (part p f) (stamp_text p ps) (r'.small f (here (same_field f f) (is_in f ps) (itself f))) (left_text f ps p (subst FieldsDiffer e a)) r'.text
+    none (part p f) (stamp_text p ps) (r'.small f (or_left (same_field f f) (is_in f ps) (itself f))) (left_text f ps p (subst FieldsDiffer e a)) r'.text
 
 pub empty_is : (w : List ℕ) → true ≡ (length w == 0) → w ≡ []
 empty_is [] e = refl
@@ -165,4 +148,4 @@ one_reading before p q (piece.Field f ∷ ps) w a r s =
     (field_from before q f (part p f) ps w (stamp_text p ps) a low r.text (left_text f ps p a) s)
   where
     low : part p f < bound f
-    low = r.small f (here (same_field f f) (is_in f ps) (itself f))
+    low = r.small f (or_left (same_field f f) (is_in f ps) (itself f))

@@ -3,6 +3,7 @@ use Rattle.std.proofs.Common.{◌≡◌, ◌⊎◌, inl, inr, ℕ, ◌<◌, ◌�
 use Rattle.std.proofs.lemmas.Bool.{cases_lt}
 use Rattle.std.proofs.lemmas.Int.{ints}
 use borrow.Author.Differences.{up, down}
+use Rattle.std.proofs.lemmas.Option.{same_Some}
 use Rattle.jiff_core.specs.Calendar.{IsCivilDate, days_from_civil, day_count}
 use Rattle.jiff_core.proofs.CalendarLemmas.{days_from_civil-day_count, day_count-lt_year, day_count-lt_month, day_count-day}
 use Rattle.lr_rules.specs.declared.path.Path.{Path}
@@ -88,9 +89,6 @@ civil_same q r a b e f n = by f n
     by field.Second n = let i : q.minute < 60 = a.3 in let s : q.second < 60 = a.4 in let i₂ : r.minute < 60 = b.3 in let s₂ : r.second < 60 = b.4 in omega (arith, rest)
     by field.Epoch n = absurd (n refl)
 
-some_same : {A : Type 0} (a b : A) → Some a ≡ Some b → a ≡ b
-some_same a b e = cc
-
 pos_same : (a b : ℕ) → pos a ≡ pos b → a ≡ b
 pos_same a b e = cc
 
@@ -138,10 +136,10 @@ pub member_same : (n : Naming) (f : Format) (t : ℤ) (k : ℕ) (x y : Path) →
 member_same n f t k x y d e a b = a.named ∙ (ap (λ (w : List ℕ). joined n.dir (n.base ++ w ++ n.ext)) middles ∙ sym b.named)
   where
     one : IsNumberedStamp f t k a.middle
-    one = subst (λ (g : Format). IsNumberedStamp g t k a.middle) (some_same a.format f (sym a.dated ∙ d)) a.is
+    one = subst (λ (g : Format). IsNumberedStamp g t k a.middle) (same_Some a.format f (sym a.dated ∙ d)) a.is
 
     two : IsNumberedStamp f t k b.middle
-    two = subst (λ (g : Format). IsNumberedStamp g t k b.middle) (some_same b.format f (sym b.dated ∙ d)) b.is
+    two = subst (λ (g : Format). IsNumberedStamp g t k b.middle) (same_Some b.format f (sym b.dated ∙ d)) b.is
 
     middles : a.middle ≡ b.middle
     middles = one.text ∙ (ap (λ (w : List ℕ). w ++ serial_text k) (stamp_same f e t one.stamp two.stamp one.is two.is) ∙ sym two.text)

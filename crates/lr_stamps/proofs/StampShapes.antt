@@ -1,7 +1,8 @@
 -- A dated member has a member's shape.
-use Rattle.std.proofs.Common.{◌≡◌, ◌∙◌, inl, inr, ℕ, zero, suc, ◌+◌, ◌%◌, ◌/◌, ◌≤◌, ◌<◌, Bool, true, false, ◌||◌, refl, sym, ap, subst, arith, append_assoc, append-nil, List, [], ◌∷◌, ◌++◌, Some, ℤ}
+use Rattle.std.proofs.Common.{◌≡◌, ◌∙◌, inl, inr, ℕ, zero, suc, ◌+◌, ◌%◌, ◌/◌, ◌≤◌, ◌<◌, true, refl, sym, ap, subst, arith, append_assoc, append-nil, List, [], ◌∷◌, ◌++◌, Some, ℤ}
 use Rattle.std.specs.Prelude.{decimal}
 use Rattle.std.proofs.lemmas.List.Elements.{All-cons, All-append}
+use Rattle.std.proofs.lemmas.Bool.{or_left, or_right}
 use Rattle.lr_rules.specs.declared.path.Path.{Path}
 use Rattle.lr_rules.specs.declared.stamp_parts.StampParts.{StampParts}
 use Rattle.lr_rules.specs.declared.rule.Field.{Field}
@@ -32,17 +33,10 @@ text_shape field.Hour n lt = (refl, two_digits n lt)
 text_shape field.Minute n lt = (refl, two_digits n lt)
 text_shape field.Second n lt = (refl, two_digits n lt)
 
-here : (a b : Bool) → a ≡ true → (a || b) ≡ true
-here a b p = ap (λ c. c || b) p
-
-there : (a b : Bool) → b ≡ true → (a || b) ≡ true
-there true b p = refl
-there false b p = p
-
 stamp_shape : (p : StampParts) (ps : List Piece) → ((f : Field) → is_in f ps ≡ true → part p f < bound f) → IsStampShape ps (stamp_text p ps)
 stamp_shape p [] h = refl
 stamp_shape p (piece.Byte b ∷ ps) h = (stamp_text p ps, refl, stamp_shape p ps h)
-stamp_shape p (piece.Field f ∷ ps) h = (field_text f (part p f), stamp_text p ps, refl, text_shape f (part p f) (h f (here (same_field f f) (is_in f ps) (itself f))), stamp_shape p ps (λ g i. h g (there (same_field g f) (is_in g ps) i)))
+stamp_shape p (piece.Field f ∷ ps) h = (field_text f (part p f), stamp_text p ps, refl, text_shape f (part p f) (h f (or_left (same_field f f) (is_in f ps) (itself f))), stamp_shape p ps (λ g i. h g (or_right (same_field g f) (is_in g ps) i)))
 
 pieces_shape : (ps qs : List Piece) (w v : List ℕ) → IsStampShape ps w → IsStampShape qs v → IsStampShape (ps ++ qs) (w ++ v)
 pieces_shape [] qs w v h k = subst (λ (u : List ℕ). IsStampShape qs (u ++ v)) (sym h) k

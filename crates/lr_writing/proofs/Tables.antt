@@ -7,6 +7,7 @@ use Rattle.lr_state.specs.Table.{Entry}
 use Rattle.lr_state.specs.Written.{entry_line, text_of}
 use Rattle.lr_state.specs.Grammar.{top_2}
 use borrow.Rule.Slice.PartMut.{put_mid}
+use Rattle.std.proofs.lemmas.Grind.{flat_map-append}
 
 pub entry_at : (es : List Entry) (k : ℕ) → k < length es → (e : Entry) × (slice_get es k ≡ Some e)
 entry_at [] k lt = absurd (omega arith)
@@ -24,14 +25,10 @@ flat_suc f (x ∷ xs) (suc k) e at = ap (λ t. f x ++ t) (flat_suc f xs k e at) 
 pub text_next : (es : List Entry) (k : ℕ) (e : Entry) → slice_get es k ≡ Some e → text_of (take (k + 1) es) ≡ text_of (take k es) ++ entry_line e
 text_next es k e at = ap (λ n. text_of (take n es)) (add-one k) ∙ (ap (λ xs. (top_2 ++ 10 ∷ []) ++ xs) (flat_suc entry_line es k e at) ∙ sym (append_assoc (top_2 ++ 10 ∷ []) (flat_map entry_line (take k es)) (entry_line e)))
 
-flat_both : (f : Entry → List ℕ) (es fs : List Entry) → flat_map f (es ++ fs) ≡ flat_map f es ++ flat_map f fs
-flat_both f [] fs = refl
-flat_both f (e ∷ es) fs = ap (λ t. f e ++ t) (flat_both f es fs) ∙ sym (append_assoc (f e) (flat_map f es) (flat_map f fs))
-
 -- the lines so far, and those that follow
 pub text_rest : (es : List Entry) (k : ℕ) → text_of (take k es) ++ flat_map entry_line (drop k es) ≡ text_of es
 text_rest es k = append_assoc (top_2 ++ 10 ∷ []) (flat_map entry_line (take k es)) (flat_map entry_line (drop k es))
-    ∙ ap (λ xs. (top_2 ++ 10 ∷ []) ++ xs) (sym (flat_both entry_line (take k es) (drop k es)) ∙ ap (flat_map entry_line) (take-append-drop k es))
+    ∙ ap (λ xs. (top_2 ++ 10 ∷ []) ++ xs) (sym (flat_map-append entry_line (take k es) (drop k es)) ∙ ap (flat_map entry_line) (take-append-drop k es))
 
 pub text_all : (es : List Entry) (k : ℕ) → k ≡ length es → text_of (take k es) ≡ text_of es
 text_all es k e = ap text_of (take_all k es (omega (arith, e)))
