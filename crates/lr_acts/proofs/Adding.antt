@@ -1,5 +1,6 @@
 -- What parts of the acts add, one behind another.
 use Rattle.std.proofs.Common.{◌≡◌, ℕ, ◌+◌, ◌≤◌, refl, sym, ◌∙◌, ap, subst, List, [], ◌∷◌, ◌++◌, append_assoc, append-nil, Option, Ok, arith}
+use Rattle.std.specs.Prelude.{option_to_list}
 use Rattle.lr_rules.specs.declared.fault.Fault.{Fault}
 use Rattle.lr_rules.specs.declared.fault.Fault.TheVariants as fault
 use Rattle.lr_host.specs.declared.entry.Entry.{Entry}
@@ -14,7 +15,7 @@ use Rattle.lr_plan.specs.Course.{Part, Nothing, StepFails}
 use Rattle.lr_host.proofs.Counts.{free_none, counted_on, counted_none, counted_free, counted_call, counted_script, onward_same, onward_on}
 use Rattle.lr_acts.specs.declared.progress.Progress.{Progress}
 use Rattle.lr_acts.specs.Adding.{AddsSteps, HasRoom, FillsRoom}
-use Rattle.lr_acts.specs.Making.{FaultCause, StepNames, WasMade, list_of}
+use Rattle.lr_acts.specs.Making.{FaultCause, StepNames, WasMade}
 use Rattle.lr_acts.specs.Named.{KeepsNames}
 use Rattle.lr_acts.proofs.Naming.{made_names, failed_names, nothing_names, same_names, names_of_more, names_on}
 use Rattle.lr_acts.proofs.Taking.{made_taken, failed_taken, nothing_taken, same_taken, taken_of_more, taken_on}
@@ -103,10 +104,10 @@ counted_one fault.Out a b o n h le = absurd h
 counted_one f a b o n h le = counted_free (f ∷ []) a b (record { calls = refl; scripts = refl; none_around = ((λ h. h), tt) }) le
 
 -- one step was made
-pub step_made : (step : Step) (told : Option Mark) (x y : Progress) {o n : Option Journal} {a b : Counts} → list_of told ≡ marks_of step → y.marks.items ≡ x.marks.items ++ list_of told → y.faults.items ≡ x.faults.items ++ []
+pub step_made : (step : Step) (told : Option Mark) (x y : Progress) {o n : Option Journal} {a b : Counts} → option_to_list told ≡ marks_of step → y.marks.items ≡ x.marks.items ++ option_to_list told → y.faults.items ≡ x.faults.items ++ []
     → Left (Succeeds step) o n → StepNames step (Ok told) n → Onward a b → AddsSteps (WasMade step) (step ∷ []) x y o n a b
 step_made step told x y {o = o} {n = n} {a = a} {b = b} e ms fs l named onward = record {
-  marks = list_of told;
+  marks = option_to_list told;
   faults = [];
   marks_are = ms;
   faults_are = fs;

@@ -1,5 +1,5 @@
 -- What one step of the acts comes to.
-use Rattle.std.specs.Prelude.{◌≡◌, ◌⊎◌, ℕ, Bool, true, false, List, [], ◌∷◌, ◌++◌, Option, Some, None, Result, Ok, Err, IfOk}
+use Rattle.std.specs.Prelude.{◌≡◌, ◌⊎◌, ℕ, Bool, true, false, List, [], ◌∷◌, ◌++◌, Option, Result, Ok, Err, IfOk}
 use Rattle.lr_rules.specs.declared.fault.Fault.{Fault}
 use Rattle.lr_rules.specs.declared.fault.Fault.TheVariants as fault
 use Rattle.lr_rules.specs.declared.memory.Memory.{Memory}
@@ -39,10 +39,6 @@ abbrev pub program_stop : List ℕ → Command → Bad → Stop
 program_stop on command (bad.Script phase end) = stop.Fault (fault.Script phase on end)
 program_stop on command (bad.Call kind) = stop.Fault (fault.Call kind command.program)
 program_stop on command bad.Memory = stop.Memory
-
-abbrev pub list_of : Option Mark → List Mark
-list_of None = []
-list_of (Some m) = m ∷ []
 
 -- A failed call is told only where faults rose, a bad end only where bad ends did, a taken path only where it is named; the clock,
 -- the zone and the output have no fault here.

@@ -1,11 +1,11 @@
 // The bytes of a file, copied behind those of another.
-ghost use Rattle.std.specs.Prelude.{◌≡◌, ◌≢◌, ◌<◌, ◌≤◌, Err, [], length, IfOk, IfErr};
+ghost use Rattle.std.specs.Prelude.{◌≡◌, ◌≢◌, ◌<◌, ◌≤◌, Err, [], length, IfOk, IfErr, option_to_list};
 ghost use Rattle.lr_host.specs.declared.entry.Entry.TheVariants as entry;
 ghost use Rattle.lr_host.specs.Told.{Left, Can, Onward};
 ghost use Rattle.lr_plan.specs.Outcomes.{bytes_fault};
 ghost use Rattle.lr_plan.specs.declared.step.Step.TheVariants as step;
 ghost use Rattle.lr_acts.specs.declared.stop.Stop.TheVariants as stop;
-ghost use Rattle.lr_acts.specs.Making.{StepLeft, StopCause, list_of};
+ghost use Rattle.lr_acts.specs.Making.{StepLeft, StopCause};
 
 use crate::stop::Stop;
 use lr_copy::{BytesStop, copy_bytes};
@@ -37,7 +37,7 @@ pub fn copy_file<H: Host>(
     requires read { Can (H.told host.old) (entry.Reads from 0 []) }
     requires append { Can (H.told host.old) (entry.Appends to []) }
     ensures told { Left (StepLeft (step.Copies from to limit) result) (H.told host.old) (H.told host.new) }
-    ensures marks { IfOk result (λ told. list_of told ≡ []) }
+    ensures marks { IfOk result (λ told. option_to_list told ≡ []) }
     ensures cause { IfErr result (λ why. StopCause why (H.counts host.old) (H.counts host.new) (H.told host.old)
         (H.told host.new)) }
     ensures memory { result ≢ Err stop.Memory }

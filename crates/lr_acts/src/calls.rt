@@ -1,5 +1,5 @@
 // The steps that make one call, each by itself.
-ghost use Rattle.std.specs.Prelude.{◌≡◌, ◌≢◌, Err, [], ◌∷◌, IfOk, IfErr};
+ghost use Rattle.std.specs.Prelude.{◌≡◌, ◌≢◌, Err, [], ◌∷◌, IfOk, IfErr, option_to_list};
 ghost use Rattle.lr_rules.specs.declared.fault.Ended.TheVariants as ended;
 ghost use Rattle.lr_host.specs.declared.entry.Entry.TheVariants as entry;
 ghost use Rattle.lr_host.specs.Told.{Left, Can, Onward};
@@ -8,7 +8,7 @@ ghost use Rattle.lr_plan.specs.Outcomes.{dir_fault};
 ghost use Rattle.lr_plan.specs.declared.mark.Mark.TheVariants as mark;
 ghost use Rattle.lr_plan.specs.declared.step.Step.TheVariants as step;
 ghost use Rattle.lr_acts.specs.declared.stop.Stop.TheVariants as stop;
-ghost use Rattle.lr_acts.specs.Making.{StepLeft, StopCause, list_of, program_stop};
+ghost use Rattle.lr_acts.specs.Making.{StepLeft, StopCause, program_stop};
 ghost use Rattle.lr_acts.specs.Named.{PathIsNamed};
 
 use crate::stop::Stop;
@@ -43,7 +43,7 @@ pub fn run_program<H: Host>(
 ) -> Result<Option<Mark>, Stop>
     requires { Can (H.told host.old) (runs command ended.Killed) }
     ensures told { Left (StepLeft (step.Runs phase on command) result) (H.told host.old) (H.told host.new) }
-    ensures marks { IfOk result (λ told. list_of told ≡ []) }
+    ensures marks { IfOk result (λ told. option_to_list told ≡ []) }
     ensures cause { IfErr result (λ why. StopCause why (H.counts host.old) (H.counts host.new) (H.told host.old)
         (H.told host.new)) }
     ensures counts { Onward (H.counts host.old) (H.counts host.new) }
@@ -58,7 +58,7 @@ pub fn run_program<H: Host>(
 pub fn remove_file<H: Host>(host: &mut H, path: Path) -> Result<Option<Mark>, Stop>
     requires { Can (H.told host.old) (entry.Unlinks path) }
     ensures told { Left (StepLeft (step.Removes path) result) (H.told host.old) (H.told host.new) }
-    ensures marks { IfOk result (λ told. list_of told ≡ []) }
+    ensures marks { IfOk result (λ told. option_to_list told ≡ []) }
     ensures cause { IfErr result (λ why. StopCause why (H.counts host.old) (H.counts host.new) (H.told host.old)
         (H.told host.new)) }
     ensures memory { result ≢ Err stop.Memory }
@@ -74,7 +74,7 @@ pub fn remove_file<H: Host>(host: &mut H, path: Path) -> Result<Option<Mark>, St
 pub fn rename_file<H: Host>(host: &mut H, from: Path, to: Path) -> Result<Option<Mark>, Stop>
     requires { Can (H.told host.old) (entry.Renames from to) }
     ensures told { Left (StepLeft (step.Renames from to) result) (H.told host.old) (H.told host.new) }
-    ensures marks { IfOk result (λ told. list_of told ≡ []) }
+    ensures marks { IfOk result (λ told. option_to_list told ≡ []) }
     ensures cause { IfErr result (λ why. StopCause why (H.counts host.old) (H.counts host.new) (H.told host.old)
         (H.told host.new)) }
     ensures memory { result ≢ Err stop.Memory }
@@ -105,7 +105,7 @@ pub fn make_directory<H: Host>(
 ) -> Result<Option<Mark>, Stop>
     requires { Can (H.told host.old) (entry.MakesDir path mode) }
     ensures told { Left (StepLeft (step.MakesDir path mode) result) (H.told host.old) (H.told host.new) }
-    ensures marks { IfOk result (λ told. list_of told ≡ mark.Directory path ∷ []) }
+    ensures marks { IfOk result (λ told. option_to_list told ≡ mark.Directory path ∷ []) }
     ensures cause { IfErr result (λ why. StopCause why (H.counts host.old) (H.counts host.new) (H.told host.old)
         (H.told host.new)) }
     ensures memory { result ≢ Err stop.Memory }
@@ -125,7 +125,7 @@ pub fn create_file<H: Host>(
 ) -> Result<Option<Mark>, Stop>
     requires { Can (H.told host.old) (entry.Makes path mode) }
     ensures told { Left (StepLeft (step.Creates path mode) result) (H.told host.old) (H.told host.new) }
-    ensures marks { IfOk result (λ told. list_of told ≡ mark.Created path ∷ []) }
+    ensures marks { IfOk result (λ told. option_to_list told ≡ mark.Created path ∷ []) }
     ensures named { IfOk result (λ told. PathIsNamed path (H.told host.new)) }
     ensures cause { IfErr result (λ why. StopCause why (H.counts host.old) (H.counts host.new) (H.told host.old)
         (H.told host.new)) }
@@ -143,7 +143,7 @@ pub fn create_file<H: Host>(
 pub fn take_file<H: Host>(host: &mut H, path: Path, mode: Option<u32>) -> Result<Option<Mark>, Stop>
     requires { Can (H.told host.old) (entry.Makes path mode) }
     ensures told { Left (StepLeft (step.Takes path mode) result) (H.told host.old) (H.told host.new) }
-    ensures marks { IfOk result (λ told. list_of told ≡ []) }
+    ensures marks { IfOk result (λ told. option_to_list told ≡ []) }
     ensures cause { IfErr result (λ why. StopCause why (H.counts host.old) (H.counts host.new) (H.told host.old)
         (H.told host.new)) }
     ensures memory { result ≢ Err stop.Memory }
@@ -160,7 +160,7 @@ pub fn take_file<H: Host>(host: &mut H, path: Path, mode: Option<u32>) -> Result
 pub fn sync_file<H: Host>(host: &mut H, path: Path) -> Result<Option<Mark>, Stop>
     requires { Can (H.told host.old) (entry.SyncsFile path) }
     ensures told { Left (StepLeft (step.SyncsFile path) result) (H.told host.old) (H.told host.new) }
-    ensures marks { IfOk result (λ told. list_of told ≡ []) }
+    ensures marks { IfOk result (λ told. option_to_list told ≡ []) }
     ensures cause { IfErr result (λ why. StopCause why (H.counts host.old) (H.counts host.new) (H.told host.old)
         (H.told host.new)) }
     ensures memory { result ≢ Err stop.Memory }
@@ -176,7 +176,7 @@ pub fn sync_file<H: Host>(host: &mut H, path: Path) -> Result<Option<Mark>, Stop
 pub fn sync_directory<H: Host>(host: &mut H, path: Path) -> Result<Option<Mark>, Stop>
     requires { Can (H.told host.old) (entry.SyncsDir path) }
     ensures told { Left (StepLeft (step.SyncsDir path) result) (H.told host.old) (H.told host.new) }
-    ensures marks { IfOk result (λ told. list_of told ≡ []) }
+    ensures marks { IfOk result (λ told. option_to_list told ≡ []) }
     ensures cause { IfErr result (λ why. StopCause why (H.counts host.old) (H.counts host.new) (H.told host.old)
         (H.told host.new)) }
     ensures memory { result ≢ Err stop.Memory }
@@ -192,7 +192,7 @@ pub fn sync_directory<H: Host>(host: &mut H, path: Path) -> Result<Option<Mark>,
 pub fn empty_file<H: Host>(host: &mut H, path: Path) -> Result<Option<Mark>, Stop>
     requires { Can (H.told host.old) (entry.Truncates path) }
     ensures told { Left (StepLeft (step.Truncates path) result) (H.told host.old) (H.told host.new) }
-    ensures marks { IfOk result (λ told. list_of told ≡ []) }
+    ensures marks { IfOk result (λ told. option_to_list told ≡ []) }
     ensures cause { IfErr result (λ why. StopCause why (H.counts host.old) (H.counts host.new) (H.told host.old)
         (H.told host.new)) }
     ensures memory { result ≢ Err stop.Memory }

@@ -1,12 +1,12 @@
 // One step of the acts, made on a host.
-ghost use Rattle.std.specs.Prelude.{◌≡◌, ◌<◌, ◌≤◌, length, Err, IfOk, IfErr};
+ghost use Rattle.std.specs.Prelude.{◌≡◌, ◌<◌, ◌≤◌, length, Err, IfOk, IfErr, option_to_list};
 ghost use Rattle.lr_host.specs.Told.{Left, Onward};
 ghost use Rattle.lr_host.specs.Steps.{CanAll};
 ghost use Rattle.lr_plan.specs.Asking.{asks};
 ghost use Rattle.lr_plan.specs.Cut.{IsProgram};
 ghost use Rattle.lr_plan.specs.Outcomes.{marks_of};
 ghost use Rattle.lr_acts.specs.declared.stop.Stop.TheVariants as stop;
-ghost use Rattle.lr_acts.specs.Making.{StepLeft, StepNames, StopCause, list_of};
+ghost use Rattle.lr_acts.specs.Making.{StepLeft, StepNames, StopCause};
 
 use crate::bytes::copy_file;
 use crate::calls::{
@@ -31,7 +31,7 @@ pub fn make<H: Host>(
     requires short { length buffer.old ≤ 65536 }
     requires fits { CanAll (H.told host.old) (asks step) }
     ensures told { Left (StepLeft step result) (H.told host.old) (H.told host.new) }
-    ensures marks { IfOk result (λ told. list_of told ≡ marks_of step) }
+    ensures marks { IfOk result (λ told. option_to_list told ≡ marks_of step) }
     ensures named { StepNames step result (H.told host.new) }
     ensures cause { IfErr result (λ why. StopCause why (H.counts host.old) (H.counts host.new) (H.told host.old)
         (H.told host.new)) }

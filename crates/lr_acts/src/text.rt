@@ -1,11 +1,11 @@
 // A text that is appended in pieces.
-ghost use Rattle.std.specs.Prelude.{◌≡◌, ◌≢◌, Err, [], OnOk, OnErr, IfOk, IfErr};
+ghost use Rattle.std.specs.Prelude.{◌≡◌, ◌≢◌, Err, [], OnOk, OnErr, IfOk, IfErr, option_to_list};
 ghost use Rattle.lr_host.specs.declared.entry.Entry.TheVariants as entry;
 ghost use Rattle.lr_host.specs.Told.{Left, Can, Onward, Rose};
 ghost use Rattle.lr_plan.specs.Appending.{Appended, AppendBroke};
 ghost use Rattle.lr_plan.specs.declared.step.Step.TheVariants as step;
 ghost use Rattle.lr_acts.specs.declared.stop.Stop.TheVariants as stop;
-ghost use Rattle.lr_acts.specs.Making.{StepLeft, StopCause, list_of};
+ghost use Rattle.lr_acts.specs.Making.{StepLeft, StopCause};
 
 use crate::stop::Stop;
 use lr_host::{CallFault, Host};
@@ -34,7 +34,7 @@ fn append_all<H: Host>(host: &mut H, path: &Path, bytes: &[u8]) -> Result<(), Ca
 pub fn append_text<H: Host>(host: &mut H, path: Path, text: Text) -> Result<Option<Mark>, Stop>
     requires { Can (H.told host.old) (entry.Appends path []) }
     ensures told { Left (StepLeft (step.Appends path text) result) (H.told host.old) (H.told host.new) }
-    ensures marks { IfOk result (λ told. list_of told ≡ []) }
+    ensures marks { IfOk result (λ told. option_to_list told ≡ []) }
     ensures cause { IfErr result (λ why. StopCause why (H.counts host.old) (H.counts host.new) (H.told host.old)
         (H.told host.new)) }
     ensures memory { result ≢ Err stop.Memory }

@@ -1,6 +1,6 @@
 -- The looks at a log's family, where it waits that is set aside, and at the log.
 use Rattle.std.proofs.Common.{◌≡◌, ◌≤◌, inl, inr, ℕ, Bool, true, false, List, [], ◌∷◌, ◌++◌, map, reverse, refl, sym, ap, ◌∙◌, subst, arith, Option, Some, None, is_some}
-use Rattle.std.specs.Prelude.{All, filter}
+use Rattle.std.specs.Prelude.{All, filter, option_to_list}
 use Rattle.std.proofs.lemmas.List.Elements.{All-head, All-nil, All-tail}
 use Rattle.lr_rules.specs.declared.path.Path.{Path}
 use Rattle.lr_rules.specs.declared.rule.Naming.{Naming}
@@ -35,7 +35,7 @@ use Rattle.lr_cat.specs.declared.seeing.FileStop.TheVariants as files
 use Rattle.lr_cat.specs.declared.seeing.Found.{Found}
 use Rattle.lr_cat.specs.declared.stop.CatStop.{CatStop}
 use Rattle.lr_cat.specs.InternalSaw.{FindsNoFile, SeesAll, SeesNot, file_fault, found_if, stand_stop}
-use Rattle.lr_cat.specs.Saw.{Finds, FindsBoth, FindsNone, FindsNot, SeesNone, not_stood, not_looked, no_file, not_found, aside_of, files_behind, listed}
+use Rattle.lr_cat.specs.Saw.{Finds, FindsBoth, FindsNone, FindsNot, SeesNone, not_stood, not_looked, no_file, not_found, aside_of, files_behind}
 use Rattle.lr_glob.specs.Looking.{IsSight, AreSights}
 use Rattle.lr_cat.specs.Texts.{CanReadAll, HasCause}
 
@@ -165,14 +165,14 @@ can_both [] ys told first second = second
 can_both (x ∷ xs) ys told first second = (first.0, can_both xs ys told first.1 second)
 
 -- what was found first can be read behind the next look
-pub can_on : (found path own : Option Path) {o m : Option Journal} → CanReadAll o (listed found) → Left (Finds path own) o m → CanReadAll m (listed found)
-can_on found path own can l = can_later (listed found) can l (λ ts s. looks_unnamed ts (finds_looks path own ts s))
+pub can_on : (found path own : Option Path) {o m : Option Journal} → CanReadAll o (option_to_list found) → Left (Finds path own) o m → CanReadAll m (option_to_list found)
+can_on found path own can l = can_later (option_to_list found) can l (λ ts s. looks_unnamed ts (finds_looks path own ts s))
 
 pub files_can : (n : Naming) (stand : Stand) (aside : Option Path) (log : Path) (found : Found) (files : List Path) {o m k : Option Journal} → Left (ShowsStand n stand) o m → Left (FindsBoth aside log found.aside found.log) m k
-    → CanReadAll k (listed found.aside) → CanReadAll k (listed found.log) → files ≡ files_behind found.log found.aside stand.members → CanReadAll k files
+    → CanReadAll k (option_to_list found.aside) → CanReadAll k (option_to_list found.log) → files ≡ files_behind found.log found.aside stand.members → CanReadAll k files
 files_can n stand aside log found files {k = k} l f set own is = subst (CanReadAll k) (sym is)
-    (can_both (listed found.log) (listed found.aside ++ map (λ (m : Member). m.path) stand.members) k own
-    (can_both (listed found.aside) (map (λ (m : Member). m.path) stand.members) k set
+    (can_both (option_to_list found.log) (option_to_list found.aside ++ map (λ (m : Member). m.path) stand.members) k own
+    (can_both (option_to_list found.aside) (map (λ (m : Member). m.path) stand.members) k set
     (can_later (map (λ (m : Member). m.path) stand.members) (members_can n stand l) f (λ ts s. looks_unnamed ts (both_looks aside log found.aside found.log ts s)))))
 
 -- ---- what the looks came to

@@ -2,6 +2,7 @@
 use Rattle.std.proofs.Common.{◌≡◌, inl, inr, ℕ, ℤ, Bool, List, [], ◌∷◌, ◌++◌, map, reverse, Option, Some, None, is_some, Result, Ok, true, refl, sym, ap, ◌∙◌, subst, append_assoc}
 use Rattle.std.proofs.lemmas.List.{reverse-reverse}
 use Rattle.std.proofs.lemmas.Option.{same_Some}
+use Rattle.std.specs.Prelude.{option_to_list}
 use Rattle.lr_rules.specs.declared.path.Path.{Path}
 use Rattle.lr_rules.specs.declared.clock.Clock.{Clock}
 use Rattle.lr_rules.specs.declared.rules.Rules.{Rules}
@@ -29,7 +30,7 @@ use Rattle.lr_cat.specs.declared.words.Wanted.{Wanted}
 use Rattle.lr_cat.specs.Came.{Came, own_of, LogEnds, held, short, called, RulesEnd, no_log, lacks, given, ConfsEnd, not_read, broke_off, read, CatEnds, no_clock, no_memory, behind_clock, CatShows, bad_words, no_words, wants}
 use Rattle.lr_cat.specs.Cats.{Cats, no_directory, began}
 use Rattle.lr_cat.specs.History.{HasTextOf, IsHistory}
-use Rattle.lr_cat.specs.Saw.{Finds, FamilySaw, ShowsFamilySaw, Works, read_all, aside_of, files_behind, files_of, listed}
+use Rattle.lr_cat.specs.Saw.{Finds, FamilySaw, ShowsFamilySaw, Works, read_all, aside_of, files_behind, files_of}
 use Rattle.lr_cat.specs.Texts.{FileText, text_paths, ReadsWhole, ReadsTexts, ReadsAllOf}
 use Rattle.lr_cat.specs.Words.{wanted}
 use Rattle.lr_cat.proofs.Lasting.{text_of}
@@ -117,8 +118,8 @@ has_text : (files : List Path) (texts : List FileText) (x : Path) → files ≡ 
 has_text files texts x is i = in_unmap (λ (t : FileText). t.path) x texts (subst (IsIn x) is i)
 
 -- the log, what was set aside, and each member, is one of the files
-in_listed : (x : Path) (found : Option Path) → found ≡ Some x → IsIn x (listed found)
-in_listed x found is = subst (λ (o : Option Path). IsIn x (listed o)) (sym is) (inl refl)
+in_listed : (x : Path) (found : Option Path) → found ≡ Some x → IsIn x (option_to_list found)
+in_listed x found is = subst (λ (o : Option Path). IsIn x (option_to_list o)) (sym is) (inl refl)
 
 -- and a log that waits is told of
 waits_so : (o : Option Path) (x : Path) (how : Result Bool Fault) → how ≡ Ok (is_some o) → o ≡ Some x → how ≡ Ok true
@@ -129,13 +130,13 @@ module _ (saw : FamilySaw) where
   members = map (λ (m : Member). m.path) saw.stand.members
 
   log_file : (x : Path) → saw.log ≡ Some x → IsIn x (files_of saw)
-  log_file x is = in_reverse x (files_behind saw.log saw.aside saw.stand.members) (in_front x (listed saw.log) (listed saw.aside ++ members) (in_listed x saw.log is))
+  log_file x is = in_reverse x (files_behind saw.log saw.aside saw.stand.members) (in_front x (option_to_list saw.log) (option_to_list saw.aside ++ members) (in_listed x saw.log is))
 
   aside_file : (x : Path) → saw.aside ≡ Some x → IsIn x (files_of saw)
-  aside_file x is = in_reverse x (files_behind saw.log saw.aside saw.stand.members) (in_back x (listed saw.log) (listed saw.aside ++ members) (in_front x (listed saw.aside) members (in_listed x saw.aside is)))
+  aside_file x is = in_reverse x (files_behind saw.log saw.aside saw.stand.members) (in_back x (option_to_list saw.log) (option_to_list saw.aside ++ members) (in_front x (option_to_list saw.aside) members (in_listed x saw.aside is)))
 
   member_file : (x : Path) → HasMember saw.stand.members x → IsIn x (files_of saw)
-  member_file x h = in_reverse x (files_behind saw.log saw.aside saw.stand.members) (in_back x (listed saw.log) (listed saw.aside ++ members) (in_back x (listed saw.aside) members among))
+  member_file x h = in_reverse x (files_behind saw.log saw.aside saw.stand.members) (in_back x (option_to_list saw.log) (option_to_list saw.aside ++ members) (in_back x (option_to_list saw.aside) members among))
     where
       among : IsIn x members
       among = subst (λ (y : Path). IsIn y members) h.2 (in_map (λ (m : Member). m.path) h.0 saw.stand.members h.1)

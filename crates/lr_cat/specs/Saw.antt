@@ -1,6 +1,6 @@
 -- What a call saw of a log's history, and the files that this has.
 use Rattle.std.specs.Prelude.{◌≡◌, ◌⊎◌, Bool, true, false, List, [], ◌∷◌, ◌++◌, map, reverse, Option, Some, None, is_some}
-use Rattle.std.specs.Prelude.{Result, Ok, Err}
+use Rattle.std.specs.Prelude.{Result, Ok, Err, option_to_list}
 use Rattle.lr_rules.specs.declared.path.Path.{Path}
 use Rattle.lr_rules.specs.declared.rule.Naming.{Naming}
 use Rattle.lr_rules.specs.declared.fault.CallKind.TheVariants as call
@@ -30,11 +30,6 @@ pub data FindsNot (path : Option Path) (f : Fault) (ts : List Entry) : Type 0 wh
   not_looked : (x : Path) → path ≡ Some x → f ≡ fault.Call call.Look x → ts ≡ [] → FindsNot path f ts
   no_file : (x : Path) → path ≡ Some x → f ≡ fault.NotFile x → Sees x IsNoFile ts → FindsNot path f ts
 
--- the path, if there is one
-abbrev pub listed : Option Path → List Path
-listed None = []
-listed (Some path) = path ∷ []
-
 -- ---- beside the members
 
 -- where the log waits that is set aside, if its way does that
@@ -63,7 +58,7 @@ ShowsFamilySaw n log saw = Then (ShowsStand n saw.stand) (FindsBoth (aside_of n.
 
 -- the log, where it is there, behind it what was set aside, and these members
 abbrev pub files_behind : Option Path → Option Path → List Member → List Path
-files_behind log aside members = listed log ++ (listed aside ++ map (λ m. m.path) members)
+files_behind log aside members = option_to_list log ++ (option_to_list aside ++ map (λ m. m.path) members)
 
 -- The files of the call: the members, the oldest first, then what was set aside and not yet copied, which is newer than they are,
 -- and then the log, where it is there.

@@ -1,10 +1,10 @@
 // The looks at a log's family, where the log waits that is set aside, and at the log.
-ghost use Rattle.std.specs.Prelude.{◌≡◌, ◌++◌, [], ℕ, is_some, map, true, Some, Ok, Err, IfOk, IfErr, OnOk};
+ghost use Rattle.std.specs.Prelude.{◌≡◌, ◌++◌, [], ℕ, is_some, map, true, Some, Ok, Err, IfOk, IfErr, OnOk, option_to_list};
 ghost use Rattle.lr_rules.specs.Limits.{is_format, or_none};
 ghost use Rattle.lr_host.specs.declared.entry.Entry.TheVariants as entry;
 ghost use Rattle.lr_host.specs.Told.{Left, Can, Onward, Rose};
 ghost use Rattle.lr_cat.specs.InternalSaw.{FindsNoFile, SeesAll, SeesNot, file_fault, found_if, stand_stop};
-ghost use Rattle.lr_cat.specs.Saw.{Finds, FindsBoth, FindsNone, FindsNot, aside_of, files_behind, listed};
+ghost use Rattle.lr_cat.specs.Saw.{Finds, FindsBoth, FindsNone, FindsNot, aside_of, files_behind};
 ghost use Rattle.lr_cat.specs.Stops.{StopCause};
 ghost use Rattle.lr_cat.specs.Texts.{CanReadAll, HasCause};
 
@@ -76,7 +76,7 @@ fn file_fault(why: FileStop, path: Path) -> Fault
 fn find<H: Host>(host: &mut H, path: Option<Path>) -> Result<Option<Path>, Fault>
     ensures told { IfOk result (λ found. Left (Finds path found) (H.told host.old) (H.told host.new)) }
     ensures stopped { IfErr result (λ f. Left (FindsNot path f) (H.told host.old) (H.told host.new)) }
-    ensures can { IfOk result (λ found. CanReadAll (H.told host.new) (listed found)) }
+    ensures can { IfOk result (λ found. CanReadAll (H.told host.new) (option_to_list found)) }
     ensures cause { IfErr result (λ f. (puts later : ℕ) → HasCause f (H.counts host.old) (H.counts host.new) puts later) }
     ensures counts { Onward (H.counts host.old) (H.counts host.new) }
 {
@@ -94,8 +94,8 @@ fn find<H: Host>(host: &mut H, path: Option<Path>) -> Result<Option<Path>, Fault
 fn find_both<H: Host>(host: &mut H, aside: Option<Path>, log: Path) -> Result<Found, Fault>
     ensures told { IfOk result (λ found. Left (FindsBoth aside log found.aside found.log) (H.told host.old) (H.told host.new)) }
     ensures stopped { IfErr result (λ f. Left (FindsNone aside log f) (H.told host.old) (H.told host.new)) }
-    ensures can_aside { IfOk result (λ found. CanReadAll (H.told host.new) (listed found.aside)) }
-    ensures can_log { IfOk result (λ found. CanReadAll (H.told host.new) (listed found.log)) }
+    ensures can_aside { IfOk result (λ found. CanReadAll (H.told host.new) (option_to_list found.aside)) }
+    ensures can_log { IfOk result (λ found. CanReadAll (H.told host.new) (option_to_list found.log)) }
     ensures cause { IfErr result (λ f. (puts later : ℕ) → HasCause f (H.counts host.old) (H.counts host.new) puts later) }
     ensures counts { Onward (H.counts host.old) (H.counts host.new) }
 {
@@ -120,7 +120,7 @@ fn stand_stop(why: StandStop) -> CatStop
 
 // Adds the path, if there is one.
 fn add_found(files: &mut Vec<Path>, found: Option<Path>) -> Result<(), Memory>
-    ensures { OnOk result (files.new.items ≡ files.old.items ++ listed found) }
+    ensures { OnOk result (files.new.items ≡ files.old.items ++ option_to_list found) }
 {
     if let Some(path) = found {
         files.push(path)?;

@@ -3,6 +3,7 @@ use Rattle.std.proofs.Common.{◌≡◌, ℕ, Bool, true, false, cond, ◌||◌,
 use Rattle.std.specs.List.{filter_map, list_any, find, flat_map, cons_option}
 use Rattle.std.proofs.lemmas.List.Elements.{filter_map-append}
 use Rattle.std.proofs.lemmas.List.{append-nil, reverse-append}
+use Rattle.std.specs.Prelude.{option_to_list}
 use Rattle.lr_lex.specs.declared.item.Item.TheVariants as item
 use Rattle.lr_rules.specs.declared.path.Path.{Path}
 use Rattle.lr_rules.specs.declared.fault.ConfKind.TheVariants as kind
@@ -19,7 +20,7 @@ use Rattle.lr_forms.specs.Says.{said}
 use Rattle.lr_conf.specs.Fields.{fields_of}
 use Rattle.lr_conf.specs.Rules.{rule_of}
 use Rattle.lr_conf.specs.Scripts.{script_fault}
-use Rattle.lr_conf.specs.Meaning.{Line, Read, Spoiled, End, Cut, OutsideLine, stands, spoiled, file_ends, breaks_off, Meaning, ◌and◌, told, conf, list_of, before, through, behind as behind_first, set_of, set_past, settings, names_past, settles, pending, first_line, first_pending, words_pending, past, notice_of, line_fault, script_of, line_script, scripts_in, script_says, said_behind, within, body_of, drops, is_bad_line, set_in, notice_in, fault_in, broken_fault, spoilt_fault, ends, opens, of_end, of_definition, of_body, of_opening, of_line, of_spoilt, meaning, line_file, or_line}
+use Rattle.lr_conf.specs.Meaning.{Line, Read, Spoiled, End, Cut, OutsideLine, stands, spoiled, file_ends, breaks_off, Meaning, ◌and◌, told, conf, before, through, behind as behind_first, set_of, set_past, settings, names_past, settles, pending, first_line, first_pending, words_pending, past, notice_of, line_fault, script_of, line_script, scripts_in, script_says, said_behind, within, body_of, drops, is_bad_line, set_in, notice_in, fault_in, broken_fault, spoilt_fault, ends, opens, of_end, of_definition, of_body, of_opening, of_line, of_spoilt, meaning, line_file, or_line}
 use Rattle.lr_conf.specs.Setting.{with_set, default_fields}
 use Rattle.lr_conf.specs.Internal.Draft.{State, run, with_said, scripted, said_inside, outside, turned}
 use Rattle.lr_conf.proofs.Settings.{fields-push}
@@ -37,15 +38,15 @@ defaults-push out p = ap fields_of (filter_map-append set_past out (p ∷ [])) �
     by None = ap fields_of (append-nil (settings out))
     by (Some v) = fields-push (settings out) v
 
-pending-push : (out : List OutsideLine) (p : OutsideLine) → pending (out ++ p ∷ []) ≡ (cond (settles p) [] (pending out ++ list_of (names_past p)))
+pending-push : (out : List OutsideLine) (p : OutsideLine) → pending (out ++ p ∷ []) ≡ (cond (settles p) [] (pending out ++ option_to_list (names_past p)))
 pending-push out p =
     ap (λ back. filter_map names_past (reverse (before settles back))) (reverse-append out (p ∷ [])) ∙ by_test (settles p) refl
   where
-    last : (o : Option (ℕ × List (List ℕ))) → cons_option o [] ≡ list_of o
+    last : (o : Option (ℕ × List (List ℕ))) → cons_option o [] ≡ option_to_list o
     last None = refl
     last (Some x) = refl
 
-    by_test : (b : Bool) → settles p ≡ b → filter_map names_past (reverse (cond b [] (p ∷ before settles (reverse out)))) ≡ cond b [] (pending out ++ list_of (names_past p))
+    by_test : (b : Bool) → settles p ≡ b → filter_map names_past (reverse (cond b [] (p ∷ before settles (reverse out)))) ≡ cond b [] (pending out ++ option_to_list (names_past p))
     by_test true is = refl
     by_test false is =
         ap (filter_map names_past) (reverse-append (p ∷ []) (before settles (reverse out))) ∙ filter_map-append names_past (reverse (before settles (reverse out))) (p ∷ []) ∙ ap (λ x. pending out ++ x) (last (names_past p))
@@ -63,7 +64,7 @@ first_some : (o : Option ℕ) (at : ℕ) (ws : List (List ℕ)) → first_with o
 first_some None at ws = refl
 first_some (Some first) at ws = refl
 
-first-append : (ns : List (ℕ × List (List ℕ))) (o : Option (ℕ × List (List ℕ))) → first_line (ns ++ list_of o) ≡ first_with (first_line ns) o
+first-append : (ns : List (ℕ × List (List ℕ))) (o : Option (ℕ × List (List ℕ))) → first_line (ns ++ option_to_list o) ≡ first_with (first_line ns) o
 first-append [] None = refl
 first-append [] (Some n) = refl
 first-append (m ∷ ns) o = refl
@@ -71,7 +72,7 @@ first-append (m ∷ ns) o = refl
 first-push : (out : List OutsideLine) (p : OutsideLine) → first_pending (out ++ p ∷ []) ≡ cond (settles p) None (first_with (first_pending out) (names_past p))
 first-push out p = ap first_line (pending-push out p) ∙ by (settles p)
   where
-    by : (b : Bool) → first_line (cond b [] (pending out ++ list_of (names_past p))) ≡ cond b None (first_with (first_pending out) (names_past p))
+    by : (b : Bool) → first_line (cond b [] (pending out ++ option_to_list (names_past p))) ≡ cond b None (first_with (first_pending out) (names_past p))
     by true = refl
     by false = first-append (pending out) (names_past p)
 
@@ -79,7 +80,7 @@ abbrev words_in : Option (ℕ × List (List ℕ)) → List (List ℕ)
 words_in None = []
 words_in (Some n) = n.1
 
-words-append : (ns : List (ℕ × List (List ℕ))) (o : Option (ℕ × List (List ℕ))) → flat_map (λ n. n.1) (ns ++ list_of o) ≡ flat_map (λ n. n.1) ns ++ words_in o
+words-append : (ns : List (ℕ × List (List ℕ))) (o : Option (ℕ × List (List ℕ))) → flat_map (λ n. n.1) (ns ++ option_to_list o) ≡ flat_map (λ n. n.1) ns ++ words_in o
 words-append [] None = refl
 words-append [] (Some n) = append-nil n.1
 words-append (m ∷ ns) o = ap (λ x. m.1 ++ x) (words-append ns o) ∙ sym (append_assoc m.1 (flat_map (λ n. n.1) ns) (words_in o))
@@ -87,7 +88,7 @@ words-append (m ∷ ns) o = ap (λ x. m.1 ++ x) (words-append ns o) ∙ sym (app
 words-push : (out : List OutsideLine) (p : OutsideLine) → words_pending (out ++ p ∷ []) ≡ cond (settles p) [] (words_pending out ++ words_in (names_past p))
 words-push out p = ap (flat_map (λ n. n.1)) (pending-push out p) ∙ by (settles p)
   where
-    by : (b : Bool) → flat_map (λ n. n.1) (cond b [] (pending out ++ list_of (names_past p))) ≡ cond b [] (words_pending out ++ words_in (names_past p))
+    by : (b : Bool) → flat_map (λ n. n.1) (cond b [] (pending out ++ option_to_list (names_past p))) ≡ cond b [] (words_pending out ++ words_in (names_past p))
     by true = refl
     by false = words-append (pending out) (names_past p)
 

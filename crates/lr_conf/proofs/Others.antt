@@ -1,6 +1,7 @@
 -- Which files lines ask for, and what they make taboo, line by line.
 use Rattle.std.proofs.Common.{◌≡◌, ℕ, Bool, true, false, not, cond, List, [], ◌∷◌, ◌++◌, Option, Some, None, Result, Ok, Err, refl, ap, sym, ◌∙◌}
 use Rattle.std.specs.List.{filter_map, cons_option}
+use Rattle.std.specs.Prelude.{option_to_list}
 use Rattle.lr_rules.specs.declared.path.Path.{Path}
 use Rattle.lr_rules.specs.declared.fault.ConfKind.{ConfKind}
 use Rattle.lr_rules.specs.declared.fault.Fault.{Fault}
@@ -18,7 +19,7 @@ use Rattle.lr_conf.specs.declared.stop.LayerStop.TheVariants as stop
 use Rattle.lr_words.specs.declared.taboo.TabooItems.{TabooItems}
 use Rattle.lr_match.specs.declared.taboo.Taboo.{Taboo}
 use Rattle.lr_conf.specs.Scripts.{script_fault}
-use Rattle.lr_conf.specs.Meaning.{Line, Read, Spoiled, End, Cut, OutsideLine, stands, spoiled, file_ends, breaks_off, list_of, opened, opens, past, ends, asks, asked, bans, after_bans, banned, outsiders}
+use Rattle.lr_conf.specs.Meaning.{Line, Read, Spoiled, End, Cut, OutsideLine, stands, spoiled, file_ends, breaks_off, opened, opens, past, ends, asks, asked, bans, after_bans, banned, outsiders}
 use Rattle.lr_conf.specs.Setting.{default_fields}
 use Rattle.lr_conf.specs.Internal.Draft.{State, spoken, turned, outside, scripted, with_said, good, dropped, left, step, is_inside, asks_at, bans_at, state_of, asking_from, banning_from, Stepped, Unchanged, Steps, AsksIn, BansIn}
 
@@ -100,20 +101,20 @@ next_place Dropped s e is = dropped_place s e is
 
 -- ---- one line
 
-cons_is : {A : Type 0} (o : Option A) (xs : List A) → cons_option o xs ≡ list_of o ++ xs
+cons_is : {A : Type 0} (o : Option A) (xs : List A) → cons_option o xs ≡ option_to_list o ++ xs
 cons_is None xs = refl
 cons_is (Some x) xs = refl
 
-asked_one : (p : Place) (e : Line) (es : List Line) → asked (is_inside p) (e ∷ es) ≡ list_of (asks_at p e) ++ asked (inside_next p e) es
+asked_one : (p : Place) (e : Line) (es : List Line) → asked (is_inside p) (e ∷ es) ≡ option_to_list (asks_at p e) ++ asked (inside_next p e) es
 asked_one Outside e es = cons_is (asks (past e)) (asked (opens (past e)) es)
 asked_one Good e es = refl
 asked_one Dropped e es = refl
 
-after_cons : (t : Taboo) (o : Option (Bool × TabooItems)) (cs : List (Bool × TabooItems)) → after_bans t (cons_option o cs) ≡ after_bans (after_bans t (list_of o)) cs
+after_cons : (t : Taboo) (o : Option (Bool × TabooItems)) (cs : List (Bool × TabooItems)) → after_bans t (cons_option o cs) ≡ after_bans (after_bans t (option_to_list o)) cs
 after_cons t None cs = refl
 after_cons t (Some c) cs = refl
 
-banned_one : (p : Place) (t : Taboo) (e : Line) (es : List Line) → banned (is_inside p) t (e ∷ es) ≡ banned (inside_next p e) (after_bans t (list_of (bans_at p e))) es
+banned_one : (p : Place) (t : Taboo) (e : Line) (es : List Line) → banned (is_inside p) t (e ∷ es) ≡ banned (inside_next p e) (after_bans t (option_to_list (bans_at p e))) es
 banned_one Outside t e es = after_cons t (bans (past e)) (filter_map bans (outsiders (opens (past e)) es))
 banned_one Good t e es = refl
 banned_one Dropped t e es = refl

@@ -2,6 +2,7 @@
 use Rattle.std.proofs.Common.{◌≡◌, ℕ, Bool, true, false, cond, ◌||◌, List, [], ◌∷◌, ◌++◌, Option, Some, None, refl, ap, sym, ◌∙◌}
 use Rattle.std.specs.List.{filter_map, list_any, cons_option}
 use Rattle.std.proofs.lemmas.List.Elements.{filter_map-append}
+use Rattle.std.specs.Prelude.{unwrap_or}
 use Rattle.lr_rules.specs.declared.fault.Phase.TheVariants as phase
 use Rattle.lr_rules.specs.declared.rule.Back.{Back}
 use Rattle.lr_rules.specs.declared.rule.Back.TheVariants as back
@@ -23,16 +24,12 @@ use Rattle.lr_forms.specs.declared.set.Set.TheVariants as set
 use Rattle.lr_conf.specs.Fields.{fields_of, last_or, last_set, criterion_set, count_set, maxage_set, minage_set, minsize_set, maxsize_set, ifempty_set, missingok_set, ignore_set, start_set, extension_set, addextension_set, olddir_set, createolddir_set, create_set, mail_set, mailfirst_set, shared_set, first_set, pre_set, post_set, last_script_set, preremove_set, dated_set, pieces_set, back_set, serial_set, names_way, undoes, last_way}
 use Rattle.lr_conf.specs.Setting.{with_set, without}
 
-abbrev given_or : {A : Type 0} → Option A → A → A
-given_or None d = d
-given_or (Some x) d = x
-
-last-push : {A : Type 0} (d : A) (xs : List A) (o : Option A) → last_or d (xs ++ cons_option o []) ≡ given_or o (last_or d xs)
+last-push : {A : Type 0} (d : A) (xs : List A) (o : Option A) → last_or d (xs ++ cons_option o []) ≡ unwrap_or o (last_or d xs)
 last-push d [] None = refl
 last-push d [] (Some v) = refl
 last-push d (x ∷ xs) o = last-push x xs o
 
-last_set-push : {A : Type 0} (sets : Set → Option A) (d : A) (vs : List Set) (v : Set) → last_set sets d (vs ++ v ∷ []) ≡ given_or (sets v) (last_set sets d vs)
+last_set-push : {A : Type 0} (sets : Set → Option A) (d : A) (vs : List Set) (v : Set) → last_set sets d (vs ++ v ∷ []) ≡ unwrap_or (sets v) (last_set sets d vs)
 last_set-push sets d vs v = ap (last_or d) (filter_map-append sets vs (v ∷ [])) ∙ last-push d (filter_map sets vs) (sets v)
 
 -- ---- the way
@@ -196,11 +193,11 @@ way-push (u ∷ us) v = way-push us v
 
 abbrev scripts_behind : Set → Scripts → Scripts
 scripts_behind v s = record {
-  first = given_or (first_set v) s.first;
-  pre = given_or (pre_set v) s.pre;
-  post = given_or (post_set v) s.post;
-  last = given_or (last_script_set v) s.last;
-  preremove = given_or (preremove_set v) s.preremove;
+  first = unwrap_or (first_set v) s.first;
+  pre = unwrap_or (pre_set v) s.pre;
+  post = unwrap_or (post_set v) s.post;
+  last = unwrap_or (last_script_set v) s.last;
+  preremove = unwrap_or (preremove_set v) s.preremove;
 }
 
 abbrev rule_behind : Set → Rule → Rule
@@ -208,25 +205,25 @@ rule_behind v r = record {
   file = r.file;
   line = r.line;
   words = r.words;
-  criterion = given_or (criterion_set v) r.criterion;
-  count = given_or (count_set v) r.count;
-  maxage = given_or (maxage_set v) r.maxage;
-  minage = given_or (minage_set v) r.minage;
-  minsize = given_or (minsize_set v) r.minsize;
-  maxsize = given_or (maxsize_set v) r.maxsize;
-  ifempty = given_or (ifempty_set v) r.ifempty;
-  missingok = given_or (missingok_set v) r.missingok;
-  ignore_duplicates = given_or (ignore_set v) r.ignore_duplicates;
-  start = given_or (start_set v) r.start;
-  extension = given_or (extension_set v) r.extension;
-  addextension = given_or (addextension_set v) r.addextension;
-  olddir = given_or (olddir_set v) r.olddir;
-  createolddir = given_or (createolddir_set v) r.createolddir;
+  criterion = unwrap_or (criterion_set v) r.criterion;
+  count = unwrap_or (count_set v) r.count;
+  maxage = unwrap_or (maxage_set v) r.maxage;
+  minage = unwrap_or (minage_set v) r.minage;
+  minsize = unwrap_or (minsize_set v) r.minsize;
+  maxsize = unwrap_or (maxsize_set v) r.maxsize;
+  ifempty = unwrap_or (ifempty_set v) r.ifempty;
+  missingok = unwrap_or (missingok_set v) r.missingok;
+  ignore_duplicates = unwrap_or (ignore_set v) r.ignore_duplicates;
+  start = unwrap_or (start_set v) r.start;
+  extension = unwrap_or (extension_set v) r.extension;
+  addextension = unwrap_or (addextension_set v) r.addextension;
+  olddir = unwrap_or (olddir_set v) r.olddir;
+  createolddir = unwrap_or (createolddir_set v) r.createolddir;
   way = way_behind v r.way;
-  create = given_or (create_set v) r.create;
-  mail = given_or (mail_set v) r.mail;
-  mailfirst = given_or (mailfirst_set v) r.mailfirst;
-  shared = given_or (shared_set v) r.shared;
+  create = unwrap_or (create_set v) r.create;
+  mail = unwrap_or (mail_set v) r.mail;
+  mailfirst = unwrap_or (mailfirst_set v) r.mailfirst;
+  shared = unwrap_or (shared_set v) r.shared;
   scripts = scripts_behind v r.scripts;
   dated = r.dated;
 }
@@ -234,10 +231,10 @@ rule_behind v r = record {
 abbrev fields_behind : Set → Fields → Fields
 fields_behind v f = record {
   rule = rule_behind v f.rule;
-  dated = given_or (dated_set v) f.dated;
-  pieces = given_or (pieces_set v) f.pieces;
-  back = given_or (back_set v) f.back;
-  serial = given_or (serial_set v) f.serial;
+  dated = unwrap_or (dated_set v) f.dated;
+  pieces = unwrap_or (pieces_set v) f.pieces;
+  back = unwrap_or (back_set v) f.back;
+  serial = unwrap_or (serial_set v) f.serial;
 }
 
 behind_is : (v : Set) (f : Fields) → fields_behind v f ≡ with_set f v

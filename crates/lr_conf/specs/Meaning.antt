@@ -1,6 +1,6 @@
 -- What the lines of a configuration mean, told of whole lists of lines.
 use Rattle.std.specs.Prelude.{ℕ, Bool, true, false, not, ◌||◌, List, [], ◌∷◌, ◌++◌, Option, Some, None, reverse, find, flat_map}
-use Rattle.std.specs.Prelude.{if◌then◌else◌}
+use Rattle.std.specs.Prelude.{if◌then◌else◌, option_to_list}
 use Rattle.std.specs.List.{list_any, filter_map}
 use Rattle.lr_lex.specs.declared.item.Item.{Item}
 use Rattle.lr_rules.specs.declared.path.Path.{Path}
@@ -65,10 +65,6 @@ through p (e ∷ es) = e ∷ (if p e then [] else through p es)
 abbrev pub behind : {A : Type 0} → (A → Bool) → List A → List A
 behind p [] = []
 behind p (e ∷ es) = if p e then es else behind p es
-
-abbrev pub list_of : {A : Type 0} → Option A → List A
-list_of None = []
-list_of (Some x) = x ∷ []
 
 -- ---- lines outside definitions
 
@@ -328,7 +324,7 @@ of_opening out p es =
 
 -- a line outside definitions, for itself
 abbrev pub of_line : Path → Option ℕ → OutsideLine → Meaning
-of_line file first p = record { rules = []; notices = list_of (notice_past file p); faults = line_faults file first p }
+of_line file first p = record { rules = []; notices = option_to_list (notice_past file p); faults = line_faults file first p }
 
 -- What lines mean: in a definition or not, the lines before them that stand outside definitions, and
 -- the lines. Those of an included file stand in the place of the line that asks for it.

@@ -1,6 +1,6 @@
 -- When a log is due: the table of its cases, and the words of their conditions.
 use Rattle.std.specs.Prelude.{ℕ, ◌+◌, ◌/◌, ◌%◌, ◌==◌, ℤ, pos, negsuc, ◌-ℤ◌, Bool, true, false, not, ◌&&◌, ◌||◌, List, [], ◌∷◌}
-use Rattle.std.specs.Prelude.{Option, Some, None, nat_lt, nat_le, int_lt, int_le, if◌then◌else◌}
+use Rattle.std.specs.Prelude.{Option, Some, None, nat_lt, nat_le, int_lt, int_le, if◌then◌else◌, is_some}
 use Rattle.std.specs.Ordering.{int_eq}
 use Rattle.jiff_core.specs.Calendar.{days_from_civil, weekday_number}
 use Rattle.lr_rules.specs.Between.{seconds_between}
@@ -99,11 +99,6 @@ abbrev pub has_turned_since : Criterion → Option Civil → Civil → Bool
 has_turned_since criterion None now = false
 has_turned_since criterion (Some last) now = has_passed criterion last now
 
--- the criterion is a size
-abbrev pub is_some_size : Option ℕ → Bool
-is_some_size None = false
-is_some_size (Some limit) = true
-
 -- a case of the table: whether it applies, and its answer
 abbrev pub Case : Type 0
 Case = Bool × Due
@@ -121,7 +116,7 @@ cases_of rule size mtime last now force =
     ∷ (force, Yes why.Forced)
     ∷ (is_above rule.maxsize size, Yes why.MaxSize)
     ∷ (is_above (size_limit rule.criterion) size, Yes why.Size)
-    ∷ (is_some_size (size_limit rule.criterion), No why_not.Small)
+    ∷ (is_some (size_limit rule.criterion), No why_not.Small)
     ∷ (is_unknown last, No why_not.Early)
     ∷ (is_ahead (pos 90_000) last now.civil, Yes why.Future)
     ∷ (is_ahead (pos 0) last now.civil, No why_not.Early)

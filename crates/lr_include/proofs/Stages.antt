@@ -1,5 +1,5 @@
 -- How a reading goes on from one stage to another.
-use Rattle.std.specs.Prelude.{◌≡◌, ◌+◌, ◌≤◌, ◌^◌, min}
+use Rattle.std.specs.Prelude.{◌≡◌, ◌+◌, ◌≤◌, ◌^◌, min, option_to_list}
 use Rattle.std.proofs.Common.{◌-◌, ◌<◌, ◌⊎◌, inl, inr, arith, ℕ, Bool, true, false, cond, List, [], ◌∷◌, ◌++◌, map, filter_map, reverse, length, take, drop, refl, sym, ap, ◌∙◌, subst, append-nil, append_assoc, Option, Some, None, Result, Ok, Err, OnOk}
 use Rattle.std.specs.List.{list_any}
 use Rattle.std.specs.Str.{bytes_eq}
@@ -21,7 +21,7 @@ use Rattle.lr_conf.specs.declared.stop.LayerStop.TheVariants as stop
 use Rattle.lr_conf.specs.Stops.{layer_faults}
 use Rattle.lr_lex.specs.declared.item.Item.{Item}
 use Rattle.lr_lex.specs.Items.{Told}
-use Rattle.lr_conf.specs.Meaning.{Line, Read, Spoiled, End, Cut, Meaning, meaning, ◌and◌, told, conf, asked, banned, list_of}
+use Rattle.lr_conf.specs.Meaning.{Line, Read, Spoiled, End, Cut, Meaning, meaning, ◌and◌, told, conf, asked, banned}
 use Rattle.lr_conf.specs.Fold.{coming, asking, banning, entered, file_of_layer, LayerTook, Asks, Bans, Alike, LayerPasses}
 use Rattle.lr_conf.specs.Fields.{last_or}
 use Rattle.lr_host.specs.declared.entry.Entry.{Entry}
@@ -99,19 +99,19 @@ alike_layer old new faults lines inside files c a b is k = record {
 -- ---- items
 
 of_answer : (a b : Course) (old new : Layer) (file : Path) (e : Line) (r : Result (Option Include) LayerStop) → LayerTook old new file e r → Asks old new e r → Bans old new e r → TellsAnswer a b file r
-    → (faults : List Fault) × (includes : List Include) × SameLines old new faults includes e × CourseTells a b file faults includes × (o : Option Include) × (includes ≡ list_of o)
-of_answer a b old new file e (Ok o) t q n s = ([], list_of o, (t, q, n), s, o, refl)
+    → (faults : List Fault) × (includes : List Include) × SameLines old new faults includes e × CourseTells a b file faults includes × (o : Option Include) × (includes ≡ option_to_list o)
+of_answer a b old new file e (Ok o) t q n s = ([], option_to_list o, (t, q, n), s, o, refl)
 of_answer a b old new file e (Err stop.Memory) t q n s = absurd s
 of_answer a b old new file e (Err (stop.Conf at k)) t q n s = (layer_faults file (stop.Conf at k), [], (t, q, n), s, None, refl)
 of_answer a b old new file e (Err (stop.NoBraceAnd first at k)) t q n s = (layer_faults file (stop.NoBraceAnd first at k), [], (t, q, n), s, None, refl)
 of_answer a b old new file e (Err (stop.NoBraceThen first i)) t q n s = (layer_faults file (stop.NoBraceThen first i), i ∷ [], (t, q, n), s, Some i, refl)
 
 -- tasks that are put on top
-one_on_top : (file : Path) (o : Option Include) (old : List Task) → reverse (old ++ map (ask_of file) (list_of o)) ≡ map (ask_of file) (list_of o) ++ reverse old
+one_on_top : (file : Path) (o : Option Include) (old : List Task) → reverse (old ++ map (ask_of file) (option_to_list o)) ≡ map (ask_of file) (option_to_list o) ++ reverse old
 one_on_top file None old = ap reverse (append-nil old)
 one_on_top file (Some i) old = reverse-append old (ask_of file i ∷ [])
 
-on_top : (file : Path) (includes : List Include) (o : Option Include) (old new : List Task) → includes ≡ list_of o → new ≡ old ++ map (ask_of file) includes → reverse new ≡ map (ask_of file) includes ++ reverse old
+on_top : (file : Path) (includes : List Include) (o : Option Include) (old new : List Task) → includes ≡ option_to_list o → new ≡ old ++ map (ask_of file) includes → reverse new ≡ map (ask_of file) includes ++ reverse old
 on_top file includes o old new is e = ap reverse e ∙ subst (λ (xs : List Include). reverse (old ++ map (ask_of file) xs) ≡ map (ask_of file) xs ++ reverse old) (sym is) (one_on_top file o old)
 
 -- the file that is read now

@@ -1,5 +1,5 @@
 -- What a reading under way knows.
-use Rattle.std.specs.Prelude.{ℕ, ◌≡◌, false, List, [], ◌∷◌, ◌++◌, map, reverse, Option, Result, Ok, Err}
+use Rattle.std.specs.Prelude.{ℕ, ◌≡◌, false, List, [], ◌∷◌, ◌++◌, map, reverse, Option, Result, Ok, Err, option_to_list}
 use Rattle.lr_rules.specs.declared.path.Path.{Path}
 use Rattle.lr_rules.specs.declared.fault.Fault.{Fault}
 use Rattle.lr_match.specs.Taboos.{first_taboo}
@@ -8,7 +8,7 @@ use Rattle.lr_conf.specs.declared.stop.Include.{Include}
 use Rattle.lr_conf.specs.declared.stop.LayerStop.{LayerStop}
 use Rattle.lr_conf.specs.declared.stop.LayerStop.TheVariants as stop
 use Rattle.lr_conf.specs.Stops.{layer_faults, include_of}
-use Rattle.lr_conf.specs.Meaning.{Line, Spoiled, End, meaning, ◌and◌, told, list_of, asked, banned}
+use Rattle.lr_conf.specs.Meaning.{Line, Spoiled, End, meaning, ◌and◌, told, asked, banned}
 use Rattle.lr_conf.specs.Fold.{coming, asking, banning, entered, file_of_layer}
 use Rattle.lr_host.specs.declared.entry.Entry.{Entry}
 use Rattle.lr_host.specs.declared.journal.Journal.{Journal}
@@ -82,7 +82,7 @@ pub record CourseTells (old new : Course) (file : Path) (faults : List Fault) (i
 
 -- what a layer answered was told
 abbrev pub TellsAnswer : Course → Course → Path → Result (Option Include) LayerStop → Type 0
-TellsAnswer old new file (Ok include) = CourseTells old new file [] (list_of include)
+TellsAnswer old new file (Ok include) = CourseTells old new file [] (option_to_list include)
 TellsAnswer old new file (Err stop.Memory) = ⊥
 TellsAnswer old new file (Err s) = CourseTells old new file (layer_faults file s) (include_of s)
 

@@ -1,6 +1,7 @@
 -- A plan of which nothing failed: the copy of each log that it copies stands among its entries, one entry behind another; and nothing else empties the log.
 use Rattle.std.proofs.Common.{◌≡◌, ◌≢◌, inl, inr, ⊎_elim, Bool, true, false, cond, refl, sym, ◌∙◌, ap, subst, append_assoc, Option, Some, None, List, [], ◌∷◌, ◌++◌, map, append-nil}
 use Rattle.std.specs.List.{flat_map}
+use Rattle.std.specs.Prelude.{option_to_list}
 use Rattle.lr_rules.specs.declared.fault.Fault.{Fault}
 use Rattle.lr_rules.specs.declared.fault.Phase.TheVariants as phase
 use Rattle.lr_rules.specs.declared.path.Path.{Path}
@@ -19,7 +20,7 @@ use Rattle.lr_plan.specs.Course.{Course}
 use Rattle.lr_plan.specs.Done.{EachDone, SetDone, broke_off, went_on, SetsDone}
 use Rattle.lr_plan.specs.Steps.{program, removals, directory, move, step_if, copy, transfer, finishing, rotation_of, retirement_of, steps_of_log, shared_steps, by_logs, steps_of_set}
 use Rattle.lr_laws_acts.specs.Emptied.{EmptiesCopied}
-use Rattle.lr_laws_acts.specs.Jobs.{job_in, jobs_in, jobs_of}
+use Rattle.lr_laws_acts.specs.Jobs.{jobs_in, jobs_of}
 use Rattle.lr_laws_acts.specs.Steps.{named_steps}
 use Rattle.lr_laws_acts.proofs.Acts.{sets_copying}
 use Rattle.lr_laws_acts.proofs.Made.{AllMade, made_split, named_made}
@@ -200,7 +201,7 @@ plan_stands t job (g ∷ groups) (set ∷ sets) ms f ts logs i is n d =
 abbrev IsOfOne : List Target → Job → Type 0
 IsOfOne ts job = (t : Target) × IsIn t ts × (t.job ≡ Some job) × IsJob t job × HasWay t
 
-job_has : (o : Option Job) (job : Job) → IsIn job (job_in o) → o ≡ Some job
+job_has : (o : Option Job) (job : Job) → IsIn job (option_to_list o) → o ≡ Some job
 job_has None job i = absurd i
 job_has (Some j) job (inl is) = ap Some is
 job_has (Some j) job (inr i) = absurd i
@@ -209,9 +210,9 @@ jobs_ready : (ts : List Target) (logs : List LogPlan) (job : Job) → AreReadyFo
 jobs_ready [] [] job ready i = absurd i
 jobs_ready [] (log ∷ logs) job ready i = absurd ready
 jobs_ready (t ∷ ts) [] job ready i = absurd i
-jobs_ready (t ∷ ts) (log ∷ logs) job ready i = ⊎_elim here (λ h. there (jobs_ready ts logs job ready.1 h)) (in_append job (job_in log.job) (jobs_in logs) i)
+jobs_ready (t ∷ ts) (log ∷ logs) job ready i = ⊎_elim here (λ h. there (jobs_ready ts logs job ready.1 h)) (in_append job (option_to_list log.job) (jobs_in logs) i)
   where
-    here : IsIn job (job_in log.job) → IsOfOne (t ∷ ts) job
+    here : IsIn job (option_to_list log.job) → IsOfOne (t ∷ ts) job
     here h = let is : t.job ≡ Some job = sym ready.0.job_is ∙ job_has log.job job h in (t, inl refl, is, ready.0.job job is, ready.0.way)
 
     there : IsOfOne ts job → IsOfOne (t ∷ ts) job

@@ -1,6 +1,6 @@
 -- Steps that empty logs, one list behind another; and those of a plan.
 use Rattle.std.proofs.Common.{◌≡◌, refl, sym, ◌∙◌, ap, subst, Bool, true, false, cond, List, [], ◌∷◌, ◌++◌, map, append_assoc, append-nil, ℕ, Option, Some, None, inl}
-use Rattle.std.specs.Prelude.{All}
+use Rattle.std.specs.Prelude.{All, option_to_list}
 use Rattle.std.specs.List.{flat_map}
 use Rattle.std.proofs.lemmas.List.Elements.{All-nil, All-cons}
 use Rattle.lr_rules.specs.declared.fault.Phase.{Phase}
@@ -19,7 +19,7 @@ use Rattle.lr_plan.specs.declared.plan.SetPlan.{SetPlan}
 use Rattle.lr_plan.specs.declared.step.Step.{Step}
 use Rattle.lr_plan.specs.declared.step.Step.TheVariants as step
 use Rattle.lr_plan.specs.Steps.{program, removal, removals, directory, move, step_if, copy, transfer, anew, leaves_path, made_anew, finishing, rotation_of, retirement_of, steps_of_log, shared_steps, by_logs, steps_of_set, state_steps}
-use Rattle.lr_laws_acts.specs.Jobs.{job_in, jobs_in, jobs_of}
+use Rattle.lr_laws_acts.specs.Jobs.{jobs_in, jobs_of}
 use Rattle.lr_laws_acts.specs.Steps.{named_steps, CopyStepsLast, AreCopySteps, IsCopySet, EmptyCopied}
 use Rattle.lr_laws_acts.proofs.Lists.{Stands, in_first, in_second, stands, not_in_none, only_one}
 
@@ -207,9 +207,9 @@ module _ (P : Job → Type 0) where
 
   have_jobs : (logs : List LogPlan) → ((job : Job) → IsIn job (jobs_in logs) → P job) → HaveJobs logs
   have_jobs [] f = tt
-  have_jobs (log ∷ logs) f = (one log.job (λ job i. f job (in_front job (job_in log.job) (jobs_in logs) i)), have_jobs logs (λ job i. f job (in_back job (job_in log.job) (jobs_in logs) i)))
+  have_jobs (log ∷ logs) f = (one log.job (λ job i. f job (in_front job (option_to_list log.job) (jobs_in logs) i)), have_jobs logs (λ job i. f job (in_back job (option_to_list log.job) (jobs_in logs) i)))
     where
-      one : (job : Option Job) → ((j : Job) → IsIn j (job_in job) → P j) → HasJob job
+      one : (job : Option Job) → ((j : Job) → IsIn j (option_to_list job) → P j) → HasJob job
       one None f = tt
       one (Some job) f = f job (inl refl)
 

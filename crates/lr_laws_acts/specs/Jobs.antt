@@ -1,5 +1,5 @@
 -- The copies of a plan, and the rules that ask for them.
-use Rattle.std.specs.Prelude.{◌≡◌, ◌⊎◌, List, [], ◌∷◌, Option, Some, None}
+use Rattle.std.specs.Prelude.{◌≡◌, ◌⊎◌, List, ◌∷◌, Some, option_to_list}
 use Rattle.std.specs.List.{flat_map}
 use Rattle.lr_rules.specs.declared.clock.Clock.{Clock}
 use Rattle.lr_rules.specs.declared.rule.Rule.{Rule}
@@ -11,14 +11,9 @@ use Rattle.lr_plan.specs.declared.plan.LogPlan.{LogPlan}
 use Rattle.lr_plan.specs.declared.plan.SetPlan.{SetPlan}
 use Rattle.lr_plan.specs.Planned.{job_by, standing, ready_for}
 
--- one, or none
-abbrev pub job_in : Option Job → List Job
-job_in None = []
-job_in (Some job) = job ∷ []
-
 -- the copies of these logs
 abbrev pub jobs_in : List LogPlan → List Job
-jobs_in logs = flat_map (λ log. job_in log.job) logs
+jobs_in logs = flat_map (λ log. option_to_list log.job) logs
 
 -- those of all logs of a plan
 abbrev pub jobs_of : List SetPlan → List Job

@@ -1,6 +1,6 @@
 -- Each log that a run empties it copied whole just before, by a copy that one of its rules asks for.
 use Rattle.std.proofs.Common.{◌≡◌, ◌⊎◌, inl, inr, ⊎_elim, ℕ, ◌+◌, arith, true, false, List, [], ◌∷◌, ◌++◌, Option, Some, None, Result, Ok, Err, slice_get, reverse, refl, sym, ap, ◌∙◌, subst}
-use Rattle.std.specs.Prelude.{Contains}
+use Rattle.std.specs.Prelude.{Contains, option_to_list}
 use Rattle.std.specs.List.{flat_map}
 use Rattle.std.proofs.lemmas.List.{append-nil, reverse-reverse}
 use Rattle.lr_rules.specs.declared.clock.Clock.{Clock}
@@ -35,7 +35,7 @@ use Rattle.lr_plan.specs.declared.plan.SetPlan.{SetPlan}
 use Rattle.lr_plan.specs.Planned.{standing, job_by, decision, all_plans}
 use Rattle.lr_plan.specs.Steps.{steps_of_plan}
 use Rattle.lr_laws_acts.specs.Emptied.{IsJobIn, EmptiesCopied, EmptiesWhole}
-use Rattle.lr_laws_acts.specs.Jobs.{job_in, jobs_in, jobs_of}
+use Rattle.lr_laws_acts.specs.Jobs.{jobs_in, jobs_of}
 use Rattle.lr_laws_acts.proofs.Acts.{sets_copying, sets_cut_copying, state_copying}
 use Rattle.lr_laws_acts.proofs.Entries.{none_empties, quiet_empties, both_empty, same_empties}
 use Rattle.lr_laws_acts.proofs.Jobs.{cut_way}
@@ -77,7 +77,7 @@ record IsOfTarget (ts : List Target) (job : Job) : Type 0 where
   one : IsIn target ts
   is : target.job ≡ Some job
 
-in_one : (o : Option Job) (job : Job) → IsIn job (job_in o) → o ≡ Some job
+in_one : (o : Option Job) (job : Job) → IsIn job (option_to_list o) → o ≡ Some job
 in_one None job i = absurd i
 in_one (Some j) job (inl e) = ap Some e
 in_one (Some j) job (inr none) = absurd none
@@ -86,7 +86,7 @@ of_logs : (ts : List Target) (logs : List LogPlan) (job : Job) → AreReadyFor t
 of_logs [] [] job r i = absurd i
 of_logs [] (l ∷ ls) job r i = absurd r
 of_logs (t ∷ ts) [] job r i = absurd r
-of_logs (t ∷ ts) (l ∷ ls) job r i = ⊎_elim (λ a. record { target = t; one = inl refl; is = sym r.0.job_is ∙ in_one l.job job a }) (λ b. further (of_logs ts ls job r.1 b)) (in_append job (job_in l.job) (jobs_in ls) i)
+of_logs (t ∷ ts) (l ∷ ls) job r i = ⊎_elim (λ a. record { target = t; one = inl refl; is = sym r.0.job_is ∙ in_one l.job job a }) (λ b. further (of_logs ts ls job r.1 b)) (in_append job (option_to_list l.job) (jobs_in ls) i)
   where
     further : IsOfTarget ts job → IsOfTarget (t ∷ ts) job
     further o = record { target = o.target; one = inr o.one; is = o.is }

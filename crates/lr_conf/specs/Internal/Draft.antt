@@ -1,5 +1,6 @@
 -- What a draft keeps, and how it takes a line in.
 use Rattle.std.specs.Prelude.{◌≡◌, ℕ, Bool, true, false, List, [], ◌∷◌, ◌++◌, Option, Some, None, Result, Ok, Err, if◌then◌else◌}
+use Rattle.std.specs.Prelude.{option_to_list}
 use Rattle.lr_rules.specs.declared.path.Path.{Path}
 use Rattle.lr_rules.specs.declared.fault.ConfKind.{ConfKind}
 use Rattle.lr_rules.specs.declared.fault.ConfKind.TheVariants as kind
@@ -26,7 +27,7 @@ use Rattle.lr_conf.specs.Rules.{rule_of}
 use Rattle.lr_conf.specs.Scripts.{script_fault}
 use Rattle.lr_conf.specs.Meaning.{Line, line_file, Read, Spoiled, End, Cut, OutsideLine, stands, spoiled}
 use Rattle.lr_conf.specs.Meaning.{file_ends, breaks_off, Meaning}
-use Rattle.lr_conf.specs.Meaning.{◌and◌, nothing, told, conf, list_of, of_line, of_spoilt, opened, or_line, past, ends, notice_of}
+use Rattle.lr_conf.specs.Meaning.{◌and◌, nothing, told, conf, of_line, of_spoilt, opened, or_line, past, ends, notice_of}
 use Rattle.lr_conf.specs.Meaning.{notice_past, line_faults, line_fault, said_behind, asks, asked, bans, after_bans, banned}
 use Rattle.lr_conf.specs.Stops.{layer_faults, include_of}
 use Rattle.lr_conf.specs.Setting.{default_fields, with_set}
@@ -108,7 +109,8 @@ step Dropped s e = dropped s e
 -- ---- what a line gives
 
 abbrev pub said_inside : Path → ℕ → Said → Meaning
-said_inside file at v = record { rules = []; notices = list_of (notice_of file at v); faults = list_of (line_fault file at v) }
+said_inside file at v =
+    record { rules = []; notices = option_to_list (notice_of file at v); faults = option_to_list (line_fault file at v) }
 
 abbrev pub first_of : State → ℕ
 first_of s = or_line s.first 0
@@ -190,8 +192,8 @@ pub record Stepped (old : Draft) (new : Draft) (e : Line) (faults : List Fault) 
   pub notices : new.notices.items ≡ old.notices.items ++ (gives old.place (state_of old) e).notices
   pub faults_are : (gives old.place (state_of old) e).faults ≡ faults
   pub files : new.files ≡ old.files
-  pub includes_are : list_of (asks_at old.place e) ≡ includes
-  pub taboo : new.taboo ≡ after_bans old.taboo (list_of (bans_at old.place e))
+  pub includes_are : option_to_list (asks_at old.place e) ≡ includes
+  pub taboo : new.taboo ≡ after_bans old.taboo (option_to_list (bans_at old.place e))
 
 -- nothing was taken in
 pub record Unchanged (old : Draft) (new : Draft) : Type 0 where
@@ -201,7 +203,7 @@ pub record Unchanged (old : Draft) (new : Draft) : Type 0 where
   pub table : SameTable old new
 
 abbrev pub Steps : Draft → Draft → Path → Line → Result (Option Include) LayerStop → Type 0
-Steps old new file e (Ok include) = Stepped old new e [] (list_of include)
+Steps old new file e (Ok include) = Stepped old new e [] (option_to_list include)
 Steps old new file e (Err stop.Memory) = Unchanged old new
 Steps old new file e (Err fault) = Stepped old new e (layer_faults file fault) (include_of fault)
 
@@ -214,7 +216,7 @@ TookIn old new file e (Err fault) = (lines : List Line) → coming_from old (e �
 
 -- the file for which the answer asks is that of the line
 abbrev pub AsksIn : Draft → Draft → Line → Result (Option Include) LayerStop → Type 0
-AsksIn old new e (Ok include) = (lines : List Line) → asking_from old (e ∷ lines) ≡ list_of include ++ asking_from new lines
+AsksIn old new e (Ok include) = (lines : List Line) → asking_from old (e ∷ lines) ≡ option_to_list include ++ asking_from new lines
 AsksIn old new e (Err stop.Memory) = (lines : List Line) → asking_from new lines ≡ asking_from old lines
 AsksIn old new e (Err fault) = (lines : List Line) → asking_from old (e ∷ lines) ≡ include_of fault ++ asking_from new lines
 
@@ -284,14 +286,14 @@ pub record Spoke (old : Draft) (new : Draft) (file : Path) (p : OutsideLine) (fa
     (includes : List Include) : Type 0 where
   pub state : state_of new ≡ outside (state_of old) p
   pub rules : new.rules.items ≡ old.rules.items
-  pub notices : new.notices.items ≡ old.notices.items ++ list_of (notice_past file p)
+  pub notices : new.notices.items ≡ old.notices.items ++ option_to_list (notice_past file p)
   pub faults_are : line_faults file old.first p ≡ faults
   pub files : new.files ≡ old.files
-  pub includes_are : list_of (asks p) ≡ includes
-  pub taboo : new.taboo ≡ after_bans old.taboo (list_of (bans p))
+  pub includes_are : option_to_list (asks p) ≡ includes
+  pub taboo : new.taboo ≡ after_bans old.taboo (option_to_list (bans p))
 
 abbrev pub Speaks : Draft → Draft → Path → OutsideLine → Result (Option Include) LayerStop → Type 0
-Speaks old new file p (Ok include) = Spoke old new file p [] (list_of include)
+Speaks old new file p (Ok include) = Spoke old new file p [] (option_to_list include)
 Speaks old new file p (Err stop.Memory) = Unchanged old new
 Speaks old new file p (Err fault) = Spoke old new file p (layer_faults file fault) (include_of fault)
 
@@ -324,8 +326,8 @@ Closes old new file (Err fault) = ⊥
 pub record SaidInside (old : Draft) (new : Draft) (file : Path) (at : ℕ) (v : Said) (faults : List Fault) : Type 0 where
   pub state : state_of new ≡ with_said (state_of old) v
   pub rules : new.rules.items ≡ old.rules.items
-  pub notices : new.notices.items ≡ old.notices.items ++ list_of (notice_of file at (said_behind old.scripts.items v))
-  pub faults_are : list_of (line_fault file at (said_behind old.scripts.items v)) ≡ faults
+  pub notices : new.notices.items ≡ old.notices.items ++ option_to_list (notice_of file at (said_behind old.scripts.items v))
+  pub faults_are : option_to_list (line_fault file at (said_behind old.scripts.items v)) ≡ faults
   pub table : SameTable old new
 
 abbrev pub SaysInside : Draft → Draft → Path → ℕ → Said → Result (Option Include) LayerStop → Type 0
