@@ -33,7 +33,7 @@ use Rattle.lr_looks.specs.Shown.{LooksAtAll, ShowsSomeLooks}
 use Rattle.lr_laws_looks.proofs.Quiet.{whole_quiet, part_quiet}
 use Rattle.lr_clock.specs.declared.clock.ClockStop.{ClockStop}
 use Rattle.lr_clock.specs.declared.clock.ClockStop.TheVariants as stop
-use Rattle.lr_clock.specs.Clock.{ShowsClock, LacksClock, ClockStopped, HasClock, IsClockFault, IsClocked, with_clock, without_clock}
+use Rattle.lr_clock.specs.Clock.{ShowsClock, LacksClock, ClockStopped, HasClock, IsClockFault, IsClocked, with_clock, without_clock, clock_answer}
 use Rattle.lr_report.specs.declared.outcome.Outcome.{Outcome}
 use Rattle.lr_report.specs.declared.outcome.Outcome.TheVariants.{Done, OutOfMemory}
 use Rattle.lr_report.specs.Reported.{IsOut, HasNoOut, AreReported}
@@ -44,7 +44,7 @@ use Rattle.lr_command.specs.Words.{mail_program}
 use Rattle.lr_audited.specs.Audits.{IsAudit}
 use Rattle.lr_audit.specs.Audits.{AddsSaw, Audits}
 use Rattle.lr_audit.specs.Came.{Came, ShowsConfs, ShowsCame, answer_of, audit_told, CallEnds, no_clock, no_memory, audited}
-use Rattle.lr_audit.specs.Internal.{CameTo, RulesCame, ConfsCame, clock_answer}
+use Rattle.lr_audit.specs.Internal.{CameTo, RulesCame, ConfsCame}
 use Rattle.lr_audit.proofs.Answering.{notices_in, faults_in}
 use Rattle.lr_audit.proofs.Filing.{went_by}
 use Rattle.lr_audit.proofs.Still.{clock_quiet, lost_quiet}

@@ -20,7 +20,7 @@ use Rattle.lr_host.specs.declared.thing.Thing.{Thing}
 use Rattle.lr_host.specs.declared.thing.Thing.TheVariants as thing
 use Rattle.lr_host.specs.declared.entry.Entry.{Entry}
 use Rattle.lr_host.specs.declared.entry.Entry.TheVariants as entry
-use Rattle.lr_host.specs.Fits.{IsFileAt, IsPart, Sees}
+use Rattle.lr_host.specs.Fits.{IsFileAt, IsPart, Sees, IsNameIn}
 use Rattle.lr_host.specs.Listing.{HasListed, is_file_kind}
 use Rattle.lr_host.specs.Lists.{IsIn}
 use Rattle.lr_host.specs.Looks.{Sees as SeesPath, IsFile, IsDir, IsNoDir, IsNothing}
@@ -38,7 +38,7 @@ use Rattle.lr_family.specs.Listed.{ShowsListing, NotListedAt, ShowsNoDir}
 use Rattle.lr_laws_looks.specs.Finds.{StoodOrCame}
 use Rattle.lr_laws_looks.proofs.Came.{quiet_prefix, stood_or_came}
 use Rattle.lr_audit.specs.Files.{are_path_bytes, paths_in, FileSight, file_path, file_by, fault_by, look_by, sight_file, sight_fault, file_looks, LookedAtEach, ShowsDir, listed, not_listed, no_directory, DirSight, IsShown, ShowsDirs}
-use Rattle.lr_audit.specs.Truth.{IsNameIn, IsTakenAway, AreTrueFiles}
+use Rattle.lr_audit.specs.Truth.{IsTakenAway, AreTrueFiles}
 
 -- ---- lists
 

@@ -1,5 +1,5 @@
 -- For contracts inside the crate: what parts of a call came to.
-use Rattle.std.specs.Prelude.{◌≡◌, List, [], ◌∷◌, ◌++◌, Option, Some}
+use Rattle.std.specs.Prelude.{◌≡◌, List, [], ◌++◌, Option, Some}
 use Rattle.lr_rules.specs.declared.clock.Clock.{Clock}
 use Rattle.lr_rules.specs.declared.fault.Fault.{Fault}
 use Rattle.lr_rules.specs.declared.path.Path.{Path}
@@ -10,10 +10,6 @@ use Rattle.lr_host.specs.Told.{Then, Left}
 use Rattle.lr_plan.specs.declared.looks.Looks.{Looks}
 use Rattle.lr_looks.specs.Reserved.{reserved_by}
 use Rattle.lr_looks.specs.Shown.{LooksAtAll}
-use Rattle.lr_clock.specs.declared.clock.ClockStop.{ClockStop}
-use Rattle.lr_clock.specs.declared.clock.ClockStop.TheVariants as stop
-use Rattle.lr_report.specs.declared.outcome.Outcome.{Outcome}
-use Rattle.lr_report.specs.declared.outcome.Outcome.TheVariants.{Done, OutOfMemory}
 use Rattle.lr_audited.specs.declared.line.Audit.{Audit}
 use Rattle.lr_audit.specs.declared.told.Told.{Told}
 use Rattle.lr_audit.specs.declared.words.Wanted.{Wanted}
@@ -44,8 +40,3 @@ pub record ConfsCame (w : Wanted) (clock : Clock) (told : Told) (ts : List Entry
   pub faults : told.faults.items ≡ came.meaning.faults ++ (came.look_faults ++ came.file_faults)
   pub shown : ShowsConfs w came
   pub entries : ts ≡ came.of_confs ++ (came.of_looks ++ came.of_files)
-
--- the answer where there is no clock
-abbrev pub clock_answer : ClockStop → Outcome
-clock_answer (stop.Fault f) = Done (record { notices = []; faults = f ∷ [] })
-clock_answer stop.Memory = OutOfMemory

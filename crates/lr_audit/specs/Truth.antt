@@ -1,23 +1,17 @@
 -- What an audit saw, and the disk.
-use Rattle.std.specs.Prelude.{◌≡◌, ◌⊎◌, ℕ, List, None}
+use Rattle.std.specs.Prelude.{◌≡◌, ◌⊎◌, List, None}
 use Rattle.lr_rules.specs.declared.path.Path.{Path}
 use Rattle.lr_rules.specs.declared.fault.CallKind.{CallKind}
 use Rattle.lr_rules.specs.declared.fault.CallKind.TheVariants as call
 use Rattle.lr_rules.specs.declared.fault.Fault.{Fault}
 use Rattle.lr_rules.specs.declared.fault.Fault.TheVariants as fault
-use Rattle.lr_rules.specs.Path.{joined, path_fault}
-use Rattle.lr_host.specs.Fits.{IsFileAt, IsPart}
+use Rattle.lr_rules.specs.Path.{path_fault}
+use Rattle.lr_host.specs.Fits.{IsFileAt, IsNameIn}
 use Rattle.lr_host.specs.Lists.{IsIn}
 use Rattle.lr_host.specs.World.{Past, world, names}
 use Rattle.lr_laws_looks.specs.Finds.{StoodOrCame}
 use Rattle.lr_laws_looks.specs.True.{AreTrue}
 use Rattle.lr_audit.specs.Came.{Came}
-
--- The path is that of a name in the directory.
-pub record IsNameIn (dir x : Path) : Type 0 where
-  pub name : List ℕ
-  pub part : IsPart name
-  pub named : x ≡ joined dir name
 
 -- a failed call took the file away: the look at it, or one at its directory, or the listing of that
 abbrev pub IsTakenAway : List Fault → Path → Path → Type 0

@@ -4,11 +4,11 @@ ghost use Rattle.lr_rules.specs.StatePath.{can_be_state};
 ghost use Rattle.lr_host.specs.Counted.{AreCounted, WentBy};
 ghost use Rattle.lr_host.specs.Quiet.{AreQuiet};
 ghost use Rattle.lr_host.specs.Told.{Left, Onward};
-ghost use Rattle.lr_clock.specs.Clock.{IsClocked};
+ghost use Rattle.lr_clock.specs.Clock.{IsClocked, clock_answer};
 ghost use Rattle.lr_report.specs.Reported.{AreReported};
 ghost use Rattle.lr_command.specs.Words.{mail_program};
 ghost use Rattle.lr_audit.specs.Came.{answer_of, audit_told, CallEnds};
-ghost use Rattle.lr_audit.specs.Internal.{CameTo, ConfsCame, RulesCame, clock_answer};
+ghost use Rattle.lr_audit.specs.Internal.{CameTo, ConfsCame, RulesCame};
 
 use crate::auditing::audit_of;
 use crate::told::Told;

@@ -14,7 +14,7 @@ use Rattle.lr_rules.specs.declared.rule.Naming.{Naming}
 use Rattle.lr_rules.specs.declared.rule.Rule.{Rule}
 use Rattle.lr_rules.specs.declared.rules.Rules.{Rules}
 use Rattle.lr_rules.specs.Limits.{meets_limits, is_format, or_none}
-use Rattle.lr_rules.specs.Names.{naming_of, aside_path, IsOwnName, Meet, the_log}
+use Rattle.lr_rules.specs.Names.{naming_of, aside_path, IsOwnName, Meet, the_log, IsBesideLog}
 use Rattle.lr_rules.specs.Path.{path_fault}
 use Rattle.lr_rules.specs.Dated.{stamp_key}
 use Rattle.lr_stamps.proofs.Naming.{one_stamp_at}
@@ -25,7 +25,7 @@ use Rattle.lr_family.specs.declared.place.Place.{Place}
 use Rattle.lr_family.specs.declared.place.Place.TheVariants as at
 use Rattle.lr_family.specs.declared.stand.Member.{Member}
 use Rattle.lr_family.specs.declared.stand.Stand.{Stand}
-use Rattle.lr_family.specs.Parts.{by_bytes, IsMember, IsMembersPart, PartSight, part_if_file, part_seen, part_in}
+use Rattle.lr_family.specs.Parts.{by_bytes, IsMember, IsMembersPart, part_if_file, part_seen, part_in}
 use Rattle.lr_family.specs.Places.{IsPlaceOf, AreNamed}
 use Rattle.lr_family.specs.Stands.{key_in, by_newness, AreNewestFirst}
 use Rattle.lr_family.proofs.Names.{placed_member}
@@ -34,6 +34,7 @@ use Rattle.lr_family.proofs.Unique.{place_same}
 use Rattle.lr_host.specs.declared.thing.Kind.{Kind}
 use Rattle.lr_host.specs.declared.thing.Kind.TheVariants as kind
 use Rattle.lr_host.specs.declared.thing.Seen.{Seen}
+use Rattle.lr_host.specs.Looks.{PathSight}
 use Rattle.lr_chain.proofs.DatedFalling.{irrefl}
 use Rattle.lr_plan.specs.declared.looks.LogLook.{LogLook}
 use Rattle.lr_plan.specs.declared.looks.Looks.{Looks}
@@ -49,7 +50,6 @@ use Rattle.lr_laws_family.specs.Members.{IsFamily}
 use Rattle.lr_laws_family.specs.Shown.{Shown}
 use Rattle.lr_laws_family.proofs.Picking.{named_all}
 use Rattle.lr_laws_rotations.proofs.Own.{named_own}
-use Rattle.lr_laws_rotations.specs.Own.{IsBesideLog}
 use Rattle.lr_laws_rotations.proofs.PartFile.{part_no_member, part_no_log, part_no_waiting}
 use Rattle.lr_laws_rotations.proofs.Waiting.{beside_other}
 use Rattle.lr_plan.specs.Planned.{is_file}
@@ -124,11 +124,11 @@ part_is path x (Some seen) i = by seen.kind i
     by kind.Dir none = absurd none
     by kind.Other none = absurd none
 
-abbrev sight_paths : List PartSight → List Path
-sight_paths ss = map (λ (s : PartSight). s.path) ss
+abbrev sight_paths : List PathSight → List Path
+sight_paths ss = map (λ (s : PathSight). s.path) ss
 
-in_sights : (ss : List PartSight) (x : Path) → IsIn x (flat_map part_in ss) → IsIn x (sight_paths ss)
-in_sights ss x i = let s = in_flat part_in ss x i in subst (λ (y : Path). IsIn y (sight_paths ss)) (part_is s.0.path x s.0.seen s.2) (in_map (λ (t : PartSight). t.path) s.0 ss s.1)
+in_sights : (ss : List PathSight) (x : Path) → IsIn x (flat_map part_in ss) → IsIn x (sight_paths ss)
+in_sights ss x i = let s = in_flat part_in ss x i in subst (λ (y : Path). IsIn y (sight_paths ss)) (part_is s.0.path x s.0.seen s.2) (in_map (λ (t : PathSight). t.path) s.0 ss s.1)
 
 seen_once : (path : Path) (o : Option Seen) → AreDistinct (part_seen path o)
 seen_once path None = tt
@@ -139,7 +139,7 @@ seen_once path (Some seen) = by seen.kind
     by kind.Dir = tt
     by kind.Other = tt
 
-parts_once : (ss : List PartSight) → AreDistinct (sight_paths ss) → AreDistinct (flat_map part_in ss)
+parts_once : (ss : List PathSight) → AreDistinct (sight_paths ss) → AreDistinct (flat_map part_in ss)
 parts_once [] d = tt
 parts_once (s ∷ ss) d = distinct_both (part_in s) (flat_map part_in ss) (seen_once s.path s.seen) (parts_once ss d.1)
     (λ x y i j same. apart_in s.path y (sight_paths ss) d.0 (in_sights ss y j) (sym same ∙ sym (part_is s.path x s.seen i)))

@@ -15,11 +15,11 @@ use Rattle.lr_host.specs.Told.{Each, Are, Left, not_told, is_told, Made, at_firs
 use Rattle.lr_host.specs.World.{Past, ◌▸◌, past, world}
 use Rattle.lr_host.proofs.Each.{each_append, each_as, each_in_order}
 use Rattle.lr_host.proofs.Quiet.{quiet_still}
-use Rattle.lr_family.proofs.OnlyLooks.{AreLooking, looking_both}
+use Rattle.lr_family.proofs.OnlyLooks.{looking_both}
 use Rattle.lr_cat.specs.declared.texts.TextStop.{TextStop}
 use Rattle.lr_cat.specs.declared.texts.TextStop.TheVariants as stop
 use Rattle.lr_cat.specs.Saw.{FamilySaw, ShowsFamilySaw, SeesNone, not_stood, not_found, Works, not_seen, broke_off, read_all, aside_of, files_of}
-use Rattle.lr_glob.specs.Looking.{IsSight, AreSights}
+use Rattle.lr_host.specs.Looking.{IsSight, AreSights, AreLooking}
 use Rattle.lr_cat.specs.Texts.{FileText, ReadsTexts, ReadsTextPart, TextBreaksOff, ReadsAllOf}
 use Rattle.lr_cat.proofs.Putting.{whole_only}
 use Rattle.lr_cat.proofs.Standing.{both_looks, looks_sights, none_looks, stand_looks, stop_looks}

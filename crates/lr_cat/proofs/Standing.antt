@@ -27,7 +27,7 @@ use Rattle.lr_family.specs.declared.stand.StandStop.{StandStop}
 use Rattle.lr_family.specs.declared.stand.StandStop.TheVariants as stands
 use Rattle.lr_family.specs.Among.{ShowsMembers}
 use Rattle.lr_family.specs.Standing.{ShowsStand, ShowsStop}
-use Rattle.lr_family.proofs.OnlyLooks.{IsLooking, AreLooking, looking_both, looking_sees, looking_shown_parts}
+use Rattle.lr_family.proofs.OnlyLooks.{looking_both, looking_sees, looking_shown_parts}
 use Rattle.lr_family.proofs.Shown.{members_seen}
 use Rattle.lr_laws_looks.proofs.Quiet.{looking_listing, looking_members, looking_none_in, looking_not}
 use Rattle.lr_cat.specs.declared.seeing.FileStop.{FileStop}
@@ -36,7 +36,8 @@ use Rattle.lr_cat.specs.declared.seeing.Found.{Found}
 use Rattle.lr_cat.specs.declared.stop.CatStop.{CatStop}
 use Rattle.lr_cat.specs.InternalSaw.{FindsNoFile, SeesAll, SeesNot, file_fault, found_if, stand_stop}
 use Rattle.lr_cat.specs.Saw.{Finds, FindsBoth, FindsNone, FindsNot, SeesNone, not_stood, not_looked, no_file, not_found, aside_of, files_behind}
-use Rattle.lr_glob.specs.Looking.{IsSight, AreSights}
+use Rattle.lr_host.specs.Looking.{IsSight, AreSights, IsLooking, AreLooking}
+use Rattle.lr_family.specs.Looks.{WasSeen}
 use Rattle.lr_cat.specs.Texts.{CanReadAll, HasCause}
 
 -- ---- what looks change
@@ -123,10 +124,6 @@ find_not asked path files.Call f is same l = left_as l (λ ts e. not_looked path
 find_not asked path files.NotFile f is same l = left_as l (λ ts s. no_file path is same s)
 
 -- ---- the files can be read
-
--- a look saw the member, a regular file
-abbrev WasSeen : List Entry → Member → Type 0
-WasSeen ts m = (m.seen.kind ≡ kind.File) × IsIn (entry.Look m.path (Some m.seen)) ts
 
 seen_all : (n : Naming) (stand : Stand) (ts : List Entry) (there : Bool) → stand.there ≡ there → ShowsStand n stand ts → All (WasSeen ts) stand.members
 seen_all n stand ts true is h = members_seen n h.0 stand.members h.1.second.2.front ts

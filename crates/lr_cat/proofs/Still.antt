@@ -32,7 +32,7 @@ use Rattle.lr_cat.specs.Cats.{Cats, no_directory, began, CatIsShort}
 use Rattle.lr_cat.specs.Complete.{IsClear, NoRise, PrintsAll}
 use Rattle.lr_cat.specs.History.{IsHistory}
 use Rattle.lr_cat.specs.Says.{CatSays, HasCounted, HasFault}
-use Rattle.lr_glob.specs.Looking.{AreSights}
+use Rattle.lr_host.specs.Looking.{AreSights}
 use Rattle.lr_cat.specs.Texts.{FileText}
 use Rattle.lr_cat.specs.Words.{wanted}
 use Rattle.lr_cat.specs.Internal.{CameSo}

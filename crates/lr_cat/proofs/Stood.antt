@@ -6,7 +6,7 @@ use Rattle.lr_rules.specs.Path.{joined}
 use Rattle.lr_host.specs.declared.entry.Entry.{Entry}
 use Rattle.lr_host.specs.declared.entry.Entry.TheVariants as entry
 use Rattle.lr_host.specs.declared.thing.Seen.{Seen}
-use Rattle.lr_host.specs.Fits.{IsFileAt}
+use Rattle.lr_host.specs.Fits.{IsFileAt, IsNameIn}
 use Rattle.lr_host.specs.Lists.{IsIn}
 use Rattle.lr_host.specs.Looks.{Sees, IsNothing}
 use Rattle.lr_host.specs.Opening.{IsJournal}
@@ -24,7 +24,7 @@ use Rattle.lr_family.specs.Parts.{IsMember}
 use Rattle.lr_family.specs.Standing.{ShowsStand}
 use Rattle.lr_laws_family.specs.Members.{IsFamily}
 use Rattle.lr_laws_family.specs.Shown.{IsUnlisted, IsUnseen, unlisted, gone, no_dir}
-use Rattle.lr_laws_family.proofs.Directory.{IsNameIn, member_in, none_without}
+use Rattle.lr_laws_family.proofs.Directory.{member_in, none_without}
 use Rattle.lr_laws_family.proofs.Picking.{has_or_none}
 use Rattle.lr_laws_family.proofs.Shows.{stand_shown}
 use Rattle.lr_laws_family.proofs.Stood.{quiet_journal}

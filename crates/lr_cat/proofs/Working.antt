@@ -19,17 +19,17 @@ use Rattle.lr_host.specs.Told.{Are, Left, Maybe, DidWhere}
 use Rattle.lr_host.proofs.Left.{left_as, left_both, left_then}
 use Rattle.lr_family.specs.declared.directory.DirStop.{DirStop}
 use Rattle.lr_family.specs.declared.directory.DirStop.TheVariants as seen
-use Rattle.lr_family.specs.Directory.{DirSeen, DirLookStopped}
+use Rattle.lr_family.specs.Directory.{DirSeen, DirLookStopped, dir_fault_of}
 use Rattle.lr_looks.specs.Inside.{Inside}
 use Rattle.lr_report.proofs.PutLemmas.{took_none}
 use Rattle.lr_cat.specs.declared.stop.CatStop.{CatStop}
 use Rattle.lr_cat.specs.declared.stop.CatStop.TheVariants as stop
 use Rattle.lr_cat.specs.declared.words.Wanted.{Wanted}
 use Rattle.lr_cat.specs.Cats.{Cats, no_directory, began, StopsSo}
-use Rattle.lr_cat.specs.InternalCats.{EndsWork, BeginsAndEnds, Goes, begun, GoesShort, unseen_dir_fault}
+use Rattle.lr_cat.specs.InternalCats.{EndsWork, BeginsAndEnds, Goes, begun, GoesShort}
 use Rattle.lr_cat.specs.InternalSaw.{SeesAll, SeesNot}
 use Rattle.lr_cat.specs.Saw.{Works, read_all, broke_off}
-use Rattle.lr_glob.specs.Looking.{AreSights}
+use Rattle.lr_host.specs.Looking.{AreSights}
 use Rattle.lr_cat.specs.Stops.{CameTo}
 use Rattle.lr_cat.specs.Texts.{FileText, TextBreaksOff, ReadsAllOf, TookBy, PassesTexts}
 use Rattle.lr_cat.proofs.Sighted.{saw_sights, none_sights, all_sights, broken_sights, sights_both}
@@ -174,7 +174,7 @@ module _ (w : Wanted) (clock : Clock) (rules : Rules) (n : Naming) where
   dir_missing dir x is l = nothing_read (Cats w clock rules n (Err (fault.NoDir dir))) (fault.NoDir dir) x
       (left_as l (λ ts s. no_directory (ap (λ (d : Path). Err (fault.NoDir d)) is) refl (subst (λ (d : Path). Sees d IsNotDir ts) is (record { seen = s.seen; is = nothing_is_no_dir s.seen s.is; look = s.look }))))
 
-  pub dir_stopped : (dir : Path) (why : DirStop) {o m : Option Journal} (x : Option (List ℕ)) → dir ≡ parent_of w.state → Left (DirLookStopped dir why) o m → CameTo (λ how texts ts. Cats w clock rules n how texts ts) (Err (stop.Fault (unseen_dir_fault why dir))) o m x x
+  pub dir_stopped : (dir : Path) (why : DirStop) {o m : Option Journal} (x : Option (List ℕ)) → dir ≡ parent_of w.state → Left (DirLookStopped dir why) o m → CameTo (λ how texts ts. Cats w clock rules n how texts ts) (Err (stop.Fault (dir_fault_of why dir))) o m x x
   dir_stopped dir seen.NotDir x is l = nothing_read (Cats w clock rules n (Err (fault.NoDir dir))) (fault.NoDir dir) x
       (left_as l (λ ts s. no_directory (ap (λ (d : Path). Err (fault.NoDir d)) is) refl (subst (λ (d : Path). Sees d IsNotDir ts) is (record { seen = s.seen; is = other_is_no_dir s.seen s.is; look = s.look }))))
   dir_stopped dir seen.Call x is l = nothing_read (Cats w clock rules n (Err (fault.Call call.Look dir))) (fault.Call call.Look dir) x

@@ -10,7 +10,7 @@ use Rattle.lr_rules.specs.Path.{parent_of}
 use Rattle.lr_host.specs.declared.entry.Entry.{Entry}
 use Rattle.lr_host.specs.declared.entry.Entry.TheVariants.{Starts}
 use Rattle.lr_host.specs.Looks.{Sees, IsDir, IsNotDir}
-use Rattle.lr_glob.specs.Looking.{AreSights}
+use Rattle.lr_host.specs.Looking.{AreSights}
 use Rattle.lr_host.specs.Told.{Then, Maybe}
 use Rattle.lr_looks.specs.Inside.{Inside}
 use Rattle.lr_cat.specs.declared.stop.CatStop.{CatStop}

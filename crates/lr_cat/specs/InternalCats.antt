@@ -1,6 +1,5 @@
 -- For proofs: the parts of a call under the lock.
 use Rattle.std.specs.Prelude.{◌≡◌, Bool, List, [], ◌∷◌, ◌++◌, Result, Err}
-use Rattle.lr_rules.specs.declared.path.Path.{Path}
 use Rattle.lr_rules.specs.declared.clock.Clock.{Clock}
 use Rattle.lr_rules.specs.declared.rule.Naming.{Naming}
 use Rattle.lr_rules.specs.declared.rules.Rules.{Rules}
@@ -9,10 +8,8 @@ use Rattle.lr_rules.specs.declared.fault.Fault.{Fault}
 use Rattle.lr_rules.specs.declared.fault.Fault.TheVariants as fault
 use Rattle.lr_host.specs.declared.entry.Entry.{Entry}
 use Rattle.lr_host.specs.declared.entry.Entry.TheVariants.{Starts, Ends}
-use Rattle.lr_glob.specs.Looking.{AreSights}
+use Rattle.lr_host.specs.Looking.{AreSights}
 use Rattle.lr_host.specs.Told.{Then, Are, Maybe}
-use Rattle.lr_family.specs.declared.directory.DirStop.{DirStop}
-use Rattle.lr_family.specs.declared.directory.DirStop.TheVariants as seen
 use Rattle.lr_cat.specs.declared.stop.CatStop.{CatStop}
 use Rattle.lr_cat.specs.declared.stop.CatStop.TheVariants as stop
 use Rattle.lr_cat.specs.declared.words.Wanted.{Wanted}
@@ -38,8 +35,3 @@ abbrev pub GoesShort : Wanted → Clock → Rules → CatStop → List Entry →
 GoesShort w clock rules stop.Held ts = ts ≡ []
 GoesShort w clock rules stop.Memory ts = BeginsAndEnds w clock rules AreSights ts
 GoesShort w clock rules (stop.Fault f) ts = Unit {0}
-
--- the fault of a directory that wasn't seen as one
-abbrev pub unseen_dir_fault : DirStop → Path → Fault
-unseen_dir_fault seen.Call dir = fault.Call call.Look dir
-unseen_dir_fault seen.NotDir dir = fault.NoDir dir

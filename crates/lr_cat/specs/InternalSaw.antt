@@ -8,7 +8,7 @@ use Rattle.lr_rules.specs.declared.fault.Fault.TheVariants as fault
 use Rattle.lr_host.specs.declared.entry.Entry.{Entry}
 use Rattle.lr_host.specs.declared.journal.Journal.{Journal}
 use Rattle.lr_host.specs.Looks.{Sees, IsNoFile}
-use Rattle.lr_glob.specs.Looking.{AreSights}
+use Rattle.lr_host.specs.Looking.{AreSights}
 use Rattle.lr_host.specs.Told.{Left}
 use Rattle.lr_family.specs.declared.stand.StandStop.{StandStop}
 use Rattle.lr_family.specs.declared.stand.StandStop.TheVariants as stands

@@ -4,12 +4,13 @@ ghost use Rattle.lr_rules.specs.declared.fault.Fault.TheVariants as fault;
 ghost use Rattle.lr_rules.specs.Limits.{is_format, or_none};
 ghost use Rattle.lr_rules.specs.Path.{parent_of};
 ghost use Rattle.lr_host.specs.declared.entry.Entry.TheVariants as entry;
-ghost use Rattle.lr_glob.specs.Looking.{AreSights};
+ghost use Rattle.lr_host.specs.Looking.{AreSights};
 ghost use Rattle.lr_host.specs.Told.{Left, Can, NoneFell, Onward, WhereTold};
 ghost use Rattle.lr_host.specs.World.{world};
+ghost use Rattle.lr_family.specs.Directory.{dir_fault_of};
 ghost use Rattle.lr_cat.specs.Cats.{Cats, StopsSo};
 ghost use Rattle.lr_cat.specs.declared.stop.CatStop.TheVariants as stop;
-ghost use Rattle.lr_cat.specs.InternalCats.{EndsWork, Goes, GoesShort, unseen_dir_fault};
+ghost use Rattle.lr_cat.specs.InternalCats.{EndsWork, Goes, GoesShort};
 ghost use Rattle.lr_cat.specs.Saw.{Works, aside_of};
 ghost use Rattle.lr_cat.specs.Stops.{CameTo, StopCause};
 
@@ -17,7 +18,7 @@ use crate::seeing::{Files, see};
 use crate::stop::CatStop;
 use crate::texts::put_texts;
 use crate::words::Wanted;
-use lr_family::{DirStop, Family, look_for_dir};
+use lr_family::{DirStop, Family, dir_fault, look_for_dir};
 use lr_host::{Host, Sink};
 use lr_rules::{CallKind, Clock, Fault, Memory, Path, Rules, aside_path};
 use std::alloc::Global;
@@ -181,13 +182,10 @@ fn no_dir(names: Names) -> CatStop
 
 // The look at it failed, or saw something else.
 fn not_dir(why: DirStop, names: Names) -> CatStop
-    ensures { result ≡ stop.Fault (unseen_dir_fault why names.dir) }
+    ensures { result ≡ stop.Fault (dir_fault_of why names.dir) }
 {
     let Names { dir, .. } = names;
-    match why {
-        DirStop::NotDir => CatStop::Fault(Fault::NoDir(dir)),
-        DirStop::Call => CatStop::Fault(Fault::Call(CallKind::Look, dir)),
-    }
+    CatStop::Fault(dir_fault(why, dir))
 }
 
 /// Looks for the state's directory, and reads what stands of the log's history under the lock.

@@ -11,6 +11,7 @@ use Rattle.lr_rules.specs.declared.path.Path.{Path}
 use Rattle.lr_rules.specs.declared.rule.Count.{Count}
 use Rattle.lr_rules.specs.declared.rule.Count.TheVariants as count
 use Rattle.lr_rules.specs.declared.rule.Naming.{Naming}
+use Rattle.lr_rules.specs.Limits.{IsCount}
 use Rattle.lr_family.specs.declared.place.Place.{Place}
 use Rattle.lr_family.specs.declared.stand.Member.{Member}
 use Rattle.lr_family.specs.Places.{IsPlaceOf, AreNamed}
@@ -18,7 +19,7 @@ use Rattle.lr_family.specs.Stands.{number_in}
 use Rattle.lr_family.proofs.Placed.{numbered_at}
 use Rattle.lr_chain.specs.Hindrances.{number_hindrances}
 use Rattle.lr_chain.specs.Rotation.{places_of, is_left, is_expired, goes, going}
-use Rattle.lr_chain.specs.Ready.{HaveNames, HaveNext, HaveNewNames, IsCount, NoneTooHigh, is_highest, highest_path}
+use Rattle.lr_chain.specs.Ready.{HaveNames, HaveNext, HaveNewNames, NoneTooHigh, is_highest, highest_path}
 
 -- the highest place that the count allows
 abbrev pub top_of : Naming → Count → ℕ

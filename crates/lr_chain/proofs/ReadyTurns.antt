@@ -7,7 +7,7 @@ use Rattle.lr_rules.specs.declared.rule.Count.{Count}
 use Rattle.lr_rules.specs.declared.rule.Format.{Format}
 use Rattle.lr_rules.specs.declared.rule.Make.{Make}
 use Rattle.lr_rules.specs.declared.rule.Naming.{Naming}
-use Rattle.lr_rules.specs.Limits.{is_format, or_none}
+use Rattle.lr_rules.specs.Limits.{is_format, or_none, IsCount}
 use Rattle.lr_rules.specs.Path.{path_fault, parent_of}
 use Rattle.lr_host.specs.declared.entry.Entry.{Entry}
 use Rattle.lr_host.specs.Fits.{IsDirectoryAt}
@@ -23,7 +23,7 @@ use Rattle.lr_chain.specs.DatedReady.{dated_target, all_by}
 use Rattle.lr_chain.specs.DatedRotation.{dated_rotation}
 use Rattle.lr_chain.specs.DatedTurning.{StandSo as StandDated, IsDatedTurned}
 use Rattle.lr_chain.specs.Prepared.{ready_of}
-use Rattle.lr_chain.specs.Ready.{IsCount, NoneTooHigh, ready_steps}
+use Rattle.lr_chain.specs.Ready.{NoneTooHigh, ready_steps}
 use Rattle.lr_chain.specs.Rotation.{places_of, is_left, going, rotation}
 use Rattle.lr_chain.specs.Standing.{StandSo as StandNumbered}
 use Rattle.lr_chain.specs.Turning.{IsChainTurned}

@@ -56,11 +56,6 @@ with_members n c places from ready = record {
   retire = map (removal_at n) (retired c from);
 }
 
--- a count that a rule can have
-abbrev pub IsCount : Count → Type 0
-IsCount (count.Keep n) = n ≤ 999999
-IsCount count.Always = Unit {0}
-
 -- these places have names; so have those behind them of members that are moved
 abbrev pub HaveNames : Naming → List ℕ → Type 0
 HaveNames n places = All (λ place. n.start + place ≤ 4294967295) places

@@ -5,7 +5,7 @@ ghost use Rattle.lr_rules.specs.declared.path.Path.{Path};
 ghost use Rattle.lr_rules.specs.declared.rule.Count.{Count};
 ghost use Rattle.lr_rules.specs.declared.rule.Make.{Make};
 ghost use Rattle.lr_rules.specs.declared.rule.Naming.{Naming};
-ghost use Rattle.lr_rules.specs.Limits.{is_format, or_none};
+ghost use Rattle.lr_rules.specs.Limits.{is_format, or_none, IsCount};
 ghost use Rattle.lr_rules.specs.Path.{path_fault};
 ghost use Rattle.lr_family.specs.declared.stand.Member.{Member};
 ghost use Rattle.lr_family.specs.declared.stand.Stand.{Stand};
@@ -15,7 +15,7 @@ ghost use Rattle.lr_chain.specs.DatedReady.{dated_target, all_by};
 ghost use Rattle.lr_chain.specs.DatedRotation.{dated_rotation};
 ghost use Rattle.lr_chain.specs.Hindrances.{what_hinders};
 ghost use Rattle.lr_chain.specs.Prepared.{ready_of};
-ghost use Rattle.lr_chain.specs.Ready.{IsCount, ready_steps};
+ghost use Rattle.lr_chain.specs.Ready.{ready_steps};
 ghost use Rattle.lr_chain.specs.Rotation.{places_of, going, rotation};
 ghost use Rattle.lr_chain.specs.WhereTheyStand.{FitsWhereTheyStand, ReadyTurnsFamily};
 

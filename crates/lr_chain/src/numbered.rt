@@ -1,10 +1,11 @@
 // What makes the rotation of a numbered family ready.
 ghost use Rattle.std.specs.Prelude.{◌≡◌, ◌≤◌, [], ◌∷◌, None, OnOk, IfOk, IfErr, MatchOption};
 ghost use Rattle.lr_rules.specs.declared.fault.Fault.TheVariants as fault;
+ghost use Rattle.lr_rules.specs.Limits.{IsCount};
 ghost use Rattle.lr_family.specs.Places.{AreNamed};
 ghost use Rattle.lr_chain.specs.Hindrances.{number_hindrances, IsHindered};
 ghost use Rattle.lr_chain.specs.Prepared.{numbered_ready};
-ghost use Rattle.lr_chain.specs.Ready.{IsCount, HaveNames, HaveNext, HaveNewNames, NoneTooHigh, at_rest, with_members};
+ghost use Rattle.lr_chain.specs.Ready.{HaveNames, HaveNext, HaveNewNames, NoneTooHigh, at_rest, with_members};
 
 use crate::keeping::Kept;
 use crate::numbered_parts::{last_removals, leftover_removals, moves_of};

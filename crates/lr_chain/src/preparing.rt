@@ -1,10 +1,9 @@
 // What makes a rotation ready.
 ghost use Rattle.std.specs.Prelude.{◌≡◌, ◌≤◌, [], true, OnOk, IfOk, IfErr};
-ghost use Rattle.lr_rules.specs.Limits.{is_format, or_none};
+ghost use Rattle.lr_rules.specs.Limits.{is_format, or_none, IsCount};
 ghost use Rattle.lr_family.specs.Places.{AreNamed};
 ghost use Rattle.lr_chain.specs.Hindrances.{what_hinders, IsHindered};
 ghost use Rattle.lr_chain.specs.Prepared.{ready_of};
-ghost use Rattle.lr_chain.specs.Ready.{IsCount};
 
 use crate::dated::prepare_dated;
 use crate::keeping::Kept;

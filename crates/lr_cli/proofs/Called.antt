@@ -35,9 +35,9 @@ use Rattle.lr_report.specs.declared.outcome.Report.{Report}
 use Rattle.lr_command.specs.declared.request.Request.{Request}
 use Rattle.lr_command.specs.Words.{asked}
 use Rattle.lr_cli.specs.Called.{Came, CallEnds, CallShows, not_read, read}
-use Rattle.lr_clock.specs.Clock.{ShowsClock, ClockStopped, HasClock, IsClockFault, IsClocked, with_clock, without_clock}
+use Rattle.lr_clock.specs.Clock.{ShowsClock, ClockStopped, HasClock, IsClockFault, IsClocked, with_clock, without_clock, clock_answer}
 use Rattle.lr_report.specs.Reported.{IsOut, HasNoOut, AreReported}
-use Rattle.lr_cli.specs.Faults.{answer_of, clock_answer, told_faults, HasCounted, HasFault}
+use Rattle.lr_cli.specs.Faults.{answer_of, told_faults, HasCounted, HasFault}
 use Rattle.lr_cli.specs.Asked.{AskFor, planned_text}
 use Rattle.lr_cli.specs.Internal.{CameTo, TurnsByClock, only_looked, ran}
 use Rattle.lr_cli.specs.Safe.{HadClock, KeepsSafeByClock, no_clock as safe_without, by_clock}

@@ -29,8 +29,8 @@ use Rattle.lr_report.specs.declared.outcome.Outcome.{Outcome}
 use Rattle.lr_report.specs.declared.outcome.Outcome.TheVariants.{Done, Held, OutOfMemory}
 use Rattle.lr_report.specs.declared.outcome.Report.{Report}
 use Rattle.lr_cli.specs.Called.{Came, no_reading, no_plan, PlanEnds, CallHalts, no_clock, no_zone, behind_clock, CallEnds, halted, called, asked_in}
-use Rattle.lr_clock.specs.Clock.{ShowsClock, ClockStopped}
-use Rattle.lr_cli.specs.Faults.{answer_of, clock_answer}
+use Rattle.lr_clock.specs.Clock.{ShowsClock, ClockStopped, clock_answer}
+use Rattle.lr_cli.specs.Faults.{answer_of}
 use Rattle.lr_cli.specs.Internal.{ConfsEnd, confs_halted, confs_called, CameTo}
 use Rattle.lr_clock.specs.Zone.{at_first}
 

@@ -23,7 +23,7 @@ use Rattle.lr_due.specs.declared.zone.ZoneText.{ZoneText}
 use Rattle.lr_include.specs.Visits.{ReadsBroken, ReadsPartly}
 use Rattle.lr_include.proofs.AllQuiet.{all_so, lacking_so, some_only}
 use Rattle.lr_plan.specs.declared.plan.Plan.{Plan}
-use Rattle.lr_glob.specs.Looking.{IsSight, AreSights}
+use Rattle.lr_host.specs.Looking.{IsSight, AreSights}
 use Rattle.lr_run.specs.Halt.{Halt, Halts}
 use Rattle.lr_run.specs.Saw.{ShowsSaw}
 use Rattle.lr_run.specs.Work.{run_entries}

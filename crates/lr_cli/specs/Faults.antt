@@ -1,12 +1,10 @@
 -- The faults of a call's answer.
-use Rattle.std.specs.Prelude.{Contains, List, [], ◌∷◌, Option, None, Result, Ok, Err}
+use Rattle.std.specs.Prelude.{Contains, List, [], Option, None, Result, Ok, Err}
 use Rattle.lr_rules.specs.declared.fault.Fault.{Fault}
 use Rattle.lr_plan.specs.declared.plan.Plan.{Plan}
 use Rattle.lr_host.specs.Told.{Counts}
 use Rattle.lr_run.specs.declared.answer.RunStop.{RunStop}
 use Rattle.lr_run.specs.declared.answer.RunStop.TheVariants as stop
-use Rattle.lr_clock.specs.declared.clock.ClockStop.{ClockStop}
-use Rattle.lr_clock.specs.declared.clock.ClockStop.TheVariants as clock_stop
 use Rattle.lr_report.specs.declared.outcome.Outcome.{Outcome}
 use Rattle.lr_report.specs.Reported.{AreReported}
 use Rattle.lr_report.specs.declared.outcome.Outcome.TheVariants.{Done, Held, OutOfMemory}
@@ -27,11 +25,6 @@ plan_told (Err why) = None
 abbrev pub told_faults : Result Told RunStop → List Fault
 told_faults (Ok told) = told.faults.items
 told_faults (Err why) = []
-
--- the answer where there is no clock
-abbrev pub clock_answer : ClockStop → Outcome
-clock_answer (clock_stop.Fault f) = Done (record { notices = []; faults = f ∷ [] })
-clock_answer clock_stop.Memory = OutOfMemory
 
 -- the report has the fault
 abbrev pub HasFault : Outcome → Fault → Type 0

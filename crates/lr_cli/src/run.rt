@@ -5,9 +5,9 @@ ghost use Rattle.lr_host.specs.Told.{Left, Onward, Rose, WhereTold};
 ghost use Rattle.lr_host.specs.Counted.{WentBy};
 ghost use Rattle.lr_laws_rotations.specs.Runs.{IsWholeRunBy};
 ghost use Rattle.lr_cli.specs.Called.{CallEnds};
-ghost use Rattle.lr_clock.specs.Clock.{IsClocked};
+ghost use Rattle.lr_clock.specs.Clock.{IsClocked, clock_answer};
 ghost use Rattle.lr_report.specs.Reported.{AreReported};
-ghost use Rattle.lr_cli.specs.Faults.{answer_of, clock_answer, plan_told, told_faults};
+ghost use Rattle.lr_cli.specs.Faults.{answer_of, plan_told, told_faults};
 ghost use Rattle.lr_cli.specs.Internal.{CameTo, ConfsEnd, TurnsByClock};
 
 use crate::told::Told;

@@ -3,7 +3,7 @@ ghost use Rattle.std.specs.Prelude.{◌≡◌, ◌≢◌, ◌≤◌, ◌↔◌, 
 ghost use Rattle.lr_rules.specs.declared.fault.Fault.TheVariants as fault;
 ghost use Rattle.lr_host.specs.Opening.{IsJournal};
 ghost use Rattle.lr_host.specs.Told.{Left, NoneFell, Rose, WhereTold};
-ghost use Rattle.lr_glob.specs.Looking.{AreSights};
+ghost use Rattle.lr_host.specs.Looking.{AreSights};
 ghost use Rattle.lr_command.specs.declared.request.Request.{Request};
 ghost use Rattle.lr_report.specs.declared.outcome.Report.{Report};
 ghost use Rattle.lr_cli.specs.Asked.{AskFor, AskForNone};

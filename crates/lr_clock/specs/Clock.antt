@@ -10,6 +10,8 @@ use Rattle.lr_host.specs.Counted.{NoneAround}
 use Rattle.lr_due.specs.declared.tz.Zone.{Zone}
 use Rattle.lr_due.specs.declared.zone.ZoneText.{ZoneText}
 use Rattle.lr_due.specs.Zone.{IsInRange, IsRefusedZone, IsClockIn}
+use Rattle.lr_report.specs.declared.outcome.Outcome.{Outcome}
+use Rattle.lr_report.specs.declared.outcome.Outcome.TheVariants.{Done, OutOfMemory}
 use Rattle.lr_clock.specs.declared.clock.ClockStop.{ClockStop}
 use Rattle.lr_clock.specs.declared.clock.ClockStop.TheVariants as stop
 use Rattle.lr_clock.specs.Zone.{ShowsZone, LacksText, LacksZoneMemory, IsZoneText, IsTextFault}
@@ -32,6 +34,11 @@ pub data LacksClock (zone : Zone) (seconds : ℤ) (f : Fault) (ts : List Entry) 
 abbrev pub ClockStopped : Zone → ℤ → ClockStop → List Entry → Type 0
 ClockStopped zone seconds (stop.Fault f) ts = LacksClock zone seconds f ts
 ClockStopped zone seconds stop.Memory ts = LacksZoneMemory zone ts
+
+-- the answer of a call that has no clock
+abbrev pub clock_answer : ClockStop → Outcome
+clock_answer (stop.Fault f) = Done (record { notices = []; faults = f ∷ [] })
+clock_answer stop.Memory = OutOfMemory
 
 -- ---- without entries
 

@@ -11,7 +11,7 @@ use Rattle.lr_rules.specs.declared.fault.Phase.{Phase}
 use Rattle.lr_rules.specs.declared.rule.Count.{Count}
 use Rattle.lr_rules.specs.declared.rule.Count.TheVariants as count
 use Rattle.lr_rules.specs.declared.rule.Rule.{Rule}
-use Rattle.lr_rules.specs.Limits.{is_count, is_log_word}
+use Rattle.lr_rules.specs.Limits.{is_count, is_log_word, IsCount}
 use Rattle.lr_forms.specs.declared.set.Set.{Set}
 use Rattle.lr_forms.specs.declared.set.Set.TheVariants as set
 use Rattle.lr_forms.specs.declared.said.Said.{Said}
@@ -24,7 +24,7 @@ use Rattle.lr_conf.specs.Fields.{fields_of, count_set}
 use Rattle.lr_conf.specs.Rules.{rule_of}
 use Rattle.lr_conf.specs.Scripts.{script_fault}
 use Rattle.lr_conf.specs.Meaning.{Line, script_says, meaning}
-use Rattle.lr_conf.specs.Plain.{IsRuleWord, IsSmallCount, IsPlainRule}
+use Rattle.lr_conf.specs.Plain.{IsRuleWord, IsPlainRule}
 use Rattle.lr_conf.proofs.Each.{append, Given}
 use Rattle.lr_conf.proofs.Walk.{OkSaid, Walk, each_rule, last_given}
 
@@ -64,11 +64,11 @@ more_ok xs ys x y = (more_front xs ys x.0, append IsRuleWord xs ys x.1 y.1)
 
 -- ---- fields
 
-small : (c : Count) → is_count c ≡ true → IsSmallCount c
+small : (c : Count) → is_count c ≡ true → IsCount c
 small (count.Keep n) h = grind (arith, nat_tests)
 small count.Always h = tt
 
-count_given : (v : Set) → S v → Given IsSmallCount (count_set v)
+count_given : (v : Set) → S v → Given IsCount (count_set v)
 count_given (set.Count c) ok = small c ok
 count_given v ok = tt
 
@@ -76,7 +76,7 @@ rule_ok : (file : Path) (at : ℕ) (words : List (List ℕ)) (vs : List Set) →
 rule_ok file at words vs n ok = record {
   named = n.0;
   words = All-from_recursion IsRuleWord words n.1;
-  count = last_given S IsSmallCount count_set (count.Keep 0) (omega arith) count_given vs ok;
+  count = last_given S IsCount count_set (count.Keep 0) (omega arith) count_given vs ok;
 }
 
 -- what holds of each rule where it follows from what lines set

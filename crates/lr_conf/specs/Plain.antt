@@ -1,13 +1,7 @@
 -- What holds of each rule of a configuration.
-use Rattle.std.specs.Prelude.{◌≡◌, ◌≢◌, ◌≤◌, ℕ, true, List, [], All}
-use Rattle.lr_rules.specs.declared.rule.Count.{Count}
-use Rattle.lr_rules.specs.declared.rule.Count.TheVariants as count
+use Rattle.std.specs.Prelude.{◌≡◌, ◌≢◌, ℕ, true, List, [], All}
 use Rattle.lr_rules.specs.declared.rule.Rule.{Rule}
-use Rattle.lr_rules.specs.Limits.{is_log_word}
-
-abbrev pub IsSmallCount : Count → Type 0
-IsSmallCount (count.Keep n) = n ≤ 999999
-IsSmallCount count.Always = Unit {0}
+use Rattle.lr_rules.specs.Limits.{is_log_word, IsCount}
 
 -- a literal name of a log, or a pattern, within its limits
 abbrev pub IsRuleWord : List ℕ → Type 0
@@ -17,4 +11,4 @@ IsRuleWord word = is_log_word word ≡ true
 pub record IsPlainRule (r : Rule) : Type 0 where
   pub named : r.words ≢ []
   pub words : All IsRuleWord r.words
-  pub count : IsSmallCount r.count
+  pub count : IsCount r.count

@@ -5,22 +5,14 @@ use Rattle.lr_rules.specs.declared.rule.Naming.{Naming}
 use Rattle.lr_host.specs.declared.entry.Entry.{Entry}
 use Rattle.lr_host.specs.declared.entry.Entry.TheVariants as entry
 use Rattle.lr_host.specs.declared.thing.Seen.{Seen}
-use Rattle.lr_host.specs.Looks.{Sees}
+use Rattle.lr_host.specs.Looks.{Sees, PathSight, look_of}
 use Rattle.lr_host.specs.Quiet.{IsQuiet, AreQuiet}
-use Rattle.lr_host.specs.Told.{Each, Then}
+use Rattle.lr_host.specs.Told.{Then}
 use Rattle.lr_host.proofs.Each.{each_append, each_as}
+use Rattle.lr_host.specs.Looking.{IsLooking, AreLooking}
 use Rattle.lr_family.specs.declared.stand.StandStop.{StandStop}
 use Rattle.lr_family.specs.Looks.{MemberSight, spot_look}
-use Rattle.lr_family.specs.Parts.{PartSight, part_look, ShowsParts, ShowsNoParts}
-
--- a look or a listing
-abbrev pub IsLooking : Entry → Type 0
-IsLooking (entry.Look x seen) = Unit {0}
-IsLooking (entry.List dir listed) = Unit {0}
-IsLooking _ = ⊥
-
-abbrev pub AreLooking : List Entry → Type 0
-AreLooking ts = Each IsLooking ts
+use Rattle.lr_family.specs.Parts.{ShowsParts, ShowsNoParts}
 
 pub looking_both : {P Q : List Entry → Type 0} (ts : List Entry) → ((us : List Entry) → P us → AreLooking us) → ((us : List Entry) → Q us → AreLooking us) → Then P Q ts → AreLooking ts
 looking_both ts f g t = subst AreLooking (sym t.joined) (each_append IsLooking t.front t.back (f t.front t.first) (g t.back t.second))
@@ -35,7 +27,7 @@ pub looking_sights : (gs : List MemberSight) → AreLooking (map spot_look gs)
 looking_sights [] = tt
 looking_sights (g ∷ gs) = (tt, looking_sights gs)
 
-pub looking_parts : (gs : List PartSight) → AreLooking (map part_look gs)
+pub looking_parts : (gs : List PathSight) → AreLooking (map look_of gs)
 looking_parts [] = tt
 looking_parts (g ∷ gs) = (tt, looking_parts gs)
 

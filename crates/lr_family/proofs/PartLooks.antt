@@ -18,10 +18,11 @@ use Rattle.lr_host.specs.Lists.{IsIn}
 use Rattle.lr_host.specs.Told.{Left}
 use Rattle.lr_host.proofs.Left.{left_first, left_as, left_then}
 use Rattle.lr_host.proofs.Lists.{in_append}
+use Rattle.lr_host.specs.Looks.{PathSight, look_of}
 use Rattle.lr_family.specs.declared.stand.StandStop.{StandStop}
 use Rattle.lr_family.specs.declared.stand.StandStop.TheVariants as stop
 use Rattle.lr_family.specs.InternalParts.{SeesParts, SeesSomeParts}
-use Rattle.lr_family.specs.Parts.{AreParts, IsPartAmong, SomeParts, PartSight, part_look, part_if_file, part_seen, part_in, PartsAmong, StopsBefore, ShowsNoParts, by_bytes}
+use Rattle.lr_family.specs.Parts.{AreParts, IsPartAmong, SomeParts, part_if_file, part_seen, part_in, PartsAmong, StopsBefore, ShowsNoParts, by_bytes}
 
 -- before the first look
 pub sees_none : (parts : List Path) (o : Option Journal) → parts ≡ [] → Left (SeesParts [] parts) o o
@@ -29,12 +30,12 @@ sees_none parts o e = left_first (SeesParts [] parts) o (record { sights = []; e
 
 one_more : (paths parts new : List Path) (path : Path) (seen : Option Seen) (ts us : List Entry) → SeesParts paths parts ts → us ≡ entry.Look path seen ∷ [] → new ≡ parts ++ part_seen path seen → SeesParts (paths ++ path ∷ []) new (ts ++ us)
 one_more paths parts new path seen ts us s u grown =
-    let sight : PartSight = record { path = path; seen = seen } in
+    let sight : PathSight = record { path = path; seen = seen } in
     record {
       sights = s.sights ++ sight ∷ [];
-      each = map-append (λ (g : PartSight). g.path) s.sights (sight ∷ []) ∙ ap (λ ps. ps ++ path ∷ []) s.each;
+      each = map-append (λ (g : PathSight). g.path) s.sights (sight ∷ []) ∙ ap (λ ps. ps ++ path ∷ []) s.each;
       parts_are = grown ∙ (ap (λ ps. ps ++ part_seen path seen) s.parts_are ∙ (ap (λ ps. flat_map part_in s.sights ++ ps) (sym (append-nil (part_seen path seen))) ∙ sym (flat_map-append part_in s.sights (sight ∷ []))));
-      looks = ap (λ vs. vs ++ us) s.looks ∙ (ap (λ vs. map part_look s.sights ++ vs) u ∙ sym (map-append part_look s.sights (sight ∷ [])));
+      looks = ap (λ vs. vs ++ us) s.looks ∙ (ap (λ vs. map look_of s.sights ++ vs) u ∙ sym (map-append look_of s.sights (sight ∷ [])));
     }
 
 -- one look more
@@ -89,17 +90,17 @@ all_of_them n names paths are = record { paths = paths; once = are.rising; liste
 abbrev pub FewLooks : Naming → List (List ℕ) → List Entry → Type 0
 FewLooks n names ts = (some : SomeParts n names) × (length ts ≤ length some.paths)
 
-looked_at : (sights : List PartSight) (ts : List Entry) → ts ≡ map part_look sights → length ts ≡ length (map (λ (g : PartSight). g.path) sights)
-looked_at sights ts e = ap length e ∙ (length-map sights part_look ∙ sym (length-map sights (λ (g : PartSight). g.path)))
+looked_at : (sights : List PathSight) (ts : List Entry) → ts ≡ map look_of sights → length ts ≡ length (map (λ (g : PathSight). g.path) sights)
+looked_at sights ts e = ap length e ∙ (length-map sights look_of ∙ sym (length-map sights (λ (g : PathSight). g.path)))
 
 pub few_looks : (n : Naming) (names : List (List ℕ)) (parts : List Path) (ts : List Entry) → PartsAmong n names parts ts → FewLooks n names ts
-few_looks n names parts ts s = (all_of_them n names (map (λ (g : PartSight). g.path) s.sights) s.all, (let same = looked_at s.sights ts s.looks in omega (arith, same)))
+few_looks n names parts ts s = (all_of_them n names (map (λ (g : PathSight). g.path) s.sights) s.all, (let same = looked_at s.sights ts s.looks in omega (arith, same)))
 
 pub few_stopped : (n : Naming) (names : List (List ℕ)) (why : StandStop) (ts : List Entry) → ShowsNoParts n names why ts → FewLooks n names ts
 few_stopped n names why ts (inl e) = (none_of_them n names, (let none : length ts ≡ 0 = ap length e.1 in omega (arith, none)))
 few_stopped n names why ts (inr s) = (
-  all_of_them n names (map (λ (g : PartSight). g.path) s.sights ++ s.after) s.all,
-  (let same = looked_at s.sights ts s.looks in let size = length-append (map (λ (g : PartSight). g.path) s.sights) s.after in omega (arith, same, size)),
+  all_of_them n names (map (λ (g : PathSight). g.path) s.sights ++ s.after) s.all,
+  (let same = looked_at s.sights ts s.looks in let size = length-append (map (λ (g : PathSight). g.path) s.sights) s.after in omega (arith, same, size)),
 )
 
 -- ---- what stopped them is never a path that is no file
@@ -128,7 +129,7 @@ one_seen path x (Some s) h = go s.kind refl h
     go kind.Dir e none = absurd none
     go kind.Other e none = absurd none
 
-sight_seen : (x : Path) (sights : List PartSight) → IsIn x (flat_map part_in sights) → (s : Seen) × (s.kind ≡ kind.File) × IsIn (entry.Look x (Some s)) (map part_look sights)
+sight_seen : (x : Path) (sights : List PathSight) → IsIn x (flat_map part_in sights) → (s : Seen) × (s.kind ≡ kind.File) × IsIn (entry.Look x (Some s)) (map look_of sights)
 sight_seen x [] h = absurd h
 sight_seen x (g ∷ gs) h = ⊎_elim
     (λ a. let r = one_seen g.path x g.seen a in (r.1.0, r.1.1, inl (ap (λ (p : Path). entry.Look p g.seen) r.0 ∙ ap (λ (v : Option Seen). entry.Look x v) r.1.2)))

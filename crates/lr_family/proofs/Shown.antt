@@ -9,7 +9,6 @@ use Rattle.lr_rules.specs.declared.rule.Naming.{Naming}
 use Rattle.lr_rules.specs.Path.{joined}
 use Rattle.lr_host.specs.declared.entry.Entry.{Entry}
 use Rattle.lr_host.specs.declared.entry.Entry.TheVariants as entry
-use Rattle.lr_host.specs.declared.thing.Kind.TheVariants as kind
 use Rattle.lr_host.specs.declared.thing.Seen.{Seen}
 use Rattle.lr_host.specs.Lists.{IsIn, IsNotIn}
 use Rattle.lr_host.specs.Looks.{IsFileOrGone}
@@ -17,15 +16,11 @@ use Rattle.lr_host.proofs.Lists.{in_from, in_to, in_map, in_unmap, in_back}
 use Rattle.lr_family.specs.declared.spot.Spot.{Spot}
 use Rattle.lr_family.specs.declared.stand.Member.{Member}
 use Rattle.lr_family.specs.Among.{StandsAmong}
-use Rattle.lr_family.specs.Looks.{MemberSight, spot_look, seen_member, member_of, AreFilesOrGone}
+use Rattle.lr_family.specs.Looks.{MemberSight, spot_look, seen_member, member_of, AreFilesOrGone, WasSeen}
 use Rattle.lr_family.specs.Parts.{IsMember}
 use Rattle.lr_family.specs.Places.{AreNamed}
 use Rattle.lr_family.specs.Spots.{IsAmong}
 use Rattle.lr_family.proofs.Placed.{seen_named, named_sorted}
-
--- a look saw the member as it says, a regular file
-abbrev WasSeen : List Entry → Member → Type 0
-WasSeen ts m = (m.seen.kind ≡ kind.File) × IsIn (entry.Look m.path (Some m.seen)) ts
 
 -- ---- looks, one by one
 

@@ -2,6 +2,8 @@
 use Rattle.std.specs.Prelude.{◌≡◌, Bool, true, false, List, []}
 use Rattle.lr_rules.specs.declared.path.Path.{Path}
 use Rattle.lr_rules.specs.declared.fault.CallKind.TheVariants as call
+use Rattle.lr_rules.specs.declared.fault.Fault.{Fault}
+use Rattle.lr_rules.specs.declared.fault.Fault.TheVariants as fault
 use Rattle.lr_rules.specs.Path.{parent_of}
 use Rattle.lr_host.specs.declared.entry.Entry.{Entry}
 use Rattle.lr_family.specs.declared.directory.DirStop.{DirStop}
@@ -19,6 +21,11 @@ DirSeen path false ts = Sees path IsNothing ts
 abbrev pub DirLookStopped : Path → DirStop → List Entry → Type 0
 DirLookStopped path dir.Call ts = ts ≡ []
 DirLookStopped path dir.NotDir ts = Sees path IsNoDir ts
+
+-- the fault of a directory that wasn't seen
+abbrev pub dir_fault_of : DirStop → Path → Fault
+dir_fault_of dir.Call path = fault.Call call.Look path
+dir_fault_of dir.NotDir path = fault.NoDir path
 
 -- the look at the parent failed, or its path found no memory
 abbrev pub ParentStopped : Path → StandStop → List Entry → Type 0

@@ -1,9 +1,11 @@
 -- What looks at members showed, one after another.
 use Rattle.std.specs.Prelude.{◌≡◌, List, [], ◌∷◌, ◌++◌, map, flat_map, All, Option, Some, None}
 use Rattle.lr_rules.specs.declared.path.Path.{Path}
+use Rattle.lr_host.specs.declared.thing.Kind.TheVariants as kind
 use Rattle.lr_host.specs.declared.thing.Seen.{Seen}
 use Rattle.lr_host.specs.declared.entry.Entry.{Entry}
 use Rattle.lr_host.specs.declared.entry.Entry.TheVariants as entry
+use Rattle.lr_host.specs.Lists.{IsIn}
 use Rattle.lr_host.specs.Looks.{IsFileOrGone}
 use Rattle.lr_host.specs.Told.{Then, Are}
 use Rattle.lr_family.specs.declared.spot.Spot.{Spot}
@@ -24,6 +26,10 @@ seen_member spot (Some seen) = record { path = spot.path; place = spot.place; se
 
 abbrev pub member_of : MemberSight → List Member
 member_of sight = seen_member sight.spot sight.seen
+
+-- a look saw the member as it says, a regular file
+abbrev pub WasSeen : List Entry → Member → Type 0
+WasSeen ts m = (m.seen.kind ≡ kind.File) × IsIn (entry.Look m.path (Some m.seen)) ts
 
 -- These members are those of a look at each of these, in order.
 pub record AreSeen (spots : List Spot) (members : List Member) : Type 0 where

@@ -16,7 +16,7 @@ use Rattle.lr_host.specs.declared.thing.Kind.{Kind}
 use Rattle.lr_host.specs.declared.thing.Kind.TheVariants as kind
 use Rattle.lr_host.specs.declared.thing.Seen.{Seen}
 use Rattle.lr_host.specs.declared.entry.Entry.{Entry}
-use Rattle.lr_host.specs.declared.entry.Entry.TheVariants as entry
+use Rattle.lr_host.specs.Looks.{PathSight, look_of}
 use Rattle.lr_family.specs.declared.stand.StandStop.{StandStop}
 use Rattle.lr_family.specs.declared.stand.StandStop.TheVariants as stop
 
@@ -68,14 +68,6 @@ pub record SomeParts (n : Naming) (names : List (List ℕ)) : Type 0 where
 
 -- ---- the looks at them
 
--- A look at the path of a part file, and what it saw.
-pub record PartSight : Type 0 where
-  pub path : Path
-  pub seen : Option Seen
-
-abbrev pub part_look : PartSight → Entry
-part_look sight = entry.Look sight.path sight.seen
-
 abbrev pub part_if_file : Path → Kind → List Path
 part_if_file path kind.File = path ∷ []
 part_if_file path _ = []
@@ -85,15 +77,15 @@ abbrev pub part_seen : Path → Option Seen → List Path
 part_seen path None = []
 part_seen path (Some seen) = part_if_file path seen.kind
 
-abbrev pub part_in : PartSight → List Path
+abbrev pub part_in : PathSight → List Path
 part_in sight = part_seen sight.path sight.seen
 
 -- Each part file among the names was looked at, in order of bytes; at these a regular file was seen.
 pub record PartsAmong (n : Naming) (names : List (List ℕ)) (parts : List Path) (ts : List Entry) : Type 0 where
-  pub sights : List PartSight
+  pub sights : List PathSight
   pub all : AreParts n names (map (λ sight. sight.path) sights)
   pub parts_are : parts ≡ flat_map part_in sights
-  pub looks : ts ≡ map part_look sights
+  pub looks : ts ≡ map look_of sights
 
 -- in a directory that isn't there none stands, and none is looked at
 abbrev pub ShowsParts : Naming → Bool → List (List ℕ) → List Path → List Entry → Type 0
@@ -107,10 +99,10 @@ StopsBefore (path ∷ paths) why = (why ≡ stop.Call call.Look path) ⊎ (why �
 
 -- The first part files among the names were looked at; then the next look failed, or there was no memory.
 pub record PartsStopped (n : Naming) (names : List (List ℕ)) (why : StandStop) (ts : List Entry) : Type 0 where
-  pub sights : List PartSight
+  pub sights : List PathSight
   pub after : List Path
   pub all : AreParts n names (map (λ sight. sight.path) sights ++ after)
-  pub looks : ts ≡ map part_look sights
+  pub looks : ts ≡ map look_of sights
   pub stopped : StopsBefore after why
 
 -- Why it isn't known which of them stand. There may be no memory before the first look.

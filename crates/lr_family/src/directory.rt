@@ -5,11 +5,11 @@ ghost use Rattle.lr_host.specs.declared.entry.Entry.TheVariants as entry;
 ghost use Rattle.lr_host.specs.Told.{Left, Can, Onward, Rose};
 ghost use Rattle.lr_host.specs.Looks.{Sees, is_dir};
 ghost use Rattle.lr_family.specs.Stands.{IsFailedStand};
-ghost use Rattle.lr_family.specs.Directory.{DirSeen, DirLookStopped, ParentStopped};
+ghost use Rattle.lr_family.specs.Directory.{DirSeen, DirLookStopped, ParentStopped, dir_fault_of};
 
 use crate::stand::StandStop;
 use lr_host::{Host, Kind, Seen};
-use lr_rules::{CallKind, Path};
+use lr_rules::{CallKind, Fault, Path};
 use std::alloc::Global;
 
 /// Why it isn't known whether the directory is there.
@@ -39,6 +39,16 @@ pub fn look_for_dir<H: Host>(host: &mut H, dir: &Path) -> Result<bool, DirStop>
         Kind::Dir => Ok(true),
         Kind::File => Err(DirStop::NotDir),
         Kind::Other => Err(DirStop::NotDir),
+    }
+}
+
+/// The fault of a directory that wasn't seen.
+pub fn dir_fault(stop: DirStop, dir: Path) -> Fault
+    ensures { result ≡ dir_fault_of stop dir }
+{
+    match stop {
+        DirStop::Call => Fault::Call(CallKind::Look, dir),
+        DirStop::NotDir => Fault::NoDir(dir),
     }
 }
 

@@ -30,7 +30,7 @@ mod spot;
 mod stand;
 mod standing;
 
-pub use directory::{DirStop, look_for_dir};
+pub use directory::{DirStop, dir_fault, look_for_dir};
 pub use family::{Family, apart};
 pub use kin::are_kin;
 pub use laws::{name_is_read_back, path_is_named_again, stamp_is_read_back};

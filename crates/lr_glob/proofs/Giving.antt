@@ -5,7 +5,7 @@ use Rattle.std.specs.List.{list_any}
 use Rattle.lr_rules.specs.declared.path.Path.{Path}
 use Rattle.lr_rules.specs.declared.fault.CallKind.TheVariants as call
 use Rattle.lr_rules.specs.Match.{is_wildcard, literal_path}
-use Rattle.lr_rules.specs.Path.{path_fault, is_absolute}
+use Rattle.lr_rules.specs.Path.{path_fault, is_absolute, root}
 use Rattle.lr_host.specs.declared.thing.Seen.{Seen}
 use Rattle.lr_host.specs.declared.entry.Entry.{Entry}
 use Rattle.lr_host.specs.declared.entry.Entry.TheVariants as entry
@@ -22,7 +22,7 @@ use Rattle.lr_glob.specs.Parts.{parts_in}
 use Rattle.lr_glob.specs.Rounds.{Led}
 use Rattle.lr_glob.specs.Sights.{InOrder, is_whole, is_long, judged, seen_at, LookedAt, LooksBroken}
 use Rattle.lr_glob.specs.Stops.{glob_stop, IsFailedGlob, RoundBroken, NotFollowed, NotLed}
-use Rattle.lr_glob.specs.Words.{root, WordGave, Comes, Stopped, WordBegun, WordCallFailed, Halted, NotSought, LiteralBroken}
+use Rattle.lr_glob.specs.Words.{WordGave, Comes, Stopped, WordBegun, WordCallFailed, Halted, NotSought, LiteralBroken}
 
 -- ---- parts
 

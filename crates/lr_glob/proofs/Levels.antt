@@ -5,10 +5,9 @@ use Rattle.std.proofs.lemmas.Bool.{false_from_ne_true, or_parts}
 use Rattle.std.proofs.lemmas.Bool.Decides.{Decides-eqb}
 use Rattle.std.proofs.lemmas.List.{append_cancel_right}
 use Rattle.lr_rules.specs.declared.path.Path.{Path}
-use Rattle.lr_rules.specs.Path.{joined, is_slash, last_of}
+use Rattle.lr_rules.specs.Path.{joined, is_slash, last_of, root}
 use Rattle.lr_rules.proofs.PathLemmas.{last_joined}
 use Rattle.lr_host.specs.Fits.{IsPart}
-use Rattle.lr_glob.specs.Words.{root}
 
 abbrev pub slashes : List ℕ → ℕ
 slashes [] = 0

@@ -7,12 +7,13 @@ use Rattle.std.proofs.lemmas.Slice.Eq.{bytes_eq-Decides}
 use Rattle.lr_rules.specs.declared.path.Path.{Path}
 use Rattle.lr_rules.specs.declared.fault.CallKind.{CallKind}
 use Rattle.lr_rules.specs.Match.{is_wildcard, literal_path}
+use Rattle.lr_rules.specs.Path.{root}
 use Rattle.lr_host.specs.declared.thing.Seen.{Seen}
 use Rattle.lr_host.specs.declared.entry.Entry.{Entry}
 use Rattle.lr_host.specs.declared.entry.Entry.TheVariants as entry
 use Rattle.lr_host.specs.Fits.{Fits}
 use Rattle.lr_host.specs.Lists.{IsIn, IsNotIn, AreDistinct}
-use Rattle.lr_host.specs.Looks.{Sees, IsDir, is_dir}
+use Rattle.lr_host.specs.Looks.{Sees, IsDir, is_dir, PathSight, look_of}
 use Rattle.lr_host.specs.Told.{Each, Then, Made, at_first, by_writer, by_tool}
 use Rattle.lr_host.specs.World.{Past, World, world}
 use Rattle.lr_host.proofs.Each.{each_first, each_map, each_reverse, none_pass}
@@ -27,9 +28,8 @@ use Rattle.lr_glob.specs.Listings.{is_listing_of, listings_of}
 use Rattle.lr_glob.specs.Parts.{JoinOf, parts_in}
 use Rattle.lr_glob.specs.Visits.{Visit, visit_names, visit_entries}
 use Rattle.lr_glob.specs.Rounds.{Picks, Round, Went, Asked, round_entries, FollowsBy, Leads, Led}
-use Rattle.lr_glob.specs.Sights.{PathSight, look_of}
 use Rattle.lr_glob.specs.Stops.{NotVisited, RoundBroken, NotFollowed, NotLed}
-use Rattle.lr_glob.specs.Words.{root, WordGave, Comes, Stopped, WordBegun, WordCallFailed, SearchThen}
+use Rattle.lr_glob.specs.Words.{WordGave, Comes, Stopped, WordBegun, WordCallFailed, SearchThen}
 use Rattle.lr_glob.proofs.Levels.{IsAt, at_one, level_of, level_on}
 use Rattle.lr_glob.proofs.Apart.{AreNames, AllAt, AreTrue, dir_of, differs, joins_at, joins_once, picks_at, picks_once}
 

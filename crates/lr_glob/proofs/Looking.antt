@@ -13,12 +13,12 @@ use Rattle.lr_host.specs.declared.entry.Entry.{Entry}
 use Rattle.lr_host.specs.declared.entry.Entry.TheVariants as entry
 use Rattle.lr_host.specs.declared.journal.Journal.{Journal}
 use Rattle.lr_host.specs.Told.{Left}
-use Rattle.lr_host.specs.Looks.{Sees}
+use Rattle.lr_host.specs.Looks.{Sees, PathSight, look_of}
 use Rattle.lr_host.proofs.Left.{left_as, left_then, left_first}
 use Rattle.lr_glob.specs.declared.found.Found.{Found}
 use Rattle.lr_glob.specs.declared.found.GlobStop.{GlobStop}
 use Rattle.lr_glob.specs.declared.found.GlobStop.TheVariants as stop
-use Rattle.lr_glob.specs.Sights.{PathSight, look_of, file_at, found_file, is_whole, LookedAt, LooksBroken}
+use Rattle.lr_glob.specs.Sights.{file_at, found_file, is_whole, LookedAt, LooksBroken}
 
 -- ---- one look
 

@@ -5,13 +5,12 @@ use Rattle.std.proofs.lemmas.Bool.{false_from_ne_true, or_parts, or_from}
 use Rattle.std.proofs.lemmas.Bool.Decides.{Decides-eqb}
 use Rattle.std.proofs.lemmas.List.{append-nil}
 use Rattle.lr_rules.specs.declared.path.Path.{Path}
-use Rattle.lr_rules.specs.Path.{joined, is_slash, is_empty, is_absolute, has_empty_part}
+use Rattle.lr_rules.specs.Path.{joined, is_slash, is_empty, is_absolute, has_empty_part, root}
 use Rattle.lr_rules.specs.Match.{literal_path}
 use Rattle.lr_rules.proofs.Heads.{tails}
 use Rattle.lr_host.specs.Fits.{IsPart}
 use Rattle.lr_host.specs.Lists.{IsIn}
 use Rattle.lr_glob.specs.Parts.{parts_in}
-use Rattle.lr_glob.specs.Words.{root}
 
 -- each behind a slash
 abbrev pub behind : List (List ℕ) → List ℕ

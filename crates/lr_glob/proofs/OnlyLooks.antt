@@ -8,7 +8,7 @@ use Rattle.lr_host.specs.declared.thing.Seen.{Seen}
 use Rattle.lr_host.specs.declared.entry.Entry.{Entry}
 use Rattle.lr_host.specs.declared.entry.Entry.TheVariants as entry
 use Rattle.lr_host.specs.Told.{Then}
-use Rattle.lr_host.specs.Looks.{Sees, IsDir, is_dir}
+use Rattle.lr_host.specs.Looks.{Sees, IsDir, is_dir, PathSight, look_of}
 use Rattle.lr_host.specs.Quiet.{IsQuiet, AreQuiet}
 use Rattle.lr_host.proofs.Each.{each_append, each_as, each_map}
 use Rattle.lr_glob.specs.declared.found.Found.{Found}
@@ -16,10 +16,9 @@ use Rattle.lr_glob.specs.declared.found.GlobStop.{GlobStop}
 use Rattle.lr_glob.specs.declared.found.GlobStop.TheVariants as stop
 use Rattle.lr_glob.specs.declared.visit.VisitStop.{VisitStop}
 use Rattle.lr_glob.specs.declared.visit.VisitStop.TheVariants as visit
-use Rattle.lr_glob.specs.Looking.{IsLooking, AreLooking}
+use Rattle.lr_host.specs.Looking.{IsLooking, AreLooking}
 use Rattle.lr_glob.specs.Visits.{Visit, visit_entries}
 use Rattle.lr_glob.specs.Rounds.{Round, Went, Asked, round_entries, Led}
-use Rattle.lr_glob.specs.Sights.{PathSight, look_of}
 use Rattle.lr_glob.specs.Stops.{NotVisited, RoundBroken, NotFollowed, NotLed}
 use Rattle.lr_glob.specs.Words.{WordGave, Comes, Stopped, WordBegun, WordCallFailed, SearchThen}
 

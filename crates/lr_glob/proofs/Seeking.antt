@@ -7,7 +7,7 @@ use Rattle.std.proofs.lemmas.Bool.Decides.{Decides-eqb}
 use Rattle.std.proofs.lemmas.List.Sorted.{Contains-permutation, IsPermutation-sym}
 use Rattle.lr_rules.specs.declared.path.Path.{Path}
 use Rattle.lr_rules.specs.Match.{WordGives, PathMatches, EndsWith, is_wildcard, literal_path, part_end}
-use Rattle.lr_rules.specs.Path.{joined, is_absolute, has_empty_part}
+use Rattle.lr_rules.specs.Path.{joined, is_absolute, has_empty_part, root}
 use Rattle.lr_host.specs.declared.thing.Kind.{Kind}
 use Rattle.lr_host.specs.declared.thing.Kind.TheVariants as kind
 use Rattle.lr_host.specs.declared.thing.Seen.{Seen}
@@ -21,13 +21,14 @@ use Rattle.lr_host.proofs.Each.{each_first}
 use Rattle.lr_host.proofs.Lists.{in_map, in_append, in_back, in_from, in_to}
 use Rattle.lr_match.proofs.Ends.{ends_tell}
 use Rattle.lr_host.specs.Listing.{is_file_kind}
+use Rattle.lr_host.specs.Looks.{PathSight, look_of}
 use Rattle.lr_glob.specs.declared.found.Found.{Found}
 use Rattle.lr_glob.specs.declared.found.GlobStop.TheVariants as stop
 use Rattle.lr_glob.specs.Parts.{parts_in}
 use Rattle.lr_glob.specs.Rounds.{Round, Went, Asked, round_entries, FollowsBy, Leads, Led}
-use Rattle.lr_glob.specs.Sights.{PathSight, is_whole, is_long, file_at, found_file, look_of, seen_at, judged, LookedAt}
+use Rattle.lr_glob.specs.Sights.{is_whole, is_long, file_at, found_file, seen_at, judged, LookedAt}
 use Rattle.lr_glob.specs.Sought.{IsSought}
-use Rattle.lr_glob.specs.Words.{root, WordGave, Comes, SearchThen}
+use Rattle.lr_glob.specs.Words.{WordGave, Comes, SearchThen}
 use Rattle.lr_glob.proofs.Apart.{dir_of, joined_in, visited_in}
 use Rattle.lr_glob.proofs.ListsOnce.{IsTrue, each_last, visits_true, made_true}
 use Rattle.lr_glob.proofs.Names.{behind, under, AreParts, under_root, word_behind, literal_part, word_parts}

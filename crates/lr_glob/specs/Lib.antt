@@ -1,7 +1,6 @@
 pub mod Gathers
 pub mod Listing
 pub mod Listings
-pub mod Looking
 pub mod Parts
 pub mod Turns
 pub mod Visits

@@ -12,19 +12,11 @@ use Rattle.lr_rules.specs.Names.{ends_with}
 use Rattle.lr_rules.specs.Path.{last_of}
 use Rattle.lr_host.specs.declared.thing.Seen.{Seen}
 use Rattle.lr_host.specs.declared.entry.Entry.{Entry}
-use Rattle.lr_host.specs.declared.entry.Entry.TheVariants as entry
 use Rattle.lr_host.specs.Listing.{is_file_kind}
+use Rattle.lr_host.specs.Looks.{PathSight, look_of}
 use Rattle.lr_glob.specs.declared.found.Found.{Found}
 use Rattle.lr_glob.specs.declared.found.GlobStop.{GlobStop}
 use Rattle.lr_glob.specs.declared.found.GlobStop.TheVariants as stop
-
--- A look at a path, and what it saw.
-pub record PathSight : Type 0 where
-  pub path : Path
-  pub seen : Option Seen
-
-abbrev pub look_of : PathSight → Entry
-look_of s = entry.Look s.path s.seen
 
 -- what was seen at the path, of any kind
 abbrev pub seen_at : Path → Option Seen → List Found

@@ -4,7 +4,7 @@ use Rattle.lr_rules.specs.declared.path.Path.{Path}
 use Rattle.lr_rules.specs.declared.fault.CallKind.{CallKind}
 use Rattle.lr_rules.specs.declared.fault.CallKind.TheVariants as call
 use Rattle.lr_rules.specs.Match.{is_wildcard, literal_path}
-use Rattle.lr_rules.specs.Path.{path_fault, is_absolute}
+use Rattle.lr_rules.specs.Path.{path_fault, is_absolute, root}
 use Rattle.lr_host.specs.declared.entry.Entry.{Entry}
 use Rattle.lr_host.specs.Told.{Then}
 use Rattle.lr_host.specs.Looks.{Sees}
@@ -15,9 +15,6 @@ use Rattle.lr_glob.specs.Parts.{parts_in}
 use Rattle.lr_glob.specs.Rounds.{Led}
 use Rattle.lr_glob.specs.Sights.{InOrder, is_whole, seen_at, LookedAt, FailedAt, LookedAtSome, judged}
 use Rattle.lr_glob.specs.Stops.{NotLed}
-
-abbrev pub root : Path
-root = 47 ∷ []
 
 -- The paths to which the parts of a wildcard lead were looked at, in order of bytes, but for copies that aren't whole; P holds of
 -- these looks.

@@ -12,7 +12,7 @@ ghost use Rattle.lr_host.specs.World.{Past};
 ghost use Rattle.lr_glob.specs.declared.found.Found.{Found};
 ghost use Rattle.lr_glob.specs.declared.found.GlobStop.{GlobStop};
 ghost use Rattle.lr_glob.specs.Listings.{listings_of};
-ghost use Rattle.lr_glob.specs.Looking.{AreLooking};
+ghost use Rattle.lr_host.specs.Looking.{AreLooking};
 ghost use Rattle.lr_glob.specs.Sought.{IsSought};
 ghost use Rattle.lr_glob.specs.Words.{Comes, Stopped};
 

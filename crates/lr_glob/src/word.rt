@@ -3,13 +3,13 @@ ghost use Rattle.std.specs.Prelude.{◌≡◌, ◌≢◌, [], ◌∷◌, true, f
 ghost use Rattle.std.specs.List.{list_any};
 ghost use Rattle.lr_host.specs.Looks.{Sees};
 ghost use Rattle.lr_host.specs.Told.{Left, Onward, Rose};
-ghost use Rattle.lr_rules.specs.Path.{is_absolute, path_fault};
+ghost use Rattle.lr_rules.specs.Path.{is_absolute, path_fault, root};
 ghost use Rattle.lr_rules.specs.Match.{is_wildcard, literal_path};
 ghost use Rattle.lr_glob.specs.Rounds.{Led};
 ghost use Rattle.lr_glob.specs.Parts.{parts_in};
 ghost use Rattle.lr_glob.specs.Sights.{InOrder, is_whole, is_long, judged, seen_at};
 ghost use Rattle.lr_glob.specs.Stops.{IsFailedGlob};
-ghost use Rattle.lr_glob.specs.Words.{root, WordGave, Halted, Comes, Stopped, NotSought, LiteralBroken};
+ghost use Rattle.lr_glob.specs.Words.{WordGave, Halted, Comes, Stopped, NotSought, LiteralBroken};
 
 use crate::found::{Found, GlobStop};
 use crate::lead::{lead, parts_of};

@@ -6,6 +6,7 @@ pub mod Kept
 pub mod Later
 pub mod Listing
 pub mod Lists
+pub mod Looking
 pub mod Looks
 pub mod Opening
 pub mod Quiet

@@ -13,6 +13,14 @@ pub record Sees (path : Path) (P : Option Seen → Type 0) (ts : List Entry) : T
   pub is : P seen
   pub look : ts ≡ entry.Look path seen ∷ []
 
+-- A look at a path, and what it saw.
+pub record PathSight : Type 0 where
+  pub path : Path
+  pub seen : Option Seen
+
+abbrev pub look_of : PathSight → Entry
+look_of s = entry.Look s.path s.seen
+
 -- nothing was seen
 abbrev pub IsNothing : Option Seen → Type 0
 IsNothing seen = seen ≡ None

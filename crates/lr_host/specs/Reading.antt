@@ -1,5 +1,5 @@
 -- The text that reads of one path give.
-use Rattle.std.specs.Prelude.{◌≡◌, ◌<◌, ℕ, ◌+◌, Bool, true, false, List, [], ◌∷◌, ◌++◌, length}
+use Rattle.std.specs.Prelude.{◌≡◌, ◌<◌, ◌≤◌, ℕ, ◌+◌, Bool, true, false, List, [], ◌∷◌, ◌++◌, length}
 use Rattle.std.specs.List.{list_any}
 use Rattle.lr_rules.specs.declared.path.Path.{Path}
 use Rattle.lr_rules.specs.Path.{is_empty}
@@ -11,6 +11,11 @@ use Rattle.lr_host.specs.Told.{Each, Are, Then}
 abbrev pub IsReadOf : Path → Entry → Type 0
 IsReadOf path (Reads x from piece) = x ≡ path
 IsReadOf path _ = ⊥
+
+-- a read gave at most 65,536 bytes
+abbrev pub IsShortRead : Entry → Type 0
+IsShortRead (Reads x from piece) = length piece ≤ 65536
+IsShortRead _ = Unit {0}
 
 -- the bytes that these read, joined
 abbrev pub text : List Entry → List ℕ

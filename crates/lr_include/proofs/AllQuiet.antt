@@ -8,14 +8,14 @@ use Rattle.lr_host.specs.declared.thing.Seen.{Seen}
 use Rattle.lr_host.specs.Told.{Then, Each}
 use Rattle.lr_host.specs.Looks.{Sees}
 use Rattle.lr_host.specs.Quiet.{IsQuiet, AreQuiet}
-use Rattle.lr_host.specs.Reading.{IsReadOf}
+use Rattle.lr_host.specs.Reading.{IsReadOf, IsShortRead}
 use Rattle.lr_host.proofs.Each.{each_append}
 use Rattle.lr_host.proofs.Reading.{reads_only}
 use Rattle.lr_include.specs.declared.part.TextEnd.{TextEnd}
 use Rattle.lr_include.specs.declared.part.TextEnd.TheVariants as end
 use Rattle.lr_include.specs.declared.visit.Visit.{Visit}
 use Rattle.lr_include.specs.declared.visit.Visit.TheVariants as visit
-use Rattle.lr_include.specs.Visits.{ReadsSome, ReadsPart, IsShortRead, ShowsNames, ShowsBytes, ShowsFile, ShowsDir, ShowsVisit, look_failed, nothing, exposed, directory, file, PartText, PartFile, PartVisit}
+use Rattle.lr_include.specs.Visits.{ReadsSome, ReadsPart, ShowsNames, ShowsBytes, ShowsFile, ShowsDir, ShowsVisit, look_failed, nothing, exposed, directory, file, PartText, PartFile, PartVisit}
 use Rattle.lr_include.specs.declared.task.Task.{Task}
 use Rattle.lr_include.specs.declared.task.Task.TheVariants as task
 use Rattle.lr_include.specs.Stages.{Stage, settled_stage, visited, at_visits, begun, is_shallow, room_for, ShowsNext, ShowsVisits, Reads}

@@ -9,14 +9,14 @@ use Rattle.lr_host.specs.declared.entry.Entry.{Entry}
 use Rattle.lr_host.specs.declared.entry.Entry.TheVariants.{Reads}
 use Rattle.lr_host.specs.declared.journal.Journal.{Journal}
 use Rattle.lr_host.specs.Told.{Left, Are, Each}
-use Rattle.lr_host.specs.Reading.{to_limit, to_end}
+use Rattle.lr_host.specs.Reading.{to_limit, to_end, IsShortRead}
 use Rattle.lr_host.specs.Steps.{is_naming}
 use Rattle.lr_host.proofs.Left.{left_first, left_as, left_then}
 use Rattle.lr_host.proofs.Each.{each_append}
 use Rattle.lr_include.specs.declared.part.TextEnd.{TextEnd}
 use Rattle.lr_include.specs.declared.part.TextEnd.TheVariants as end
 use Rattle.lr_include.specs.declared.file_taking.Taking.{Taking}
-use Rattle.lr_include.specs.Visits.{ShowsText, IsShortRead, IsShortReadOf, PartText}
+use Rattle.lr_include.specs.Visits.{ShowsText, IsShortReadOf, PartText}
 use Rattle.lr_include.specs.Taken.{IsUnclosed, ReadBrings, ShortReads, TookFrom, ReadGoesOn}
 use Rattle.lr_include.proofs.Texts.{read_more, reads_so_far}
 use Rattle.lr_include.proofs.Telling.{told_whole, take_both}

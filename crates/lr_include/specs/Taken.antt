@@ -6,11 +6,11 @@ use Rattle.lr_lex.specs.Streams.{StreamStands, still, given, MayComeBehind, Hold
 use Rattle.lr_host.specs.declared.entry.Entry.{Entry}
 use Rattle.lr_host.specs.declared.journal.Journal.{Journal}
 use Rattle.lr_host.specs.Told.{Left, Each}
-use Rattle.lr_host.specs.Reading.{ReadsOf}
+use Rattle.lr_host.specs.Reading.{ReadsOf, IsShortRead}
 use Rattle.lr_include.specs.declared.part.TextEnd.{TextEnd}
 use Rattle.lr_include.specs.declared.part.TextEnd.TheVariants as end
 use Rattle.lr_include.specs.declared.file_taking.Taking.{Taking}
-use Rattle.lr_include.specs.Visits.{IsShortRead, ShowsText}
+use Rattle.lr_include.specs.Visits.{ShowsText}
 
 -- Bytes may follow, and all that is whole was taken in.
 pub record IsUnclosed (t : Taking) : Type 0 where

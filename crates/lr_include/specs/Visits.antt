@@ -9,7 +9,7 @@ use Rattle.lr_host.specs.declared.thing.Seen.{Seen}
 use Rattle.lr_host.specs.Listing.{NamesRise, HasListed}
 use Rattle.lr_host.specs.Told.{Then, Each}
 use Rattle.lr_host.specs.Looks.{Sees, IsDir, IsNothingOrOther}
-use Rattle.lr_host.specs.Reading.{IsReadOf, ReadsOf, ReadsAll}
+use Rattle.lr_host.specs.Reading.{IsReadOf, ReadsOf, ReadsAll, IsShortRead}
 use Rattle.lr_include.specs.Whole.{whole_items}
 use Rattle.lr_include.specs.declared.look.Sight.{Sight}
 use Rattle.lr_include.specs.declared.look.Sight.TheVariants as sight
@@ -65,11 +65,6 @@ abbrev pub told_by : ℕ → List ℕ → TextEnd → List Told
 told_by room bytes end.Whole = items bytes
 told_by room bytes end.TooMany = whole_items (take room bytes)
 told_by room bytes end.Failed = whole_items bytes
-
--- a read gave at most 65,536 bytes
-abbrev pub IsShortRead : Entry → Type 0
-IsShortRead (entry.Reads x from piece) = length piece ≤ 65536
-IsShortRead _ = Unit {0}
 
 abbrev pub IsShortReadOf : Path → Entry → Type 0
 IsShortReadOf x t = IsReadOf x t × IsShortRead t

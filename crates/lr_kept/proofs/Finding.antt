@@ -1,5 +1,5 @@
 -- Of two logs that meet the one finds the other.
-use Rattle.std.proofs.Common.{◌≡◌, ◌∙◌, sym, ap, subst, refl, inl, inr, ⊎_elim, ◌⊎◌, ℕ, true, List, [], ◌∷◌, ◌++◌, append_assoc, append-nil, Option, Some, None, length, codes, if◌then◌else◌}
+use Rattle.std.proofs.Common.{◌≡◌, ◌∙◌, sym, ap, subst, refl, inl, inr, ⊎_elim, ◌⊎◌, ℕ, List, [], ◌∷◌, ◌++◌, append_assoc, append-nil, Option, Some, None, length, codes, if◌then◌else◌}
 use Rattle.std.proofs.lemmas.List.{append_cancel_right}
 use Rattle.std.specs.Prelude.{◌==◌}
 use Rattle.std.proofs.Math.Logic.{⊎_swap}
@@ -8,7 +8,7 @@ use Rattle.lr_rules.specs.declared.rule.Format.{Format}
 use Rattle.lr_rules.specs.declared.rule.Piece.{Piece}
 use Rattle.lr_rules.specs.declared.rule.Piece.TheVariants as piece
 use Rattle.lr_rules.specs.Match.{part_end}
-use Rattle.lr_rules.specs.Names.{aside_path, IsStampShape, number_pieces, IsMiddleShape, IsMemberShape, IsOwnName, the_log, set_aside, a_member, a_part, IsName, Meet}
+use Rattle.lr_rules.specs.Names.{aside_path, IsStampShape, number_pieces, IsMiddleShape, IsMemberShape, IsOwnName, the_log, set_aside, a_member, a_part, IsName, Meet, IsBesideLog}
 use Rattle.lr_rules.specs.Path.{joined}
 use Rattle.lr_shapes.specs.Fronts.{Begins}
 use Rattle.lr_family.specs.declared.family.Family.{Family}
@@ -48,13 +48,9 @@ member_begins n last end h =
           ∙ spelled (if length n.dir == 1 then [] else n.dir) n.base (middle_front n.dated) more.0 n.ext end,
     )
 
--- the path is that where the log waits that is set aside
-abbrev IsAside : List ℕ → Naming → List ℕ → Type 0
-IsAside log n x = (n.aside ≡ true) × (x ≡ aside_path log)
-
 -- what a name of the log's own is or begins with
 abbrev OwnBegins : List ℕ → Naming → List ℕ → Type 0
-OwnBegins log n x = (x ≡ log) ⊎ (Begins (member_front n) x ⊎ IsAside log n x)
+OwnBegins log n x = (x ≡ log) ⊎ (Begins (member_front n) x ⊎ IsBesideLog log n x)
 
 own_begins : (log : List ℕ) (n : Naming) (x : List ℕ) → IsOwnName log n x → OwnBegins log n x
 own_begins log n x (the_log e) = inl e
@@ -77,7 +73,7 @@ begin_alike (c ∷ f) (d ∷ g) x h k =
 
 -- the bytes are a front of the log
 abbrev pub IsFrontOf : Family → List ℕ → Type 0
-IsFrontOf f bytes = (bytes ≡ f.log) ⊎ ((bytes ≡ member_front f.naming) ⊎ ((bytes ≡ below f.naming.dir) ⊎ IsAside f.log f.naming bytes))
+IsFrontOf f bytes = (bytes ≡ f.log) ⊎ ((bytes ≡ member_front f.naming) ⊎ ((bytes ≡ below f.naming.dir) ⊎ IsBesideLog f.log f.naming bytes))
 
 -- the one finds a front of the other
 abbrev pub FindsIt : Family → Family → Type 0
@@ -106,7 +102,7 @@ by_members f g x h (inl (inr (inl k))) = ⊎_elim
 by_members f g x h (inl (inr (inr k))) = inl (aside_path g.log, inr (inr (inr (k.0, refl))), inl (subst (λ (y : List ℕ). Begins (member_front f.naming) y) k.1 h))
 by_members f g x h (inr k) = inl (below g.naming.dir, inr (inr (inl refl)), inl (begins_more (member_front f.naming) g.naming.dir (47 ∷ []) (subst (λ (y : List ℕ). Begins (member_front f.naming) y) k h)))
 
-by_aside : (f g : Family) → (f.log ≡ g.log → ⊥) → (x : List ℕ) → IsAside f.log f.naming x → NameBegins g x → FindsIt f g ⊎ FindsIt g f
+by_aside : (f g : Family) → (f.log ≡ g.log → ⊥) → (x : List ℕ) → IsBesideLog f.log f.naming x → NameBegins g x → FindsIt f g ⊎ FindsIt g f
 by_aside f g apart x h (inl (inl k)) = inl (g.log, inl refl, inr (inr (h.0, begins_same (aside_path f.log) g.log (sym k ∙ h.1))))
 by_aside f g apart x h (inl (inr (inl k))) = inr (aside_path f.log, inr (inr (inr (h.0, refl))), inl (subst (λ (y : List ℕ). Begins (member_front g.naming) y) h.1 k))
 by_aside f g apart x h (inl (inr (inr k))) = absurd (apart (append_cancel_right f.log g.log (codes ".tmp") (sym h.1 ∙ k.1)))

@@ -20,6 +20,7 @@ use Rattle.lr_rules.specs.Names.{AreDigits, IsStampShape, number_pieces, IsMiddl
 use Rattle.lr_rules.specs.Path.{path_fault, parent_of, last_of, joined, is_slash}
 use Rattle.lr_rules.proofs.Digits.{decimal_run, decimal_plain}
 use Rattle.lr_rules.proofs.PathLemmas.{plain_both, last_joined, joined_parts, last_plain}
+use Rattle.lr_rules.specs.Bytes.{is_digit}
 use Rattle.lr_stamps.proofs.StampShapes.{numbered_shape}
 use Rattle.lr_host.specs.Sets.{LogSet, Order, Numbered, Dated, order, IsKeyBy, IsAsideOf}
 use Rattle.lr_laws.proofs.PlainStamps.{field_digits, field_some, middle_plain}
@@ -28,9 +29,6 @@ use Rattle.lr_laws.proofs.PlainStamps.{field_digits, field_some, middle_plain}
 
 abbrev IsDigit : ℕ → Type 0
 IsDigit d = (48 ≤ d) × (d ≤ 57)
-
-abbrev is_digit : ℕ → Bool
-is_digit b = nat_le 48 b && nat_le b 57
 
 -- how many of the bytes are digits
 abbrev digits : List ℕ → ℕ

@@ -20,9 +20,10 @@ use Rattle.lr_family.specs.declared.stand.Member.{Member}
 use Rattle.lr_family.specs.Parts.{IsMember}
 use Rattle.lr_family.specs.Places.{IsPlaceOf, AreNamed}
 use Rattle.lr_laws_family.specs.Members.{IsNoMember, IsFamily, AreThere}
-use Rattle.lr_laws_family.specs.Shown.{SawFile, WasSeen, IsUnseen, unlisted, gone, no_dir, Shown}
+use Rattle.lr_laws_family.specs.Shown.{SawFile, IsUnseen, unlisted, gone, no_dir, Shown}
 use Rattle.lr_laws_family.proofs.Directory.{member_in, none_without}
 use Rattle.lr_family.proofs.Names.{placed_member}
+use Rattle.lr_family.specs.Looks.{WasSeen}
 
 -- where a member names what it named
 abbrev IsAlike : Naming → Past → Past → Type 0

@@ -12,6 +12,7 @@ use Rattle.lr_family.specs.declared.stand.Member.{Member}
 use Rattle.lr_family.specs.Parts.{IsMember}
 use Rattle.lr_family.specs.Places.{AreNamed}
 use Rattle.lr_family.specs.Stands.{AreNewestFirst}
+use Rattle.lr_family.specs.Looks.{WasSeen}
 use Rattle.lr_laws_family.specs.Members.{NoMemberHas}
 
 -- a look at the path saw a regular file
@@ -21,10 +22,6 @@ SawFile x ts = (seen : Seen) × (seen.kind ≡ kind.File) × IsIn (entry.Look x 
 -- a look at the path saw a directory
 abbrev pub SawDir : Path → List Entry → Type 0
 SawDir x ts = (seen : Seen) × (seen.kind ≡ kind.Dir) × IsIn (entry.Look x (Some seen)) ts
-
--- a look saw the member as it says, a regular file
-abbrev pub WasSeen : List Entry → Member → Type 0
-WasSeen ts m = (m.seen.kind ≡ kind.File) × IsIn (entry.Look m.path (Some m.seen)) ts
 
 -- none of the names is the path's in the directory
 abbrev pub IsUnlisted : Path → List (List ℕ) → Path → Type 0

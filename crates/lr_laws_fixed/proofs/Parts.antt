@@ -10,9 +10,10 @@ use Rattle.lr_rules.specs.declared.rule.Naming.{Naming}
 use Rattle.lr_rules.proofs.Heads.{heads, tails}
 use Rattle.lr_host.specs.declared.thing.Seen.{Seen}
 use Rattle.lr_host.specs.declared.entry.Entry.{Entry}
+use Rattle.lr_host.specs.Looks.{PathSight, look_of}
 use Rattle.lr_family.specs.declared.stand.StandStop.TheVariants as stop
 use Rattle.lr_family.specs.Among.{StopsBehind}
-use Rattle.lr_family.specs.Parts.{IsPartAmong, AreParts, PartSight, part_look, part_in, PartsAmong, StopsBefore, ShowsNoParts}
+use Rattle.lr_family.specs.Parts.{IsPartAmong, AreParts, part_in, PartsAmong, StopsBefore, ShowsNoParts}
 use Rattle.lr_family.proofs.Ordered.{same_rising}
 use Rattle.lr_laws_fixed.proofs.Peeled.{front_same, saw_same}
 
@@ -31,11 +32,11 @@ parts_fixed n names more xs ys perm a b = same_rising nat_list_cmp_total exact_b
 
 -- ---- looks at the same paths
 
-abbrev paths_of : List PartSight → List Path
-paths_of sights = map (λ (s : PartSight). s.path) sights
+abbrev paths_of : List PathSight → List Path
+paths_of sights = map (λ (s : PathSight). s.path) sights
 
-sight_same : (a b : PartSight) → a.path ≡ b.path → a.seen ≡ b.seen → a ≡ b
-sight_same a b p q = ap {B = PartSight} (λ (x : Path). record { path = x; seen = a.seen }) p ∙ ap {B = PartSight} (λ (o : Option Seen). record { path = b.path; seen = o }) q
+sight_same : (a b : PathSight) → a.path ≡ b.path → a.seen ≡ b.seen → a ≡ b
+sight_same a b p q = ap {B = PathSight} (λ (x : Path). record { path = x; seen = a.seen }) p ∙ ap {B = PathSight} (λ (o : Option Seen). record { path = b.path; seen = o }) q
 
 head_path : (x y : Path) (xs ys : List Path) → x ∷ xs ≡ y ∷ ys → x ≡ y
 head_path x y xs ys e = cc
@@ -44,25 +45,25 @@ tail_paths : (x y : Path) (xs ys : List Path) → x ∷ xs ≡ y ∷ ys → xs �
 tail_paths x y xs ys e = cc
 
 -- at the front of the same entries they are the same
-same_sights : (as' bs : List PartSight) (vs ws : List Entry) → map (λ (s : PartSight). s.path) as' ≡ map (λ (s : PartSight). s.path) bs → map part_look as' ++ vs ≡ map part_look bs ++ ws → (as' ≡ bs) × (vs ≡ ws)
+same_sights : (as' bs : List PathSight) (vs ws : List Entry) → map (λ (s : PathSight). s.path) as' ≡ map (λ (s : PathSight). s.path) bs → map look_of as' ++ vs ≡ map look_of bs ++ ws → (as' ≡ bs) × (vs ≡ ws)
 same_sights [] [] vs ws p e = (refl, e)
 same_sights [] (b ∷ bs) vs ws p e = absurd (cc p)
 same_sights (a ∷ as') [] vs ws p e = absurd (cc p)
 same_sights (a ∷ as') (b ∷ bs) vs ws p e =
-    let one = sight_same a b (head_path a.path b.path (paths_of as') (paths_of bs) p) (saw_same a.path b.path a.seen b.seen (heads (part_look a) (part_look b) (map part_look as' ++ vs) (map part_look bs ++ ws) e)) in
-    let r = same_sights as' bs vs ws (tail_paths a.path b.path (paths_of as') (paths_of bs) p) (tails (part_look a) (part_look b) (map part_look as' ++ vs) (map part_look bs ++ ws) e) in
+    let one = sight_same a b (head_path a.path b.path (paths_of as') (paths_of bs) p) (saw_same a.path b.path a.seen b.seen (heads (look_of a) (look_of b) (map look_of as' ++ vs) (map look_of bs ++ ws) e)) in
+    let r = same_sights as' bs vs ws (tail_paths a.path b.path (paths_of as') (paths_of bs) p) (tails (look_of a) (look_of b) (map look_of as' ++ vs) (map look_of bs ++ ws) e) in
     (ap (λ s. s ∷ as') one ∙ ap (λ ss. b ∷ ss) r.0, r.1)
 
 -- the same part files stand
 pub parts_same : (n : Naming) (names more : List (List ℕ)) → IsPermutation names more → (parts others : List Path) (ts us vs ws : List Entry) → PartsAmong n names parts ts → PartsAmong n more others us → ts ++ vs ≡ us ++ ws → (parts ≡ others) × (ts ≡ us) × (vs ≡ ws)
 parts_same n names more perm parts others ts us vs ws h g e = (
   h.parts_are ∙ (ap (flat_map part_in) r.0 ∙ sym g.parts_are),
-  h.looks ∙ (ap (map part_look) r.0 ∙ sym g.looks),
+  h.looks ∙ (ap (map look_of) r.0 ∙ sym g.looks),
   r.1,
 )
   where
     r : (h.sights ≡ g.sights) × (vs ≡ ws)
-    r = same_sights h.sights g.sights vs ws (parts_fixed n names more _ _ perm h.all g.all) (front_same ts us (map part_look h.sights) (map part_look g.sights) vs ws h.looks g.looks e)
+    r = same_sights h.sights g.sights vs ws (parts_fixed n names more _ _ perm h.all g.all) (front_same ts us (map look_of h.sights) (map look_of g.sights) vs ws h.looks g.looks e)
 
 -- ---- they never stop at what is no file
 

@@ -12,7 +12,7 @@ use Rattle.lr_host.specs.declared.thing.Thing.{Thing}
 use Rattle.lr_host.specs.declared.thing.Thing.TheVariants as thing
 use Rattle.lr_host.specs.declared.entry.Entry.{Entry}
 use Rattle.lr_host.specs.declared.entry.Entry.TheVariants as entry
-use Rattle.lr_host.specs.Fits.{IsFileAt, Sees}
+use Rattle.lr_host.specs.Fits.{IsFileAt, Sees, IsNameIn}
 use Rattle.lr_host.specs.Lists.{IsIn}
 use Rattle.lr_host.specs.Looks.{IsFile}
 use Rattle.lr_host.specs.Opening.{IsJournal}
@@ -35,7 +35,7 @@ use Rattle.lr_laws_looks.specs.Finds.{StoodOrCame}
 use Rattle.lr_laws_looks.proofs.Came.{quiet_prefix, stood_or_came}
 use Rattle.lr_laws_looks.specs.True.{HasMember, IsTrueFamily, IsTrueAside}
 use Rattle.lr_laws_family.specs.Members.{IsFamily}
-use Rattle.lr_laws_family.proofs.Directory.{IsNameIn, member_in}
+use Rattle.lr_laws_family.proofs.Directory.{member_in}
 use Rattle.lr_laws_looks.proofs.Members.{part_in, WereSeen, members_seen}
 use Rattle.lr_laws_looks.proofs.Sought.{WereSought, WasSought}
 use Rattle.lr_laws_looks.proofs.Words.{still_named}

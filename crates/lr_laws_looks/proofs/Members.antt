@@ -8,14 +8,15 @@ use Rattle.lr_rules.specs.Match.{part_end}
 use Rattle.lr_rules.specs.Path.{is_empty}
 use Rattle.lr_rules.proofs.PathLemmas.{plain_both}
 use Rattle.lr_host.specs.declared.entry.Entry.{Entry}
-use Rattle.lr_host.specs.Fits.{IsPart}
+use Rattle.lr_host.specs.Fits.{IsPart, IsNameIn}
 use Rattle.lr_host.specs.Lists.{IsIn}
 use Rattle.lr_host.proofs.Lists.{in_to}
 use Rattle.lr_family.specs.declared.stand.Member.{Member}
 use Rattle.lr_family.specs.Parts.{part_of, IsMember, IsMembersPart}
-use Rattle.lr_laws_family.specs.Shown.{Shown, SawFile, WasSeen, IsUnseen}
+use Rattle.lr_family.specs.Looks.{WasSeen}
+use Rattle.lr_laws_family.specs.Shown.{Shown, SawFile, IsUnseen}
 use Rattle.lr_laws_family.specs.Members.{IsFamily, NoMemberHas}
-use Rattle.lr_laws_family.proofs.Directory.{IsNameIn, member_in}
+use Rattle.lr_laws_family.proofs.Directory.{member_in}
 
 -- ---- names
 

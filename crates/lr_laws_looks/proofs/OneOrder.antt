@@ -3,7 +3,6 @@ use Rattle.std.proofs.Common.{◌≡◌, ℕ, suc, ◌+◌, ◌<◌, ◌≤◌, 
 use Rattle.std.specs.Prelude.{Contains}
 use Rattle.std.specs.Cmp.Lexicographic.{slice_cmp}
 use Rattle.std.specs.List.{sum_by}
-use Rattle.std.specs.List.Sorted.{IsSortedByKey}
 use Rattle.std.specs.Ordering.{is_eq, is_lt, ordering_reverse}
 use Rattle.std.specs.Str.{bytes_eq}
 use Rattle.std.proofs.lemmas.Cmp.{nat_list_cmp_total}
@@ -13,6 +12,7 @@ use Rattle.std.proofs.lemmas.List.MinMax.{ranks_by}
 use Rattle.std.proofs.lemmas.List.Sorted.{sorted_far, sum_by-IsPermutation}
 use Rattle.std.proofs.lemmas.List.Sums.{sum_by-cons}
 use Rattle.lr_rules.specs.declared.path.Path.{Path}
+use Rattle.lr_host.specs.Listing.{NamesRise}
 use Rattle.lr_glob.specs.Sights.{InOrder}
 
 -- how often a path stands among these
@@ -49,14 +49,11 @@ tied Greater Less e f g = absurd (cc)
 tied Greater Equal e f g = absurd (cc)
 tied Greater Greater e f g = absurd (cc)
 
-abbrev pub IsRising : List Path → Type 0
-IsRising xs = IsSortedByKey (λ path. path) (slice_cmp nat_cmp) xs
-
 -- none is before the first
-pub first_before : (x : Path) (xs : List Path) (y : Path) → IsRising (x ∷ xs) → Contains (x ∷ xs) y → is_lt (slice_cmp nat_cmp y x) ≡ false
+pub first_before : (x : Path) (xs : List Path) (y : Path) → NamesRise (x ∷ xs) → Contains (x ∷ xs) y → is_lt (slice_cmp nat_cmp y x) ≡ false
 first_before x xs y up c = subst (λ (z : Path). is_lt (slice_cmp nat_cmp z x) ≡ false) c.2 (sorted_far (λ v w. is_lt (slice_cmp nat_cmp v w)) (ranks_by nat_list_cmp_total (λ path. path)) (x ∷ xs) up 0 c.0 y (omega arith) c.1)
 
-pub behind_first : (x : Path) (xs : List Path) → IsRising (x ∷ xs) → IsRising xs
+pub behind_first : (x : Path) (xs : List Path) → NamesRise (x ∷ xs) → NamesRise xs
 behind_first x xs up k d le lt =
     let more : suc k + 1 ≡ suc (k + 1) = omega arith in
     subst (λ j. is_lt (slice_cmp nat_cmp (get_or (x ∷ xs) j d) (get_or xs k d)) ≡ false) more (up (suc k) d (omega arith) (let l : k + 1 < length xs = lt in omega arith))
@@ -65,7 +62,7 @@ behind_first x xs up k d le lt =
 first_there : (x : Path) (xs : List Path) (ys : List Path) → count x (x ∷ xs) ≡ count x ys → Contains ys x
 first_there x xs ys same = there x ys (let a = count_cons x x xs in let b = itself x in omega (arith, a, b, same))
 
-as_often : (xs ys : List Path) → IsRising xs → IsRising ys → ((y : Path) → count y xs ≡ count y ys) → xs ≡ ys
+as_often : (xs ys : List Path) → NamesRise xs → NamesRise ys → ((y : Path) → count y xs ≡ count y ys) → xs ≡ ys
 as_often [] [] up vp same = refl
 as_often [] (y ∷ ys) up vp same = absurd (let c = first_there y ys [] (sym (same y)) in let l : c.0 < 0 = c.1 in omega arith)
 as_often (x ∷ xs) [] up vp same = absurd (let c = first_there x xs [] (same x) in let l : c.0 < 0 = c.1 in omega arith)

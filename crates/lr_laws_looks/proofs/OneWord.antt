@@ -4,20 +4,20 @@ use Rattle.std.specs.Prelude.{flat_map, filter}
 use Rattle.std.specs.Str.{chars}
 use Rattle.lr_rules.specs.declared.path.Path.{Path}
 use Rattle.lr_rules.specs.Match.{Matches, is_wildcard, literal_path}
-use Rattle.lr_rules.specs.Path.{path_fault, joined}
+use Rattle.lr_rules.specs.Path.{path_fault, joined, root}
 use Rattle.lr_rules.proofs.Heads.{heads, tails}
 use Rattle.lr_host.specs.declared.thing.Seen.{Seen}
 use Rattle.lr_host.specs.declared.entry.Entry.{Entry}
 use Rattle.lr_host.specs.declared.entry.Entry.TheVariants as entry
-use Rattle.lr_host.specs.Looks.{Sees, is_dir}
+use Rattle.lr_host.specs.Looks.{Sees, is_dir, PathSight, look_of}
 use Rattle.lr_glob.specs.declared.found.Found.{Found}
 use Rattle.lr_glob.specs.declared.found.GlobStop.{GlobStop}
 use Rattle.lr_glob.specs.Gathers.{Gathers}
 use Rattle.lr_glob.specs.Parts.{JoinOf, PickOf, parts_in}
 use Rattle.lr_glob.specs.Visits.{Visit, visit_names, visit_entries}
 use Rattle.lr_glob.specs.Rounds.{Round, Went, Asked, round_entries, Picks, FollowsBy, FollowsPart, Leads, there, on, Led}
-use Rattle.lr_glob.specs.Sights.{InOrder, PathSight, look_of, found_file, seen_at, is_whole, judged, LookedAt}
-use Rattle.lr_glob.specs.Words.{root, SearchThen, WordGave, Comes}
+use Rattle.lr_glob.specs.Sights.{InOrder, found_file, seen_at, is_whole, judged, LookedAt}
+use Rattle.lr_glob.specs.Words.{SearchThen, WordGave, Comes}
 use Rattle.lr_laws_looks.proofs.OneOrder.{one_order}
 
 -- ---- entries, taken apart from the front

@@ -13,19 +13,20 @@ use Rattle.std.proofs.lemmas.List.Sorted.{sum_by-IsPermutation}
 use Rattle.lr_rules.specs.declared.path.Path.{Path}
 use Rattle.lr_host.specs.declared.entry.Entry.{Entry}
 use Rattle.lr_host.specs.declared.thing.Seen.{Seen}
-use Rattle.lr_host.specs.Listing.{is_file_kind}
+use Rattle.lr_host.specs.Listing.{is_file_kind, NamesRise}
 use Rattle.lr_host.specs.Lists.{IsIn, IsNotIn, AreDistinct}
 use Rattle.lr_host.specs.Told.{Each, Made}
 use Rattle.lr_host.specs.World.{Past}
 use Rattle.lr_host.proofs.Each.{each_first}
 use Rattle.lr_host.proofs.Lists.{in_append, in_to, in_unmap}
+use Rattle.lr_host.specs.Looks.{PathSight}
 use Rattle.lr_glob.specs.declared.found.Found.{Found}
 use Rattle.lr_glob.specs.Parts.{parts_in}
-use Rattle.lr_glob.specs.Sights.{PathSight, found_file, file_at, is_whole, seen_at, LookedAt}
+use Rattle.lr_glob.specs.Sights.{found_file, file_at, is_whole, seen_at, LookedAt}
 use Rattle.lr_glob.specs.Words.{WordGave, Comes, SearchThen}
 use Rattle.lr_glob.proofs.ListsOnce.{IsTrue, led_apart, made_true}
 use Rattle.lr_glob.proofs.Seeking.{all_are}
-use Rattle.lr_laws_looks.proofs.OneOrder.{one_at, count, count_cons, itself, IsRising, first_before, behind_first}
+use Rattle.lr_laws_looks.proofs.OneOrder.{one_at, count, count_cons, itself, first_before, behind_first}
 
 -- ---- how often a path stands in a list without the same twice
 
@@ -90,7 +91,7 @@ counted y [] i = absurd i
 counted y (x ∷ xs) (inl e) = let a = count_cons y x xs in let b : one_at y x ≡ 1 = subst (λ z. one_at y z ≡ 1) (sym e) (itself y) in omega (arith, a, b)
 counted y (x ∷ xs) (inr i) = let a = count_cons y x xs in let b = counted y xs i in omega (arith, a, b)
 
-rises : (xs : List Path) → IsRising xs → ((y : Path) → count y xs ≤ 1) → Rises xs
+rises : (xs : List Path) → NamesRise xs → ((y : Path) → count y xs ≤ 1) → Rises xs
 rises [] up once = tt
 rises (x ∷ xs) up once = (
   λ y i. less x y (first_before x xs y up (in_to y (x ∷ xs) (inr i))) (λ e. let a = count_cons x x xs in let b = itself x in let c = counted x xs (subst (λ z. IsIn z xs) (sym e) i) in let d = once x in omega (arith, a, b, c, d)),

@@ -12,8 +12,6 @@ use Rattle.lr_host.specs.declared.entry.Entry.{Entry}
 use Rattle.lr_host.specs.Looks.{Sees, IsNothing, IsDir, IsNoDir, IsNoFile, is_dir}
 use Rattle.lr_host.specs.Quiet.{AreQuiet}
 use Rattle.lr_host.specs.Told.{Are}
-use Rattle.lr_host.proofs.Each.{each_as}
-use Rattle.lr_host.specs.declared.entry.Entry.TheVariants as entry
 use Rattle.lr_host.specs.Listing.{HasListed}
 use Rattle.lr_family.specs.declared.listing.Listing.{Listing}
 use Rattle.lr_family.specs.declared.spot.Spot.{Spot}
@@ -25,8 +23,8 @@ use Rattle.lr_family.specs.Among.{ShowsMembers, ShowsIn, ShowsNoneIn}
 use Rattle.lr_family.specs.Listed.{ShowsListing, NotListedAt, NotListed}
 use Rattle.lr_family.specs.Looks.{ShowsTo}
 use Rattle.lr_family.specs.Stops.{SomeStopped}
-use Rattle.lr_family.proofs.OnlyLooks.{IsLooking, AreLooking, looking_both, looking_none, looking_sees, looking_sights, looking_shown_parts, looking_no_parts, looks_quiet}
-use Rattle.lr_glob.specs.Looking.{IsLooking as GlobIsLooking, AreLooking as GlobLooking}
+use Rattle.lr_family.proofs.OnlyLooks.{looking_both, looking_none, looking_sees, looking_sights, looking_shown_parts, looking_no_parts, looks_quiet}
+use Rattle.lr_host.specs.Looking.{AreLooking}
 use Rattle.lr_glob.proofs.OnlyLooks.{comes_looks, stopped_looks}
 use Rattle.lr_plan.specs.declared.looks.SetLooks.{SetLooks}
 use Rattle.lr_looks.specs.Asked.{Word, asked_by}
@@ -37,18 +35,9 @@ use Rattle.lr_looks.specs.Sights.{WordSight, found_by, ShowsWord, ShowWords}
 
 -- ---- the looks and listings of the words
 
--- what lr_glob calls looking is looking
-looking_glob : (ts : List Entry) → GlobLooking ts → AreLooking ts
-looking_glob ts h = each_as GlobIsLooking IsLooking ts one h
-  where
-    one : (e : Entry) → GlobIsLooking e → IsLooking e
-    one (entry.Look x seen) i = i
-    one (entry.List dir listed) i = i
-    one _ i = absurd i
-
 looking_word : (w : Word) (room : ℕ) (s : WordSight) (ts : List Entry) → ShowsWord w room s ts → AreLooking ts
-looking_word w room (Ok found) ts h = looking_glob ts (comes_looks w.text room (Ok found) ts h)
-looking_word w room (Err why) ts h = looking_glob ts (stopped_looks w.text room why ts h)
+looking_word w room (Ok found) ts h = comes_looks w.text room (Ok found) ts h
+looking_word w room (Err why) ts h = stopped_looks w.text room why ts h
 
 pub looking_words : (n : ℕ) (words : List Word) (sights : List WordSight) (ts : List Entry) → ShowWords n words sights ts → AreLooking ts
 looking_words n [] [] ts h = looking_none ts h

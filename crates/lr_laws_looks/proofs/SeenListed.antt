@@ -11,14 +11,14 @@ use Rattle.lr_host.specs.declared.entry.Entry.{Entry}
 use Rattle.lr_host.specs.declared.entry.Entry.TheVariants as entry
 use Rattle.lr_host.specs.Listing.{HasListed}
 use Rattle.lr_host.specs.Lists.{IsIn}
-use Rattle.lr_host.specs.Looks.{Sees, IsDir, is_dir}
+use Rattle.lr_host.specs.Looks.{Sees, IsDir, is_dir, look_of}
 use Rattle.lr_host.specs.Told.{Then}
 use Rattle.lr_host.proofs.Lists.{in_map, in_front, in_back, in_append}
 use Rattle.lr_family.specs.declared.listing.Listing.{Listing}
 use Rattle.lr_family.specs.declared.stand.Stand.{Stand}
 use Rattle.lr_family.specs.Among.{StandsAmong, ShowsMembers, ShowsIn}
 use Rattle.lr_family.specs.Listed.{ShowsListing}
-use Rattle.lr_family.specs.Parts.{part_if_file, part_seen, part_in, part_look, PartsAmong, ShowsParts}
+use Rattle.lr_family.specs.Parts.{part_if_file, part_seen, part_in, PartsAmong, ShowsParts}
 use Rattle.lr_looks.specs.Families.{FamilySight, Stood, Stopped, ShowsFamily, behind_listing, with_listing, not_listed, ShowFamilies, LookedLog, looked_by, looked_of}
 use Rattle.lr_looks.specs.Found.{FoundLog}
 use Rattle.lr_laws_family.specs.Shown.{SawDir, Shown}
@@ -209,7 +209,7 @@ parts_shown all n names parts ts in_all p x i =
     let e : entry.Look g.0.path g.0.seen ≡ entry.Look x (Some s.1.0) = ap (λ (y : Path). entry.Look y g.0.seen) s.0 ∙ ap (entry.Look x) s.1.2 in (
       s.1.0,
       s.1.1,
-      in_all (entry.Look x (Some s.1.0)) (subst (IsIn (entry.Look x (Some s.1.0))) (sym p.looks) (subst (λ (d : Entry). IsIn d (map part_look p.sights)) e (in_map part_look g.0 p.sights g.1))),
+      in_all (entry.Look x (Some s.1.0)) (subst (IsIn (entry.Look x (Some s.1.0))) (sym p.looks) (subst (λ (d : Entry). IsIn d (map look_of p.sights)) e (in_map look_of g.0 p.sights g.1))),
     )
 
 -- ---- what was shown of a family

@@ -11,11 +11,11 @@ use Rattle.lr_host.specs.declared.thing.Seen.{Seen}
 use Rattle.lr_host.specs.declared.entry.Entry.{Entry}
 use Rattle.lr_host.specs.declared.entry.Entry.TheVariants as entry
 use Rattle.lr_host.specs.Lists.{IsIn}
-use Rattle.lr_host.specs.Looks.{IsFile}
+use Rattle.lr_host.specs.Looks.{IsFile, PathSight, look_of}
 use Rattle.lr_host.proofs.Lists.{in_from, in_map, in_front, in_back}
 use Rattle.lr_family.specs.declared.listing.Listing.{Listing}
 use Rattle.lr_family.specs.declared.stand.Stand.{Stand}
-use Rattle.lr_family.specs.Parts.{IsMembersPart, PartSight, part_if_file, part_seen, part_in, part_look, PartsAmong}
+use Rattle.lr_family.specs.Parts.{IsMembersPart, part_if_file, part_seen, part_in, PartsAmong}
 use Rattle.lr_family.specs.Places.{AreNamed}
 use Rattle.lr_family.proofs.Shown.{members_named}
 use Rattle.lr_laws_family.specs.Shown.{IsUnlisted}
@@ -31,11 +31,11 @@ to_flat f (z ∷ zs) x y (inl e) j = in_front y (f z) (flat_map f zs) (subst (λ
 to_flat f (z ∷ zs) x y (inr i) j = in_back y (f z) (flat_map f zs) (to_flat f zs x y i j)
 
 -- one of the sights is of the path, or none
-sight_or_none : (x : Path) (gs : List PartSight) → ((g : PartSight) × IsIn g gs × (g.path ≡ x)) ⊎ (IsIn x (map (λ (g : PartSight). g.path) gs) → ⊥)
+sight_or_none : (x : Path) (gs : List PathSight) → ((g : PathSight) × IsIn g gs × (g.path ≡ x)) ⊎ (IsIn x (map (λ (g : PathSight). g.path) gs) → ⊥)
 sight_or_none x [] = inr (λ i. i)
 sight_or_none x (g ∷ gs) = go (bytes_eq g.path x) refl (sight_or_none x gs)
   where
-    go : (b : Bool) → bytes_eq g.path x ≡ b → ((f : PartSight) × IsIn f gs × (f.path ≡ x)) ⊎ (IsIn x (map (λ (g : PartSight). g.path) gs) → ⊥) → ((f : PartSight) × IsIn f (g ∷ gs) × (f.path ≡ x)) ⊎ (IsIn x (map (λ (g : PartSight). g.path) (g ∷ gs)) → ⊥)
+    go : (b : Bool) → bytes_eq g.path x ≡ b → ((f : PathSight) × IsIn f gs × (f.path ≡ x)) ⊎ (IsIn x (map (λ (g : PathSight). g.path) gs) → ⊥) → ((f : PathSight) × IsIn f (g ∷ gs) × (f.path ≡ x)) ⊎ (IsIn x (map (λ (g : PathSight). g.path) (g ∷ gs)) → ⊥)
     go true e r = inl (g, inl refl, (bytes_eq-Decides g.path x).0 e)
     go false e (inl s) = inl (s.0, inr s.1, s.2)
     go false e (inr none) = inr (λ i. ⊎_elim (λ (same : g.path ≡ x). absurd (let t = (bytes_eq-Decides g.path x).1 same in cc)) none i)
@@ -62,9 +62,9 @@ parts_sought all n names listed parts ts in_all same list p = record { listed = 
         (λ s. inr (
           s.0.seen,
           λ f. out (subst (IsIn x) (sym p.parts_are) (to_flat part_in p.sights s.0 x s.1 (subst (λ (y : Path). IsIn y (part_in s.0)) s.2 (file_part s.0.path s.0.seen f)))),
-          in_all (entry.Look x s.0.seen) (subst (IsIn (entry.Look x s.0.seen)) (sym p.looks) (subst (λ (y : Path). IsIn (entry.Look y s.0.seen) (map part_look p.sights)) s.2 (in_map part_look s.0 p.sights s.1))),
+          in_all (entry.Look x s.0.seen) (subst (IsIn (entry.Look x s.0.seen)) (sym p.looks) (subst (λ (y : Path). IsIn (entry.Look y s.0.seen) (map look_of p.sights)) s.2 (in_map look_of s.0 p.sights s.1))),
         ))
-        (λ none. inl (λ name c is. none (in_from x (map (λ (g : PartSight). g.path) p.sights) ((p.all.all x).1 (record { part = part; name = name; listed = Contains-permutation listed names name same c; named = is })))))
+        (λ none. inl (λ name c is. none (in_from x (map (λ (g : PathSight). g.path) p.sights) ((p.all.all x).1 (record { part = part; name = name; listed = Contains-permutation listed names name same c; named = is })))))
         (sight_or_none x p.sights)
 
 -- ---- families

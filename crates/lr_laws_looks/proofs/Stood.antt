@@ -6,7 +6,7 @@ use Rattle.std.proofs.lemmas.List.Sorted.{Contains-permutation}
 use Rattle.lr_rules.specs.declared.path.Path.{Path}
 use Rattle.lr_rules.specs.Match.{Matches, PathMatches, WordGives, literal, wildcard, EndsWith, is_wildcard, literal_path, part_end}
 use Rattle.lr_rules.specs.Names.{ends_with}
-use Rattle.lr_rules.specs.Path.{path_fault, joined, is_slash}
+use Rattle.lr_rules.specs.Path.{path_fault, joined, is_slash, root}
 use Rattle.lr_host.specs.declared.entry.Entry.{Entry}
 use Rattle.lr_host.specs.declared.entry.Entry.TheVariants as entry
 use Rattle.lr_host.specs.declared.thing.Kind.TheVariants as kind
@@ -15,7 +15,7 @@ use Rattle.lr_host.specs.declared.thing.Thing.{Thing}
 use Rattle.lr_host.specs.declared.thing.Thing.TheVariants as thing
 use Rattle.lr_host.specs.Fits.{Fits, IsFileAt, IsDirectoryAt, Sees, IsPart}
 use Rattle.lr_host.specs.Lists.{IsIn}
-use Rattle.lr_host.specs.Looks.{is_dir, is_dir_kind}
+use Rattle.lr_host.specs.Looks.{is_dir, is_dir_kind, PathSight, look_of}
 use Rattle.lr_host.specs.Opening.{IsJournal}
 use Rattle.lr_host.specs.Quiet.{AreQuiet}
 use Rattle.lr_host.specs.Told.{Made}
@@ -29,9 +29,9 @@ use Rattle.lr_glob.specs.declared.found.Found.{Found}
 use Rattle.lr_glob.specs.Gathers.{Gathers}
 use Rattle.lr_glob.specs.Parts.{JoinOf, PickOf, parts_in}
 use Rattle.lr_glob.specs.Rounds.{Picks, Round, Went, Asked, round_entries, FollowsBy, Led}
-use Rattle.lr_glob.specs.Sights.{PathSight, look_of, found_file, file_at, is_whole, seen_at, LookedAt}
+use Rattle.lr_glob.specs.Sights.{found_file, file_at, is_whole, seen_at, LookedAt}
 use Rattle.lr_glob.specs.Visits.{Visit, visit_names, visit_entries}
-use Rattle.lr_glob.specs.Words.{root, WordGave, Comes, SearchThen}
+use Rattle.lr_glob.specs.Words.{WordGave, Comes, SearchThen}
 use Rattle.lr_glob.proofs.Apart.{dir_of}
 use Rattle.lr_glob.proofs.Literals.{one_name, parts_utf8}
 use Rattle.lr_glob.proofs.OnlyLooks.{comes_looks, looks_quiet}

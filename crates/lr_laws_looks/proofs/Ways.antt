@@ -6,7 +6,7 @@ use Rattle.std.proofs.lemmas.Bool.{not-false}
 use Rattle.std.proofs.lemmas.Bool.Decides.{Decides-eqb}
 use Rattle.std.proofs.lemmas.Str.{IsUtf8-from_is_utf8}
 use Rattle.lr_rules.specs.declared.path.Path.{Path}
-use Rattle.lr_rules.specs.Path.{path_fault, joined, parent_of, is_absolute, has_bad_byte, has_empty_part}
+use Rattle.lr_rules.specs.Path.{path_fault, joined, parent_of, is_absolute, has_bad_byte, has_empty_part, root}
 use Rattle.lr_rules.proofs.ParentPath.{parent_path}
 use Rattle.lr_rules.proofs.PathLemmas.{none_of, parent_front, joined_parts, last_start_is}
 use Rattle.lr_host.specs.declared.thing.Thing.{Thing}
@@ -17,7 +17,6 @@ use Rattle.lr_host.specs.Opening.{IsJournal}
 use Rattle.lr_host.specs.World.{Past, Names, world, names}
 use Rattle.lr_host.proofs.Looked.{nothing_no_file, file_no_dir}
 use Rattle.lr_glob.specs.Parts.{parts_in}
-use Rattle.lr_glob.specs.Words.{root}
 use Rattle.lr_glob.proofs.Levels.{IsAt, part_at}
 use Rattle.lr_glob.proofs.Literals.{parts_utf8}
 use Rattle.lr_glob.proofs.Names.{Parts, some_parts, split_parts, behind, under, AreParts, under_root, word_behind, word_parts}

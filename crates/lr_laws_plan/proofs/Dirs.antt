@@ -36,14 +36,10 @@ use Rattle.lr_laws_rotations.proofs.Own.{own_paths}
 use Rattle.lr_laws_looks.proofs.Elements.{in_flat, in_each}
 use Rattle.lr_laws_plan.proofs.Making.{GivesNoFile, SawOther, other_back}
 use Rattle.lr_run.proofs.Members.{HasMembers, HaveMembers, part_own, meets_none}
+use Rattle.lr_run.proofs.Guarding.{IsOfOne}
 use Rattle.lr_laws_plan.proofs.Once.{each_ready}
 
 -- ---- whose they are
-
-pub record IsMadeBy (ts : List Target) (dir : Path) : Type 0 where
-  pub target : Target
-  pub one : IsIn target ts
-  pub its : IsItsDir target dir
 
 of_ready : (dir : Option (Path × Option ℕ)) (x : Path) → IsIn x (made_of dir) → (mode : Option ℕ) × (dir ≡ Some (x, mode))
 of_ready None x i = absurd i
@@ -51,14 +47,14 @@ of_ready (Some (path, mode)) x (inl same) = (mode, ap (λ (y : Path). Some (y, m
 of_ready (Some (path, mode)) x (inr none) = absurd none
 
 -- each is that of one of the logs
-pub made_by_one : (ts : List Target) (sets : List SetPlan) (dir : Path) → AreReadyFor ts (flat_map (λ (set : SetPlan). set.logs) sets) → IsIn dir (all_to_make_of sets) → IsMadeBy ts dir
+pub made_by_one : (ts : List Target) (sets : List SetPlan) (dir : Path) → AreReadyFor ts (flat_map (λ (set : SetPlan). set.logs) sets) → IsIn dir (all_to_make_of sets) → IsOfOne ts dir
 made_by_one ts sets dir r i =
     let s : (set : SetPlan) × IsIn set sets × IsIn dir (to_make_of set.logs) = in_flat (λ (set : SetPlan). to_make_of set.logs) sets dir i in
     let l : (log : LogPlan) × IsIn log s.0.logs × IsIn dir (made_of log.ready.dir) = in_flat (λ (log : LogPlan). made_of log.ready.dir) s.0.logs dir s.2 in
     in_each G s.0.logs l.0 (in_each (λ (set : SetPlan). AllByRecursion G set.logs) sets s.0 (each_ready G ts sets r of_log) s.1) l.1 l.2
   where
     G : LogPlan → Type 0
-    G log = IsIn dir (made_of log.ready.dir) → IsMadeBy ts dir
+    G log = IsIn dir (made_of log.ready.dir) → IsOfOne ts dir
 
     of_log : (t : Target) (log : LogPlan) → IsIn t ts → IsReadyFor t log → G log
     of_log t log one ready j =

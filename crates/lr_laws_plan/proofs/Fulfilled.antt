@@ -39,7 +39,7 @@ use Rattle.lr_writing.specs.Named.{StateIsNamed}
 use Rattle.lr_writing.proofs.Named.{named_whole}
 use Rattle.lr_writing.specs.Synced.{all_changed_of}
 use Rattle.lr_writing.proofs.SyncedLaws.{all_synced}
-use Rattle.lr_glob.specs.Looking.{IsSight, AreSights}
+use Rattle.lr_host.specs.Looking.{IsSight, AreSights}
 use Rattle.lr_run.specs.Runs.{dirs_in, logs_in}
 use Rattle.lr_run.specs.Saw.{text_by}
 use Rattle.lr_run.specs.Work.{Work, ShowsWork, CarriesOut, act_faults, run_entries, steps_in, state_steps_of}

@@ -7,7 +7,7 @@ use Rattle.lr_rules.specs.declared.fault.CallKind.TheVariants as call
 use Rattle.lr_rules.specs.Match.{is_wildcard, literal_path}
 use Rattle.lr_host.specs.declared.entry.Entry.{Entry}
 use Rattle.lr_host.specs.declared.thing.Seen.{Seen}
-use Rattle.lr_host.specs.Looks.{Sees, IsNothing, IsDir, IsNoDir, IsNoFile}
+use Rattle.lr_host.specs.Looks.{Sees, IsNothing, IsDir, IsNoDir, IsNoFile, PathSight, look_of}
 use Rattle.lr_host.specs.Told.{Are}
 use Rattle.lr_family.specs.declared.listing.Listing.{Listing}
 use Rattle.lr_family.specs.declared.spot.Spot.{Spot}
@@ -18,7 +18,7 @@ use Rattle.lr_family.specs.declared.stand.StandStop.TheVariants as stop
 use Rattle.lr_family.specs.Among.{StandsAmong, ShowsMembers, ShowsIn, ShowsNoneIn}
 use Rattle.lr_family.specs.Listed.{NotListedAt, NotListed}
 use Rattle.lr_family.specs.Looks.{MemberSight, spot_look, ShowsTo}
-use Rattle.lr_family.specs.Parts.{PartSight, part_look, ShowsParts, ShowsNoParts}
+use Rattle.lr_family.specs.Parts.{ShowsParts, ShowsNoParts}
 use Rattle.lr_family.specs.Stops.{SomeStopped}
 use Rattle.lr_glob.specs.declared.found.Found.{Found as Match}
 use Rattle.lr_glob.specs.declared.found.GlobStop.TheVariants as glob
@@ -85,7 +85,7 @@ members_none n false names members ts h = none_empty ts h.1
 
 -- ---- the looks at part files
 
-part_sights_none : (ss : List PartSight) → AreNoListings (map part_look ss)
+part_sights_none : (ss : List PathSight) → AreNoListings (map look_of ss)
 part_sights_none [] = tt
 part_sights_none (s ∷ ss) = (tt, part_sights_none ss)
 

@@ -83,10 +83,11 @@ use Rattle.lr_laws_plan.proofs.Looking.{Looking, looking}
 use Rattle.lr_laws_plan.specs.Smooth.{IsSmooth}
 use Rattle.lr_laws_plan.proofs.Clearing.{ClearsFirst, clears_on, clears_log, course_clears}
 use Rattle.lr_run.proofs.Courses.{OfLog, sets_done, either, sets_so, all_sets}
-use Rattle.lr_laws_plan.proofs.Dirs.{IsMadeBy, made_by_one, dir_apart, some_give, state_gives, calm_gives, of_changes, course_saw}
+use Rattle.lr_laws_plan.proofs.Dirs.{made_by_one, dir_apart, some_give, state_gives, calm_gives, of_changes, course_saw}
 use Rattle.lr_laws_plan.proofs.Long.{FitCopies, fit_on, fit_log, ReadsOver, over_in, over_back, course_over, never_over}
 use Rattle.lr_laws_plan.proofs.Making.{GivesNoFile, SawOther, other_front, other_back, never_other}
 use Rattle.lr_run.proofs.Members.{HaveMembers, seen_members, part_own, all_ready}
+use Rattle.lr_run.proofs.Guarding.{IsOfOne}
 use Rattle.lr_laws_plan.proofs.Naming.{Avoids, Spared}
 use Rattle.lr_laws_plan.proofs.Once.{each_ready, logs_aside, logs_at_most, sets_aside, sets_once}
 use Rattle.lr_laws_plan.proofs.Jobs.{job_in_logs, job_in_sets}
@@ -390,7 +391,7 @@ module _ (state : Path) (asked : Asked) (clock : Clock) (rules : Rules) (own : L
 
   module _ (dir : Path) (making : IsIn dir (dirs_in plan)) where
     -- the looks saw nothing there
-    abbrev m : IsMadeBy targets dir
+    abbrev m : IsOfOne targets dir
     m = made_by_one targets plan.sets dir ready making
 
     abbrev t : Target

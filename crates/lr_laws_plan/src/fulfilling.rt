@@ -15,7 +15,7 @@ ghost use Rattle.lr_host.specs.World.{Past, world, names};
 ghost use Rattle.lr_glob.specs.Listings.{listings_of};
 ghost use Rattle.lr_plan.specs.Asked.{Asked};
 ghost use Rattle.lr_plan.specs.declared.mark.Mark.TheVariants as mark;
-ghost use Rattle.lr_glob.specs.Looking.{AreSights};
+ghost use Rattle.lr_host.specs.Looking.{AreSights};
 ghost use Rattle.lr_run.specs.declared.answer.Ran.{Ran};
 ghost use Rattle.lr_run.specs.declared.answer.RunStop.{RunStop};
 ghost use Rattle.lr_run.specs.Halt.{Halt, Halts};

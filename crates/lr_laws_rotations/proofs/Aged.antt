@@ -28,9 +28,10 @@ use Rattle.lr_family.specs.declared.place.Place.TheVariants as place_of
 use Rattle.lr_family.specs.declared.stand.Member.{Member}
 use Rattle.lr_family.specs.Spots.{path_at}
 use Rattle.lr_family.specs.Stands.{number_in}
+use Rattle.lr_family.specs.Looks.{WasSeen}
 use Rattle.lr_chain.specs.Rotation.{is_left, is_expired, going}
 use Rattle.lr_laws_family.specs.Numbered.{HasName}
-use Rattle.lr_laws_family.specs.Shown.{WasSeen, Shown}
+use Rattle.lr_laws_family.specs.Shown.{Shown}
 use Rattle.lr_laws_family.proofs.Numbers.{at_number}
 use Rattle.lr_laws_family.proofs.Picking.{named_all}
 use Rattle.lr_laws_rotations.proofs.GoingMembers.{Goer, goer}

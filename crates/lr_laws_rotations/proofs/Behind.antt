@@ -12,6 +12,7 @@ use Rattle.lr_rules.specs.declared.rule.Make.{Make}
 use Rattle.lr_rules.specs.declared.rule.Naming.{Naming}
 use Rattle.lr_rules.specs.declared.rule.Rule.{Rule}
 use Rattle.lr_rules.specs.Dated.{stamp_key, IsDatedAt}
+use Rattle.lr_rules.specs.Limits.{IsCount}
 use Rattle.lr_stamps.specs.Dated.{clock_seconds}
 use Rattle.lr_host.specs.declared.thing.Thing.TheVariants as thing
 use Rattle.lr_host.specs.declared.entry.Entry.{Entry}
@@ -41,13 +42,14 @@ use Rattle.lr_family.specs.Places.{IsPlaceOf, AreNamed}
 use Rattle.lr_family.specs.Spots.{path_at}
 use Rattle.lr_family.proofs.Numbers.{every_from}
 use Rattle.lr_family.proofs.Paths.{places_apart}
+use Rattle.lr_family.specs.Looks.{WasSeen}
 use Rattle.lr_chain.specs.declared.ready.Ready.{Ready}
 use Rattle.lr_chain.specs.DatedReady.{dated_target, all_by, ranked}
 use Rattle.lr_chain.specs.DatedRotation.{Ranked, gone, unlink}
 use Rattle.lr_chain.specs.DatedTurning.{AreFiles, StandSo}
 use Rattle.lr_chain.specs.Hindrances.{what_hinders}
 use Rattle.lr_chain.specs.Prepared.{ready_of}
-use Rattle.lr_chain.specs.Ready.{IsCount, move_step, move_from}
+use Rattle.lr_chain.specs.Ready.{move_step, move_from}
 use Rattle.lr_chain.specs.Rotation.{places_of, leftovers, kept, going, leftover_steps, shift_steps, turn_steps, retired, retire_steps}
 use Rattle.lr_chain.specs.Serials.{next_serial}
 use Rattle.lr_chain.specs.Standing.{AreGoing}
@@ -61,7 +63,7 @@ use Rattle.lr_chain.proofs.Serials.{is_next}
 use Rattle.lr_chain.proofs.Turned.{run}
 use Rattle.lr_laws_family.specs.Members.{IsFamily, NoMemberHas, AreThere}
 use Rattle.lr_laws_family.specs.Numbered.{HasName, HaveNextNames}
-use Rattle.lr_laws_family.specs.Shown.{SawFile, WasSeen, Shown}
+use Rattle.lr_laws_family.specs.Shown.{SawFile, Shown}
 use Rattle.lr_laws_family.proofs.Numbers.{rising, first_named}
 use Rattle.lr_laws_family.proofs.Stood.{file_stands}
 use Rattle.lr_laws_rotations.specs.Steps.{unlinks}

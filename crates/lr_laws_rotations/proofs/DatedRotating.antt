@@ -32,7 +32,8 @@ use Rattle.lr_chain.specs.Rotation.{is_expired}
 use Rattle.lr_chain.specs.Serials.{IsNext}
 use Rattle.lr_chain.specs.DatedReady.{ranked, renamed, with_one, all_of}
 use Rattle.lr_family.proofs.Newness.{dated_small}
-use Rattle.lr_laws_family.specs.Shown.{SawFile, WasSeen, Shown}
+use Rattle.lr_family.specs.Looks.{WasSeen}
+use Rattle.lr_laws_family.specs.Shown.{SawFile, Shown}
 use Rattle.lr_laws_rotations.proofs.Aged.{old_goes}
 use Rattle.lr_laws_family.specs.Members.{IsNoMember, IsFamily, NoMemberHas, AreThere}
 use Rattle.lr_laws_family.proofs.Stood.{file_stands}

@@ -10,6 +10,7 @@ use Rattle.lr_rules.specs.declared.rule.Make.{Make}
 use Rattle.lr_rules.specs.declared.rule.Naming.{Naming}
 use Rattle.lr_rules.specs.Dated.{IsDatedAt}
 use Rattle.lr_rules.specs.Names.{Meet}
+use Rattle.lr_rules.specs.Limits.{IsCount}
 use Rattle.lr_stamps.specs.Dated.{clock_seconds}
 use Rattle.lr_host.specs.declared.entry.Entry.{Entry}
 use Rattle.lr_host.specs.Fits.{IsFileAt, IsDirectoryAt}
@@ -36,7 +37,7 @@ use Rattle.lr_chain.specs.DatedReady.{dated_target, all_by}
 use Rattle.lr_chain.specs.DatedRotation.{dated_rotation}
 use Rattle.lr_chain.specs.Hindrances.{what_hinders}
 use Rattle.lr_chain.specs.Prepared.{ready_of}
-use Rattle.lr_chain.specs.Ready.{IsCount, ready_steps as all_steps}
+use Rattle.lr_chain.specs.Ready.{ready_steps as all_steps}
 use Rattle.lr_chain.specs.Rotation.{places_of, going, rotation}
 use Rattle.lr_chain.specs.Serials.{next_serial}
 use Rattle.lr_chain.specs.Standing.{StandSo}

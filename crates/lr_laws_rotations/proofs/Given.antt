@@ -12,7 +12,7 @@ use Rattle.lr_rules.specs.declared.rule.Naming.{Naming}
 use Rattle.lr_rules.specs.declared.rule.Rule.{Rule}
 use Rattle.lr_rules.specs.declared.rule.Way.{Way}
 use Rattle.lr_rules.specs.declared.rules.Rules.{Rules}
-use Rattle.lr_rules.specs.Limits.{meets_limits, is_count, is_small, is_criterion, is_log_word, or_none, is_size}
+use Rattle.lr_rules.specs.Limits.{meets_limits, is_count, is_small, is_criterion, is_log_word, or_none, is_size, IsCount}
 use Rattle.lr_rules.specs.declared.rule.Format.{Format}
 use Rattle.lr_rules.specs.Match.{WordGives, literal, RuleGives, is_wildcard, literal_path}
 use Rattle.lr_rules.specs.Names.{IsMemberAt, aside_path, naming_of, Meet}
@@ -34,7 +34,6 @@ use Rattle.lr_host.proofs.More.{file_more}
 use Rattle.lr_host.proofs.Quiet.{IsAny, quiet_more, made_quiet, since_any, quiet_still, still_reverse}
 use Rattle.lr_host.proofs.Lists.{in_from}
 use Rattle.lr_family.specs.Parts.{IsDated, IsMember}
-use Rattle.lr_chain.specs.Ready.{IsCount}
 use Rattle.lr_laws.proofs.AsideName.{no_numbered, no_dated}
 use Rattle.lr_laws_family.specs.Members.{IsNoMember}
 use Rattle.lr_laws_rotations.specs.Target.{GivesLog, IsGiven, Target, GoesBy}

@@ -17,6 +17,7 @@ use Rattle.lr_rules.specs.Match.{part_end}
 use Rattle.lr_rules.specs.Names.{AreDigits, IsStampShape, number_pieces, IsMiddleShape, ext_of, naming_of, aside_path}
 use Rattle.lr_rules.specs.Path.{joined, parent_of, last_of, is_slash}
 use Rattle.lr_rules.proofs.PathLemmas.{plain_both, parent_joined, last_joined}
+use Rattle.lr_rules.specs.Bytes.{is_digit}
 use Rattle.lr_stamps.proofs.Members.{joined_same}
 use Rattle.lr_stamps.proofs.StampShapes.{numbered_shape}
 use Rattle.lr_family.specs.Named.{member_name}
@@ -51,9 +52,6 @@ log_short : (rule : Rule) (log : Path) (n : Naming) → naming_of rule log ≡ n
 log_short rule log n is = subst (λ (m : Naming). length (last_of log) ≤ length m.base + length m.ext) is (base_long (ext_of rule.addextension rule.extension (last_of log)) (last_of log))
 
 -- ---- bytes that are no digits
-
-abbrev is_digit : ℕ → Bool
-is_digit b = nat_le 48 b && nat_le b 57
 
 -- how many of the bytes are none
 abbrev marks : List ℕ → ℕ

@@ -5,11 +5,11 @@ use Rattle.std.proofs.lemmas.List.Elements.{All-weaker}
 use Rattle.lr_rules.specs.declared.rule.Count.{Count}
 use Rattle.lr_rules.specs.declared.rule.Count.TheVariants as count
 use Rattle.lr_rules.specs.declared.rule.Naming.{Naming}
+use Rattle.lr_rules.specs.Limits.{IsCount}
 use Rattle.lr_family.specs.declared.stand.Member.{Member}
 use Rattle.lr_family.specs.Places.{AreNamed}
 use Rattle.lr_family.proofs.Numbers.{Every, every_from}
 use Rattle.lr_chain.specs.Hindrances.{number_hindrances}
-use Rattle.lr_chain.specs.Ready.{IsCount}
 use Rattle.lr_chain.specs.Rotation.{places_of, is_left, going, retired}
 use Rattle.lr_chain.proofs.Bounds.{none_too_high, have_next as next_places}
 use Rattle.lr_chain.proofs.Retired.{every_retired}

@@ -24,9 +24,10 @@ use Rattle.std.proofs.lemmas.List.Elements.{All-cons, All-nil}
 use Rattle.lr_rules.specs.declared.rule.Format.{Format}
 use Rattle.lr_rules.specs.declared.rule.Naming.{Naming}
 use Rattle.lr_rules.specs.Limits.{is_format, or_none}
+use Rattle.lr_family.specs.Looks.{WasSeen}
 use Rattle.lr_laws_family.specs.Members.{IsNoMember, IsFamily}
 use Rattle.lr_laws_family.specs.Shown as family
-use Rattle.lr_laws_family.specs.Shown.{SawDir, WasSeen}
+use Rattle.lr_laws_family.specs.Shown.{SawDir}
 use Rattle.lr_laws_rotations.proofs.Places as places
 use Rattle.lr_laws_rotations.proofs.Places.{unlisted, Shown}
 use Rattle.lr_laws_rotations.proofs.Sights.{shown_so}

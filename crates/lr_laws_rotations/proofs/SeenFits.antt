@@ -9,6 +9,7 @@ use Rattle.lr_rules.specs.declared.path.Path.{Path}
 use Rattle.lr_rules.specs.declared.rule.Count.{Count}
 use Rattle.lr_rules.specs.declared.rule.Make.{Make}
 use Rattle.lr_rules.specs.declared.rule.Naming.{Naming}
+use Rattle.lr_rules.specs.Limits.{IsCount}
 use Rattle.lr_host.specs.declared.entry.Entry.{Entry}
 use Rattle.lr_host.specs.declared.entry.Entry.TheVariants as entry
 use Rattle.lr_host.specs.declared.thing.Thing.TheVariants as thing
@@ -27,11 +28,11 @@ use Rattle.lr_family.specs.declared.stand.Member.{Member}
 use Rattle.lr_family.specs.declared.stand.Stand.{Stand}
 use Rattle.lr_family.specs.Parts.{IsMember}
 use Rattle.lr_family.proofs.Shown.{not_none}
+use Rattle.lr_family.specs.Looks.{WasSeen}
 use Rattle.lr_chain.specs.Hindrances.{what_hinders}
 use Rattle.lr_chain.specs.Prepared.{ready_of}
-use Rattle.lr_chain.specs.Ready.{IsCount}
 use Rattle.lr_laws_family.specs.Members.{IsFamily, NoMemberHas, AreThere}
-use Rattle.lr_laws_family.specs.Shown.{SawFile, SawDir, WasSeen, IsUnseen, unlisted, gone, no_dir, Shown}
+use Rattle.lr_laws_family.specs.Shown.{SawFile, SawDir, IsUnseen, unlisted, gone, no_dir, Shown}
 use Rattle.lr_laws_family.proofs.Directory.{member_in}
 use Rattle.lr_laws_family.proofs.Picking.{IsThere}
 use Rattle.lr_laws_family.proofs.Stood.{file_stands}

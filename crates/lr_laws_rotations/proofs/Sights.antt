@@ -16,10 +16,11 @@ use Rattle.lr_family.specs.Places.{AreNamed}
 use Rattle.lr_family.proofs.Names.{no_format}
 use Rattle.lr_family.proofs.Shown.{not_none}
 use Rattle.lr_family.proofs.Unique.{joined_same}
+use Rattle.lr_family.specs.Looks.{WasSeen}
 use Rattle.lr_chain.specs.Rotation.{places_of}
 use Rattle.lr_laws_rotations.proofs.Places as places
 use Rattle.lr_laws_family.specs.Members.{NoMemberHas}
-use Rattle.lr_laws_family.specs.Shown.{WasSeen, IsUnseen, unlisted, gone, no_dir, Shown}
+use Rattle.lr_laws_family.specs.Shown.{IsUnseen, unlisted, gone, no_dir, Shown}
 use Rattle.lr_laws_family.proofs.Picking.{named_all}
 use Rattle.lr_laws_family.proofs.Numbers.{at_number, member_at}
 

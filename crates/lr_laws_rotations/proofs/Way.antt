@@ -4,11 +4,11 @@ use Rattle.lr_rules.specs.declared.path.Path.{Path}
 use Rattle.lr_rules.specs.declared.rule.Naming.{Naming}
 use Rattle.lr_rules.specs.declared.rule.Way.{Way}
 use Rattle.lr_rules.specs.declared.rule.Way.TheVariants as way
-use Rattle.lr_rules.specs.Names.{aside_path}
+use Rattle.lr_rules.specs.Names.{aside_path, IsBesideLog}
 use Rattle.lr_family.specs.Parts.{IsMember}
 use Rattle.lr_laws_family.specs.Members.{IsFamily, IsNoMember}
 use Rattle.lr_laws_rotations.specs.Apart.{HasNames}
-use Rattle.lr_laws_rotations.specs.Own.{IsBesideLog, IsOfFamily}
+use Rattle.lr_laws_rotations.specs.Own.{IsOfFamily}
 use Rattle.lr_laws_rotations.specs.Target.{Target, source_by, source_of, HasWay, GoesBy}
 
 -- each way of a rule is one of the three

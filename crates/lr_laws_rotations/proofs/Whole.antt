@@ -13,11 +13,12 @@ use Rattle.lr_host.specs.Quiet.{is_disk_change, AreQuiet, ChangeNothing}
 use Rattle.lr_host.proofs.Lists.{in_back}
 use Rattle.lr_host.proofs.Quiet.{quiet_still, still_both}
 use Rattle.lr_family.specs.declared.stand.Member.{Member}
+use Rattle.lr_family.specs.Looks.{WasSeen}
 use Rattle.lr_copy.specs.declared.job.Job.{Job}
 use Rattle.lr_laws_family.specs.Beside.{IsBeside}
 use Rattle.lr_laws_family.specs.Made.{IsBetween, RotatesAmong}
 use Rattle.lr_laws_family.specs.Rotation.{part_paths, rotation_steps}
-use Rattle.lr_laws_family.specs.Shown.{SawFile, WasSeen, IsUnseen, unlisted, gone, no_dir, Shown}
+use Rattle.lr_laws_family.specs.Shown.{SawFile, IsUnseen, unlisted, gone, no_dir, Shown}
 use Rattle.lr_laws_family.specs.Weave.{Weave}
 use Rattle.lr_laws_family.proofs.Woven.{among}
 use Rattle.lr_laws_rotations.proofs.Moments.{saw_one}

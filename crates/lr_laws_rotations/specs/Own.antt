@@ -1,8 +1,8 @@
 -- The names that a log's rotation changes, among all logs of a run.
-use Rattle.std.specs.Prelude.{◌≡◌, ◌≢◌, ◌⊎◌, true, List}
+use Rattle.std.specs.Prelude.{◌≡◌, ◌≢◌, ◌⊎◌, List}
 use Rattle.lr_rules.specs.declared.path.Path.{Path}
 use Rattle.lr_rules.specs.declared.rule.Naming.{Naming}
-use Rattle.lr_rules.specs.Names.{IsOwnName, IsName, aside_path}
+use Rattle.lr_rules.specs.Names.{IsOwnName, IsName, IsBesideLog}
 use Rattle.lr_host.specs.declared.entry.Entry.{Entry}
 use Rattle.lr_host.specs.declared.entry.Entry.TheVariants.{MakesDir}
 use Rattle.lr_host.specs.Lists.{IsIn}
@@ -11,10 +11,6 @@ use Rattle.lr_family.specs.Parts.{IsMember, IsMembersPart}
 use Rattle.lr_laws_family.specs.Members.{IsNoMember}
 use Rattle.lr_laws_rotations.specs.AllTurns.{IsItsDir}
 use Rattle.lr_laws_rotations.specs.Target.{Target}
-
--- the path is that where the log waits that is set aside
-abbrev pub IsBesideLog : Path → Naming → Path → Type 0
-IsBesideLog log n x = (n.aside ≡ true) × (x ≡ aside_path log)
 
 -- the path is the log, the one beside it, a member, or the part file of one
 abbrev pub IsOfFamily : Path → Naming → Path → Type 0

@@ -4,6 +4,7 @@ use Rattle.std.specs.Prelude.{Option, Some, None, Ok, Err, ◌||◌, ◌&&◌, �
 use Rattle.std.specs.List.{list_any}
 use Rattle.std.proofs.lemmas.List.{append-nil}
 use Rattle.std.proofs.lemmas.Str.{IsUtf8-nil, is_utf8-from_IsUtf8}
+use Rattle.lr_rules.specs.Bytes.{is_no_blank}
 use Rattle.lr_lex.specs.declared.word.Word.{Word}
 use Rattle.lr_lex.specs.declared.sign.Sign.{Sign}
 use Rattle.lr_lex.specs.declared.item.Item.TheVariants as item
@@ -15,7 +16,7 @@ use Rattle.lr_lex.specs.Signs.{line_signs}
 use Rattle.lr_lex.specs.Words.{closes, opens, before_open, is_brace, line_words}
 use Rattle.lr_lex.specs.Lines.{NumberedLine, line_at, lines, line_of, after_line}
 use Rattle.lr_lex.specs.Pieces.{has_line}
-use Rattle.lr_lex.specs.Items.{Told, said, items_of, items_from, body, ended, is_end, script_text, told, taken, script, is_text, by_first, by_words, by_signs, by_sign, is_no_blank, begins_script, is_name_sign, line_of_words, fault}
+use Rattle.lr_lex.specs.Items.{Told, said, items_of, items_from, body, ended, is_end, script_text, told, taken, script, is_text, by_first, by_words, by_signs, by_sign, begins_script, is_name_sign, line_of_words, fault}
 use Rattle.lr_lex.proofs.First.{lines-are}
 use Rattle.lr_lex.specs.Whole.{IsPlainSaid, IsScriptBegun}
 

@@ -3,6 +3,7 @@ use Rattle.std.proofs.Common.{◌≡◌, ◌+◌, ◌<◌, ◌≤◌, ℕ, zero,
 use Rattle.std.specs.Prelude.{Option, Result, ◌||◌, Some, None, slice_get, nat_lt, ◌==◌, ◌&&◌, Ok, Err, IfOk}
 use Rattle.std.specs.List.{find, list_any}
 use Rattle.std.proofs.lemmas.List.{nil_from_length}
+use Rattle.lr_rules.specs.Bytes.{is_no_blank}
 use Rattle.lr_lex.specs.declared.word.Word.{Word}
 use Rattle.lr_lex.specs.declared.sign.Sign.{Sign}
 use Rattle.lr_lex.specs.declared.item.Item.TheVariants as item
@@ -15,7 +16,7 @@ use Rattle.lr_lex.specs.declared.place.Place.{Place}
 use Rattle.lr_lex.specs.Signs.{line_signs, signs, left_open}
 use Rattle.lr_lex.specs.Words.{closes, opens, before_open, is_brace, line_words}
 use Rattle.lr_lex.specs.Lines.{NumberedLine, line_at, lines, longer, line_of, after_line}
-use Rattle.lr_lex.specs.Items.{Told, said, items_of, body, ended, behind_script, is_end, script_text, by_first, by_words, by_signs, by_sign, is_no_blank, begins_script, is_name_sign, line_of_words, fault, is_text, told, taken, script, answer}
+use Rattle.lr_lex.specs.Items.{Told, said, items_of, body, ended, behind_script, is_end, script_text, by_first, by_words, by_signs, by_sign, begins_script, is_name_sign, line_of_words, fault, is_text, told, taken, script, answer}
 use Rattle.lr_lex.specs.declared.lexer.Lexer.{Lexer}
 use Rattle.lr_lex.specs.Lexing.{coming, coming_from, ByKind, LexerGives}
 use Rattle.lr_lex.specs.Scanning.{LinePasses, lines_from, IsScript}

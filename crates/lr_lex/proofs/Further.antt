@@ -2,6 +2,7 @@
 use Rattle.std.proofs.Common.{◌≡◌, ◌+◌, ℕ, zero, suc, true, false, Bool, not, cond, eqb, List, [], ◌∷◌, ◌++◌, length, map, take, drop, refl, ap, ◌∙◌, arith}
 use Rattle.std.specs.Prelude.{Option, Some, None, Ok, Err, nat_lt, ◌==◌, ◌&&◌, ◌||◌, position}
 use Rattle.std.specs.List.{find, list_any}
+use Rattle.lr_rules.specs.Bytes.{is_no_blank}
 use Rattle.lr_lex.specs.declared.word.Word.{Word}
 use Rattle.lr_lex.specs.declared.sign.Sign.{Sign}
 use Rattle.lr_lex.specs.declared.item.Item.TheVariants as item
@@ -12,7 +13,7 @@ use Rattle.lr_lex.specs.declared.sign.Sign.TheVariants.{Blank}
 use Rattle.lr_lex.specs.Signs.{line_signs}
 use Rattle.lr_lex.specs.Words.{is_gap, goes_on, one, onto, words, parted, line_words, is_equals, closes, opens, before_open, is_brace}
 use Rattle.lr_lex.specs.Lines.{NumberedLine, line_at, longer, lines}
-use Rattle.lr_lex.specs.Items.{Told, said, items_of, items_from, body, ended, is_end, script_text, by_first, by_words, by_signs, by_sign, is_no_blank, begins_script, is_name_sign, line_of_words, fault, is_text, told, taken, script}
+use Rattle.lr_lex.specs.Items.{Told, said, items_of, items_from, body, ended, is_end, script_text, by_first, by_words, by_signs, by_sign, begins_script, is_name_sign, line_of_words, fault, is_text, told, taken, script}
 use Rattle.lr_lex.specs.Moved.{moved_word, moved}
 
 module _ (down by : ℕ) where

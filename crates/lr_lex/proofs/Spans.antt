@@ -3,6 +3,7 @@ use Rattle.std.proofs.Common.{◌≡◌, ℕ, zero, suc, ◌+◌, ◌<◌, ◌�
 use Rattle.std.specs.Prelude.{Option, Some, None, Ok, Err, position, nat_lt, find, ◌==◌}
 use Rattle.std.specs.List.{list_all, list_any}
 use Rattle.std.proofs.lemmas.List.Quantifiers.{position-Some}
+use Rattle.lr_rules.specs.Bytes.{is_no_blank}
 use Rattle.lr_lex.specs.declared.word.Word.{Word}
 use Rattle.lr_lex.specs.declared.sign.Sign.{Sign}
 use Rattle.lr_lex.specs.declared.sign.Sign.TheVariants.{Blank, Quoted}
@@ -13,7 +14,7 @@ use Rattle.lr_lex.specs.declared.said.Said.TheVariants as says
 use Rattle.lr_lex.specs.Signs.{signs, left_open, sign_of, quote_behind, escape, line_signs}
 use Rattle.lr_lex.specs.Words.{Rises, words, onto, one, is_gap, goes_on, is_open, is_brace, is_equals, parted, line_words, closes, opens, before_open}
 use Rattle.lr_lex.specs.Lines.{NumberedLine, line_at, lines, longer}
-use Rattle.lr_lex.specs.Items.{Told, said, by_sign, by_signs, by_words, line_of_words, begins_script, is_name_sign, is_no_blank, is_text, fault, told, taken, body, ended, script, script_text, items_of, items, words_told, all_words}
+use Rattle.lr_lex.specs.Items.{Told, said, by_sign, by_signs, by_words, line_of_words, begins_script, is_name_sign, is_text, fault, told, taken, body, ended, script, script_text, items_of, items, words_told, all_words}
 
 -- ---- runs of words
 

@@ -3,7 +3,7 @@ use Rattle.std.specs.Prelude.{ℕ, suc, zero, ◌==◌, ◌&&◌, ◌||◌, not,
 use Rattle.std.specs.Prelude.{Err, length, take, drop, find, position, slice_get, nat_lt, codes, if◌then◌else◌}
 use Rattle.std.specs.List.{list_any, list_all, flat_map}
 use Rattle.std.specs.Str.{is_utf8, bytes_eq}
-use Rattle.lr_rules.specs.Bytes.{is_blank}
+use Rattle.lr_rules.specs.Bytes.{is_blank, is_no_blank}
 use Rattle.lr_lex.specs.declared.word.Word.{Word}
 use Rattle.lr_lex.specs.declared.item.Item.{Item}
 use Rattle.lr_lex.specs.declared.item.Item.TheVariants as item
@@ -25,9 +25,6 @@ is_zero b = b == 0
 -- UTF-8 without a zero byte
 unfoldable pub is_text : List ℕ → Bool
 is_text bytes = is_utf8 bytes && not (list_any is_zero bytes)
-
-abbrev pub is_no_blank : ℕ → Bool
-is_no_blank b = not (is_blank b)
 
 -- a line whose first sign past blanks is this one holds names
 abbrev pub is_name_sign : ℕ → Bool

@@ -1,7 +1,8 @@
 // What a line says by itself.
 ghost use Rattle.std.specs.Prelude.{◌≡◌, ◌+◌, ◌<◌, ◌^◌, length, find, slice_get, IfOk, IsUtf8, Some};
+ghost use Rattle.lr_rules.specs.Bytes.{is_no_blank};
 ghost use Rattle.lr_lex.specs.Lines.{line_at};
-ghost use Rattle.lr_lex.specs.Items.{fault, is_no_blank, is_name_sign, begins_script, first_begins_script};
+ghost use Rattle.lr_lex.specs.Items.{fault, is_name_sign, begins_script, first_begins_script};
 ghost use Rattle.lr_lex.specs.Items.{by_words, by_signs, said};
 ghost use Rattle.lr_lex.specs.Scanning.{sign_bytes};
 

@@ -1,9 +1,9 @@
 // The text of a script.
 ghost use Rattle.std.specs.Prelude.{◌≡◌, ◌<◌, ℕ, length, position, IfOk};
 ghost use Rattle.std.specs.List.{list_all};
-ghost use Rattle.lr_rules.specs.Bytes.{is_blank};
+ghost use Rattle.lr_rules.specs.Bytes.{is_blank, is_no_blank};
 ghost use Rattle.lr_lex.specs.Lines.{line_at};
-ghost use Rattle.lr_lex.specs.Items.{is_no_blank, past_blanks, is_end, script};
+ghost use Rattle.lr_lex.specs.Items.{past_blanks, is_end, script};
 ghost use Rattle.lr_lex.specs.Scanning.{IsScript};
 
 use crate::item::{Item, LexFault, LexKind};

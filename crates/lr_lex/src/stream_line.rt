@@ -1,9 +1,9 @@
 // Lines of a text that comes in pieces.
 ghost use Rattle.std.specs.Prelude.{◌≡◌, ℕ, false, position, MatchOption};
 ghost use Rattle.std.specs.List.{list_all};
-ghost use Rattle.lr_rules.specs.Bytes.{is_blank};
+ghost use Rattle.lr_rules.specs.Bytes.{is_blank, is_no_blank};
 ghost use Rattle.lr_lex.specs.Lines.{line_at};
-ghost use Rattle.lr_lex.specs.Items.{is_no_blank, past_blanks, is_end};
+ghost use Rattle.lr_lex.specs.Items.{past_blanks, is_end};
 ghost use Rattle.lr_lex.specs.Pieces.{has_line};
 ghost use Rattle.lr_lex.specs.Newlines.{IsNewline};
 

@@ -7,8 +7,7 @@ use Rattle.std.proofs.lemmas.List.Elements.{All-cons}
 use Rattle.lr_rules.specs.declared.rule.Count.{Count}
 use Rattle.lr_rules.specs.declared.rule.Count.TheVariants as count
 use Rattle.lr_rules.specs.declared.rule.Rule.{Rule}
-use Rattle.lr_rules.specs.Limits.{is_log_word, is_criterion, is_count, meets_limits}
-use Rattle.lr_chain.specs.Ready.{IsCount}
+use Rattle.lr_rules.specs.Limits.{is_log_word, is_criterion, is_count, meets_limits, IsCount}
 use Rattle.lr_plan.specs.declared.looks.LogLook.{LogLook}
 use Rattle.lr_plan.specs.declared.looks.SetLooks.{SetLooks}
 use Rattle.lr_plan.specs.Planned.{CanPlan, CanPlanSet, CanPlanAll}

@@ -16,7 +16,7 @@ use Rattle.lr_rules.specs.declared.rule.Naming.{Naming}
 use Rattle.lr_rules.specs.declared.rule.Rule.{Rule}
 use Rattle.lr_rules.specs.declared.rule.Way.{Way}
 use Rattle.lr_rules.specs.declared.rule.Way.TheVariants as way
-use Rattle.lr_rules.specs.Limits.{is_format, or_none}
+use Rattle.lr_rules.specs.Limits.{is_format, or_none, IsCount}
 use Rattle.lr_rules.specs.Names.{aside_path}
 use Rattle.lr_host.specs.declared.thing.Seen.{Seen}
 use Rattle.lr_host.specs.Listing.{is_file_kind}
@@ -34,7 +34,7 @@ use Rattle.lr_scripts.specs.Commands.{spaced, script, where_so, mail, with_progr
 use Rattle.lr_chain.specs.declared.ready.Ready.{Ready}
 use Rattle.lr_chain.specs.Hindrances.{what_hinders}
 use Rattle.lr_chain.specs.Prepared.{ready_of}
-use Rattle.lr_chain.specs.Ready.{IsCount, with_dir}
+use Rattle.lr_chain.specs.Ready.{with_dir}
 use Rattle.lr_copy.specs.declared.job.Job.{Job}
 use Rattle.lr_plan.specs.Asked.{Asked}
 use Rattle.lr_plan.specs.declared.looks.LogLook.{LogLook}

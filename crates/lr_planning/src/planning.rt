@@ -1,6 +1,7 @@
 // What makes the plan.
 ghost use Rattle.std.specs.Prelude.{◌≡◌, ◌≤◌, ◌++◌, ◌∷◌, [], None, not, length, OnOk, IfOk, IfErr};
 ghost use Rattle.lr_rules.specs.declared.rule.Rule.{Rule};
+ghost use Rattle.lr_rules.specs.Limits.{IsCount};
 ghost use Rattle.lr_plan.specs.declared.looks.LogLook.{LogLook};
 ghost use Rattle.lr_plan.specs.Asked.{asking};
 ghost use Rattle.lr_planning.specs.Hindered.{prepare_fault};
@@ -9,7 +10,7 @@ ghost use Rattle.lr_plan.specs.Planned.{all_decisions, all_plans, all_faults, pl
 ghost use Rattle.lr_plan.specs.Planned.{with_stand, with_log, first_path, aside_by, aside_hinders, unfinished, or_else};
 ghost use Rattle.lr_plan.specs.Planned.{none_hinders, due_faults};
 ghost use Rattle.lr_plan.specs.Planned.{standing, dressed, job_by, plan_with, CanPlan, CanPlanSet, CanPlanAll};
-ghost use Rattle.lr_chain.specs.Ready.{IsCount, with_dir};
+ghost use Rattle.lr_chain.specs.Ready.{with_dir};
 ghost use Rattle.lr_scripts.specs.Commands.{spaced, script, where_so, mail};
 ghost use Rattle.lr_chain.specs.Hindrances.{what_hinders, IsHindered};
 ghost use Rattle.lr_chain.specs.Prepared.{ready_of};

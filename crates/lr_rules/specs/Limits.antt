@@ -1,6 +1,6 @@
 -- The limits that the values of a rule meet.
-use Rattle.std.specs.Prelude.{◌+◌, ℕ, Bool, true, false, not, ◌&&◌, ◌||◌, ◌==◌, List, [], ◌∷◌, length, Option, Some, None, nat_le}
-use Rattle.std.specs.Prelude.{if◌then◌else◌}
+use Rattle.std.specs.Prelude.{◌+◌, ◌≤◌, ℕ, Bool, true, false, not, ◌&&◌, ◌||◌, ◌==◌, List, [], ◌∷◌, length, Option, Some, None}
+use Rattle.std.specs.Prelude.{nat_le, if◌then◌else◌}
 use Rattle.std.specs.List.{list_any, list_all}
 use Rattle.std.specs.Str.{is_utf8}
 use Rattle.lr_rules.specs.declared.rule.Count.{Count}
@@ -73,6 +73,11 @@ is_mode n = nat_le n 4095
 abbrev pub is_count : Count → Bool
 is_count (count.Keep n) = is_small n
 is_count count.Always = true
+
+-- a count that a rule can have
+abbrev pub IsCount : Count → Type 0
+IsCount (count.Keep n) = n ≤ 999999
+IsCount count.Always = Unit {0}
 
 abbrev pub is_criterion : Criterion → Bool
 is_criterion (criterion.Size n) = is_size n

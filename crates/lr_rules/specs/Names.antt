@@ -61,6 +61,10 @@ base_of ext name = cond (ends_with ext name) (without ext name) name
 abbrev pub aside_path : Path → Path
 aside_path log = log ++ codes ".tmp"
 
+-- the path is that where the log waits that is set aside
+abbrev pub IsBesideLog : Path → Naming → Path → Type 0
+IsBesideLog log n x = (n.aside ≡ true) × (x ≡ aside_path log)
+
 -- the way sets the log aside before it is copied
 abbrev pub is_aside : Way → Bool
 is_aside way.RenameCopy = true

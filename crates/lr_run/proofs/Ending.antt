@@ -17,7 +17,8 @@ use Rattle.lr_plan.specs.declared.plan.Plan.{Plan}
 use Rattle.lr_host.proofs.Counts.{free_none, adds_free, adds_on, went_free, went_call}
 use Rattle.lr_family.specs.declared.directory.DirStop.{DirStop}
 use Rattle.lr_family.specs.declared.directory.DirStop.TheVariants as dir
-use Rattle.lr_run.specs.Internal.{dir_fault_of, CameTo, WorksOn, SomeWork}
+use Rattle.lr_family.specs.Directory.{dir_fault_of}
+use Rattle.lr_run.specs.Internal.{CameTo, WorksOn, SomeWork}
 use Rattle.lr_run.proofs.Entries.{works_so, lacking_so}
 use Rattle.lr_run.proofs.Evidence.{works_of}
 use Rattle.lr_run.proofs.Working.{IsWork, IsOn, does_work, goes_on}

@@ -76,10 +76,10 @@ covered t (ts ∷ groups) (s ∷ ss) h i = ⊎_elim
     (in_append t ts (flat_map (λ ts. ts) groups) i)
 
 -- the rotation of one of these makes the directory
-record IsOfOne (ts : List Target) (dir : Path) : Type 0 where
-  target : Target
-  one : IsIn target ts
-  its : IsItsDir target dir
+pub record IsOfOne (ts : List Target) (dir : Path) : Type 0 where
+  pub target : Target
+  pub one : IsIn target ts
+  pub its : IsItsDir target dir
 
 made_log : (ts : List Target) (logs : List LogPlan) (dir : Path) → AreReadyFor ts logs → IsIn dir (to_make_of logs) → IsOfOne ts dir
 made_log [] [] dir r i = absurd i

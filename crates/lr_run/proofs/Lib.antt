@@ -29,7 +29,7 @@ mod Coming
 pub mod Evidence
 mod Covering
 pub mod Made
-mod Guarding
+pub mod Guarding
 pub mod Renewing
 pub mod Moving
 pub mod Lets

@@ -27,10 +27,10 @@ use Rattle.lr_run.specs.declared.answer.RunStop.{RunStop}
 use Rattle.lr_run.specs.declared.answer.RunStop.TheVariants as stop
 use Rattle.lr_family.specs.declared.directory.DirStop.{DirStop}
 use Rattle.lr_family.specs.declared.directory.DirStop.TheVariants as dir
-use Rattle.lr_family.specs.Directory.{DirSeen, DirLookStopped}
+use Rattle.lr_family.specs.Directory.{DirSeen, DirLookStopped, dir_fault_of}
 use Rattle.lr_run.specs.Halt as halt
 use Rattle.lr_run.specs.Halt.{Halts, LacksState, OfFaults, OfLock, OfMemory}
-use Rattle.lr_run.specs.Internal.{dir_fault_of, CameTo, WorksTo, SeesTooBig, saw_too_big, came_to, KnowsText, WorksOn, knows_none, knows, SomeWork, some_seen, some_done, Begun, Goes, begun, not_begun, RunStopped, StopsSo}
+use Rattle.lr_run.specs.Internal.{CameTo, WorksTo, SeesTooBig, saw_too_big, came_to, KnowsText, WorksOn, knows_none, knows, SomeWork, some_seen, some_done, Begun, Goes, begun, not_begun, RunStopped, StopsSo}
 use Rattle.lr_run.specs.Ran.{RanSo, RunEnds, halted, came, TellsNamesOf}
 use Rattle.lr_looks.specs.Inside.{Inside}
 use Rattle.lr_run.specs.Runs as runs

@@ -8,7 +8,7 @@ use Rattle.lr_host.specs.declared.entry.Entry.TheVariants as entry
 use Rattle.lr_host.specs.declared.thing.Seen.{Seen}
 use Rattle.lr_host.specs.Told.{Each}
 use Rattle.lr_host.proofs.Each.{each_append, each_as}
-use Rattle.lr_family.proofs.OnlyLooks.{IsLooking, AreLooking}
+use Rattle.lr_host.specs.Looking.{IsLooking, AreLooking}
 use Rattle.lr_state.specs.declared.look.LookStop.{LookStop}
 use Rattle.lr_state.specs.ReadPieces.{Reading, Whole, Broken, AreSome, IsReading, reads_from, reads_of}
 use Rattle.lr_state.specs.Sights.{StateSight, Failed, Nothing, Saw, StateSights, ShowsState, found, state_look, text_entries, behind_part, behind_state}

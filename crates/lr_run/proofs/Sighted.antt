@@ -25,7 +25,7 @@ use Rattle.lr_laws_looks.proofs.Quiet.{whole_looking, part_looking}
 use Rattle.lr_run.specs.declared.answer.Ran.{Ran}
 use Rattle.lr_run.specs.declared.answer.RunStop.{RunStop}
 use Rattle.lr_run.specs.Copied.{IsCopyBy}
-use Rattle.lr_glob.specs.Looking.{IsSight, AreSights}
+use Rattle.lr_host.specs.Looking.{IsSight, AreSights}
 use Rattle.lr_run.specs.Halt.{Halt, DirBars, Halts, not_seen, no_directory, held, not_begun, unknown, too_big, no_memory, short, short_anew}
 use Rattle.lr_run.specs.Ran.{RunEnds, halted, came, RanSo}
 use Rattle.lr_run.specs.Saw.{Saw, ShowsStateFile, by_dir, by_none, ShowsSaw}

@@ -22,7 +22,7 @@ use Rattle.lr_host.proofs.Counts.{AreFree, adds_on, adds_free}
 use Rattle.lr_host.proofs.Left.{left_as, left_first, left_then}
 use Rattle.lr_family.specs.declared.directory.DirStop.{DirStop}
 use Rattle.lr_family.specs.declared.directory.DirStop.TheVariants as dir
-use Rattle.lr_family.specs.Directory.{DirSeen, DirLookStopped}
+use Rattle.lr_family.specs.Directory.{DirSeen, DirLookStopped, dir_fault_of}
 use Rattle.lr_state.specs.Table.{Entry as Row}
 use Rattle.lr_looks.specs.Found.{paths_of}
 use Rattle.lr_looks.specs.Shown.{LooksAtAll, ShowsSomeLooks}
@@ -39,7 +39,7 @@ use Rattle.lr_run.specs.declared.answer.RunStop.{RunStop}
 use Rattle.lr_run.specs.declared.answer.RunStop.TheVariants as stop
 use Rattle.lr_run.specs.Dry.{measured_by, PlanFollows}
 use Rattle.lr_run.specs.Halt.{OfFaults, OfMemory, Halts, not_seen, no_directory, unknown, too_big, short, short_anew}
-use Rattle.lr_run.specs.Internal.{dir_fault_of, plan_if, faults_if}
+use Rattle.lr_run.specs.Internal.{plan_if, faults_if}
 use Rattle.lr_run.specs.Ran.{halted, came, RanSo}
 use Rattle.lr_run.specs.Runs.{SomeSeen, of_state, of_looks}
 use Rattle.lr_run.specs.Saw.{Saw, ShowsStateFile, by_dir, by_none, ShowsSaw}

@@ -36,8 +36,6 @@ use Rattle.lr_plan.specs.Planned.{plan_of}
 use Rattle.lr_plan.specs.Asking.{CanMake}
 use Rattle.lr_plan.specs.Cut.{SetsCut}
 use Rattle.lr_plan.specs.Steps.{steps_of_plan, state_steps}
-use Rattle.lr_family.specs.declared.directory.DirStop.{DirStop}
-use Rattle.lr_family.specs.declared.directory.DirStop.TheVariants as dir
 use Rattle.lr_acts.specs.declared.progress.Progress.{Progress}
 use Rattle.lr_acts.specs.Adding.{HasRoom}
 use Rattle.lr_acts.specs.Making.{all_of_sets}
@@ -62,11 +60,6 @@ use Rattle.lr_run.specs.Saw.{Saw, ShowsStateText, ShowsSets, plan_by, measured_b
 use Rattle.lr_run.specs.Work.{Acts, act_faults, Work, IsPlanOf, CarriesOut}
 use Rattle.lr_run.specs.Halt.{LacksState}
 use Rattle.lr_run.specs.Ran.{TellsNames, TellsNamesOf}
-
--- the fault of a directory that wasn't seen
-abbrev pub dir_fault_of : DirStop → Path → Fault
-dir_fault_of dir.Call path = fault.Call call.Look path
-dir_fault_of dir.NotDir path = fault.NoDir path
 
 -- ---- what is ready
 

@@ -19,11 +19,10 @@ ghost use Rattle.lr_run.specs.Runs.{SomeSeen};
 ghost use Rattle.lr_run.specs.Trying.{PlansOn, PlansByOn, TriesOn};
 
 use crate::answer::{Ran, RunStop};
-use crate::directory::dir_fault;
 use crate::known::known_state;
 use crate::ready::{add_all, bring_up_to};
 use crate::work::add_too_big;
-use lr_family::look_for_dir;
+use lr_family::{dir_fault, look_for_dir};
 use lr_host::Host;
 use lr_looks::look_all;
 use lr_plan::{Looks, Plan};

@@ -14,7 +14,6 @@
 mod acting;
 mod answer;
 mod asked;
-mod directory;
 mod dry;
 mod known;
 mod laws;

@@ -3,8 +3,8 @@ use Rattle.std.proofs.Common.{◌≡◌, ◌∙◌, ap, sym, subst, refl, ℕ, �
 use Rattle.std.specs.List.{list_all}
 use Rattle.std.proofs.lemmas.Bool.{and_parts, and_from, eqb-true, cond-true, leb-true}
 use Rattle.lr_rules.specs.declared.civil.Civil.{Civil}
-use Rattle.lr_rules.specs.Bytes.{is_blank, is_digit}
-use Rattle.lr_state.specs.Grammar.{is_other, IsNumber, IsClockTime, IsTime, HasDate}
+use Rattle.lr_rules.specs.Bytes.{is_blank, is_digit, is_no_blank}
+use Rattle.lr_state.specs.Grammar.{IsNumber, IsClockTime, IsTime, HasDate}
 use Rattle.lr_state.specs.Reading.{Clock, Parts, HasParts, before, from_first, past_gap, behind, two_in, four_in, clock_in, time_in, parts_in, ◌>>=◌}
 use Rattle.lr_state.proofs.Names.{starts, cut-complete, cut-sound}
 use Rattle.lr_state.proofs.Numbers.{no_digit, two-sound, two-complete, four-sound, four-complete}
@@ -23,10 +23,10 @@ behind-sound byte (b ∷ bs) rest e = by (b == byte) refl e
     by false is same = absurd (cc same)
 
 -- blanks before the first other byte
-blank-front : (xs : List ℕ) → list_all (λ b. not (is_other b)) xs ≡ true → list_all is_blank xs ≡ true
+blank-front : (xs : List ℕ) → list_all (λ b. not (is_no_blank b)) xs ≡ true → list_all is_blank xs ≡ true
 blank-front [] e = refl
 blank-front (x ∷ xs) e =
-    let p = and_parts (not (is_other x)) (list_all (λ b. not (is_other b)) xs) e in
+    let p = and_parts (not (is_no_blank x)) (list_all (λ b. not (is_no_blank b)) xs) e in
     and_from _ _ (twice (is_blank x) p.0) (blank-front xs p.1)
   where
     twice : (b : Bool) → not (not b) ≡ true → b ≡ true
@@ -41,25 +41,25 @@ unfolding past_gap
 gap-sound [] rest e = absurd (cc e)
 gap-sound (b ∷ bs) rest e = by (is_blank b) refl e
   where
-    by : (c : Bool) → is_blank b ≡ c → cond c (Some (from_first is_other bs)) None ≡ Some rest → IsGap (b ∷ bs) rest
+    by : (c : Bool) → is_blank b ≡ c → cond c (Some (from_first is_no_blank bs)) None ≡ Some rest → IsGap (b ∷ bs) rest
     by true is same =
-        let rest_is : from_first is_other bs ≡ rest = cc same in
-        let cut = cut-sound is_other bs in
-        (b ∷ before is_other bs, omega arith, and_from _ _ is (blank-front (before is_other bs) cut.clear), ap (λ t. b ∷ t) (sym cut.whole ∙ ap (λ t. before is_other bs ++ t) rest_is))
+        let rest_is : from_first is_no_blank bs ≡ rest = cc same in
+        let cut = cut-sound is_no_blank bs in
+        (b ∷ before is_no_blank bs, omega arith, and_from _ _ is (blank-front (before is_no_blank bs) cut.clear), ap (λ t. b ∷ t) (sym cut.whole ∙ ap (λ t. before is_no_blank bs ++ t) rest_is))
     by false is same = absurd (cc same)
 
-not_other : (b : ℕ) → is_blank b ≡ true → is_other b ≡ false
+not_other : (b : ℕ) → is_blank b ≡ true → is_no_blank b ≡ false
 not_other b is = ap not is
 
-gap-complete : (gap rest : List ℕ) → 0 < length gap → list_all is_blank gap ≡ true → starts is_other rest ≡ true → past_gap (gap ++ rest) ≡ Some rest
+gap-complete : (gap rest : List ℕ) → 0 < length gap → list_all is_blank gap ≡ true → starts is_no_blank rest ≡ true → past_gap (gap ++ rest) ≡ Some rest
 unfolding past_gap
 gap-complete [] rest some all at = absurd (omega arith)
 gap-complete (b ∷ gap) rest some all at =
     let p = and_parts (is_blank b) (list_all is_blank gap) all in
-    cond-true _ _ _ p.0 ∙ ap (λ (t : List ℕ). Some t) (cut-complete is_other is_blank not_other gap rest p.1 at).1
+    cond-true _ _ _ p.0 ∙ ap (λ (t : List ℕ). Some t) (cut-complete is_no_blank is_blank not_other gap rest p.1 at).1
 
 -- a digit is no blank
-digit-other : (d : ℕ) → is_digit d ≡ true → is_other d ≡ true
+digit-other : (d : ℕ) → is_digit d ≡ true → is_no_blank d ≡ true
 digit-other d is =
     let low = leb-true 48 d (and_parts _ _ is).0 in
     ap not (none (d == 32) (d == 9) (d == 13) (differs 32 (λ e. omega arith)) (differs 9 (λ e. omega arith)) (differs 13 (λ e. omega arith)))
@@ -76,7 +76,7 @@ digit-other d is =
         by true e = absurd (no_eq (eqb-true d n e))
         by false e = refl
 
-number-starts : (most n : ℕ) (ds rest : List ℕ) → IsNumber most ds n → starts is_other (ds ++ rest) ≡ true
+number-starts : (most n : ℕ) (ds rest : List ℕ) → IsNumber most ds n → starts is_no_blank (ds ++ rest) ≡ true
 number-starts most n [] rest h = let some = h.some in absurd (omega arith)
 number-starts most n (d ∷ ds) rest h = digit-other d (and_parts (is_digit d) (list_all is_digit ds) h.each).0
 
@@ -85,7 +85,7 @@ blank-no_digit [] e = refl
 blank-no_digit (b ∷ bs) e = by (is_digit b) refl
   where
     by : (c : Bool) → is_digit b ≡ c → not c ≡ true
-    by true is = let o : is_other b ≡ true = digit-other b is in sym (not_other b (and_parts (is_blank b) (list_all is_blank bs) e).0) ∙ o
+    by true is = let o : is_no_blank b ≡ true = digit-other b is in sym (not_other b (and_parts (is_blank b) (list_all is_blank bs) e).0) ∙ o
     by false is = refl
 
 time-no_digit : (time rest : List ℕ) (h m s : ℕ) → IsTime time h m s → list_all is_blank rest ≡ true → no_digit (time ++ rest) ≡ true

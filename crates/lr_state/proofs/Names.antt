@@ -2,8 +2,8 @@
 use Rattle.std.proofs.Common.{◌≡◌, ◌∙◌, ap, sym, subst, refl, ℕ, Bool, true, false, not, ◌||◌, ◌==◌, cond, List, [], ◌∷◌, ◌++◌, take, map, Option, Some, None, append_assoc, ◌⊎◌, inl, inr}
 use Rattle.std.specs.List.{list_all, flat_map}
 use Rattle.std.proofs.lemmas.Bool.{and_parts, and_from, or_parts, not-true, eqb-true, cond-true, cond-false}
-use Rattle.lr_rules.specs.Bytes.{is_blank}
-use Rattle.lr_state.specs.Grammar.{Sign, spelling, is_escaped, byte_of, is_other, ends_word, IsQuoted, IsBare, BeginsWithName}
+use Rattle.lr_rules.specs.Bytes.{is_blank, is_no_blank}
+use Rattle.lr_state.specs.Grammar.{Sign, spelling, is_escaped, byte_of, ends_word, IsQuoted, IsBare, BeginsWithName}
 use Rattle.lr_state.specs.Table.{is_name}
 use Rattle.lr_state.specs.Reading.{NameAndRest, with_byte, with_front, quoted, before, from_first, name_in, checked}
 
@@ -163,12 +163,12 @@ named-sound (b ∷ bs) x e =
     let c = checked-some _ x e in
     (named_by b bs x (b == 34) (b == 47) refl refl c.0, c.1)
 
-bare-complete : (name rest : List ℕ) → take 1 name ≡ 47 ∷ [] → list_all is_other name ≡ true → ends_word rest ≡ true → name_in (name ++ rest) ≡ Some (name, rest)
+bare-complete : (name rest : List ℕ) → take 1 name ≡ 47 ∷ [] → list_all is_no_blank name ≡ true → ends_word rest ≡ true → name_in (name ++ rest) ≡ Some (name, rest)
 unfolding name_in
 bare-complete [] rest slash no_blank ends = absurd (cc slash)
 bare-complete (a ∷ name) rest slash no_blank ends =
     let is : a ≡ 47 = cc slash in
-    let cut = cut-complete is_blank is_other (λ b e. not-true _ e) (a ∷ name) rest no_blank (end-starts rest ends) in
+    let cut = cut-complete is_blank is_no_blank (λ b e. not-true _ e) (a ∷ name) rest no_blank (end-starts rest ends) in
     cond-false _ _ _ (ap (λ n. n == 34) is) ∙ cond-true _ _ _ (ap (λ n. n == 47) is)
     ∙ ap (λ n. Some (n, from_first is_blank (a ∷ (name ++ rest)))) cut.0 ∙ ap (λ r. Some (a ∷ name, r)) cut.1
 

@@ -7,11 +7,8 @@ use Rattle.std.specs.Str.{bytes_eq}
 use Rattle.lr_rules.specs.declared.civil.Civil.{Civil}
 use Rattle.lr_rules.specs.declared.fault.StateKind.{StateKind}
 use Rattle.lr_rules.specs.declared.fault.StateKind.TheVariants.{TooBig, BadTop, BadName, BadDate, Twice}
-use Rattle.lr_rules.specs.Bytes.{is_blank, is_newline, is_digit}
+use Rattle.lr_rules.specs.Bytes.{is_blank, is_newline, is_digit, is_no_blank}
 use Rattle.lr_state.specs.Table.{Entry, moment_of, is_name}
-
-abbrev pub is_other : ℕ → Bool
-is_other b = not (is_blank b)
 
 -- the end, or a blank
 abbrev pub ends_word : List ℕ → Bool
@@ -47,7 +44,7 @@ pub record IsQuoted (line name rest : List ℕ) : Type 0 where
 -- the line begins with the name as it is: it begins with a slash and holds no blank
 pub record IsBare (line name rest : List ℕ) : Type 0 where
   pub slash : take 1 name ≡ 47 ∷ []
-  pub no_blank : list_all is_other name ≡ true
+  pub no_blank : list_all is_no_blank name ≡ true
   pub line_is : line ≡ name ++ rest
   pub ends : ends_word rest ≡ true
 

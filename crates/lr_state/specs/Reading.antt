@@ -7,9 +7,8 @@ use Rattle.std.specs.List.{list_all}
 use Rattle.lr_rules.specs.declared.civil.Civil.{Civil}
 use Rattle.lr_rules.specs.declared.fault.StateKind.{StateKind}
 use Rattle.lr_rules.specs.declared.fault.StateKind.TheVariants.{BadName, BadDate, Twice}
-use Rattle.lr_rules.specs.Bytes.{is_blank, is_digit}
+use Rattle.lr_rules.specs.Bytes.{is_blank, is_digit, is_no_blank}
 use Rattle.lr_rules.specs.Civil.{IsMoment}
-use Rattle.lr_state.specs.Grammar.{is_other}
 use Rattle.lr_state.specs.Table.{Entry, moment_of, is_name}
 
 abbrev pub NameAndRest : Type 0
@@ -116,7 +115,7 @@ behind byte (b ∷ bs) = if b == byte then Some bs else None
 -- what is behind one blank or more
 unfoldable pub past_gap : List ℕ → Option (List ℕ)
 past_gap [] = None
-past_gap (b ∷ bs) = if is_blank b then Some (from_first is_other bs) else None
+past_gap (b ∷ bs) = if is_blank b then Some (from_first is_no_blank bs) else None
 
 -- the parts of a moment: year, month, day, hour, minute, second
 abbrev pub Parts : Type 0

@@ -1,8 +1,7 @@
 // Moments behind a name: blanks, a date with a time or without, blanks.
 ghost use Rattle.std.specs.Prelude.{◌≡◌, ◌≤◌, ◌<◌, ◌+◌, ◌*◌, length, IfSome, option_map};
 ghost use Rattle.std.specs.List.{list_all, position_or_len};
-ghost use Rattle.lr_rules.specs.Bytes.{is_blank, is_digit};
-ghost use Rattle.lr_state.specs.Grammar.{is_other};
+ghost use Rattle.lr_rules.specs.Bytes.{is_blank, is_digit, is_no_blank};
 ghost use Rattle.lr_state.specs.Reading.{seen, seen_number, seen_year, year_of, more_of, digit_in, two_in, four_in, behind};
 ghost use Rattle.lr_state.specs.Reading.{from_first, past_gap, clock_in, time_in, parts_in, IsMomentOf};
 
@@ -23,13 +22,13 @@ fn all_blank(text: &[u8]) -> bool
 /// Where the blanks in front end.
 fn blanks_end(text: &[u8]) -> usize
     ensures bound { result ≤ length text.now }
-    ensures end { result ≡ position_or_len is_other text.now }
+    ensures end { result ≡ position_or_len is_no_blank text.now }
 {
     text.iter().position(|b| !blank(*b)).unwrap_or(text.len())
 }
 
 fn skip_blanks<'a>(text: &'a [u8]) -> &'a [u8]
-    ensures { result.now ≡ from_first is_other text.now }
+    ensures { result.now ≡ from_first is_no_blank text.now }
 {
     &text[blanks_end(text)..]
 }

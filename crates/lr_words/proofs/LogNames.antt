@@ -4,8 +4,8 @@ use Rattle.std.proofs.lemmas.Bool.{and_parts}
 use Rattle.lr_rules.specs.declared.fault.ConfKind.TheVariants as kind
 use Rattle.lr_rules.specs.Limits.{can_be_log, is_literal_word, is_pattern_word, is_log_word}
 use Rattle.lr_rules.specs.Match.{is_wildcard, literal_path}
-use Rattle.lr_rules.specs.Path.{path_fault, kept_parts, or_root, cleaned}
-use Rattle.lr_words.specs.Names.{root, names_path, names_log, names_pattern, kept_name, IsLogWord, literal_value, pattern_value, log_name_value}
+use Rattle.lr_rules.specs.Path.{path_fault, kept_parts, or_root, cleaned, root}
+use Rattle.lr_words.specs.Names.{names_path, names_log, names_pattern, kept_name, IsLogWord, literal_value, pattern_value, log_name_value}
 use Rattle.lr_words.proofs.KeptNames.{path_of_kept, plain_kept}
 use Rattle.lr_words.proofs.Paths.{absolute, cleaned_parts, is_path, path_text}
 use Rattle.lr_words.proofs.Patterns.{pattern_meets}

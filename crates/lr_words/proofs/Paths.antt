@@ -5,8 +5,8 @@ use Rattle.std.proofs.lemmas.Bool.{and_parts}
 use Rattle.lr_rules.specs.declared.path.PathFault.{PathFault}
 use Rattle.lr_rules.specs.declared.path.PathFault.TheVariants as fault
 use Rattle.lr_rules.specs.Limits.{is_path_text}
-use Rattle.lr_rules.specs.Path.{path_fault, word_fault, is_absolute, is_empty, has_bad_byte, has_empty_part, has_dot_part, kept_parts, or_root, cleaned}
-use Rattle.lr_words.specs.Names.{root, names_path}
+use Rattle.lr_rules.specs.Path.{path_fault, word_fault, is_absolute, is_empty, has_bad_byte, has_empty_part, has_dot_part, kept_parts, or_root, cleaned, root}
+use Rattle.lr_words.specs.Names.{names_path}
 
 -- a path has none of the faults of its text
 pub path_text : (bytes : List ℕ) → path_fault bytes ≡ None → is_path_text bytes ≡ true

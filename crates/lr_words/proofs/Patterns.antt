@@ -5,8 +5,8 @@ use Rattle.std.proofs.lemmas.Bool.{and_parts}
 use Rattle.std.proofs.lemmas.Bool.Decides.{nat_tests}
 use Rattle.lr_rules.specs.Limits.{is_pattern_word, is_literal_word, is_log_word}
 use Rattle.lr_rules.specs.Match.{is_wild_sign, has_sign, is_wildcard}
-use Rattle.lr_rules.specs.Path.{is_slash, is_kept, behind_slashes, kept_parts, or_root, cleaned}
-use Rattle.lr_words.specs.Names.{root, names_path, names_pattern}
+use Rattle.lr_rules.specs.Path.{is_slash, is_kept, behind_slashes, kept_parts, or_root, cleaned, root}
+use Rattle.lr_words.specs.Names.{names_path, names_pattern}
 use Rattle.lr_words.proofs.KeptNames.{Tail, ends, goes_on, signs_append, signs_in_parts}
 use Rattle.lr_words.proofs.Paths.{absolute, cleaned_parts, is_path, path_text}
 

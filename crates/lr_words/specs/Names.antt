@@ -6,12 +6,9 @@ use Rattle.lr_rules.specs.declared.fault.ConfKind.{ConfKind}
 use Rattle.lr_rules.specs.declared.fault.ConfKind.TheVariants as kind
 use Rattle.lr_rules.specs.Limits.{can_be_log}
 use Rattle.lr_rules.specs.Match.{is_wildcard, literal_path}
-use Rattle.lr_rules.specs.Path.{path_fault, word_fault, is_slash, is_absolute, cleaned}
+use Rattle.lr_rules.specs.Path.{path_fault, word_fault, is_slash, is_absolute, cleaned, root}
 
 -- ---- paths
-
-abbrev pub root : List ℕ
-root = 47 ∷ []
 
 -- an absolute word names a path
 abbrev pub names_path : List ℕ → Bool

@@ -1,8 +1,8 @@
 // Paths that words name.
 ghost use Rattle.std.specs.Prelude.{◌≡◌, ◌&&◌, not, IfOk};
 ghost use Rattle.lr_rules.specs.Limits.{is_olddir};
-ghost use Rattle.lr_rules.specs.Path.{is_empty, has_bad_byte};
-ghost use Rattle.lr_words.specs.Names.{root, path_named, include_value};
+ghost use Rattle.lr_rules.specs.Path.{is_empty, has_bad_byte, root};
+ghost use Rattle.lr_words.specs.Names.{path_named, include_value};
 ghost use Rattle.lr_words.specs.Words.{is_climb, has_climb, olddir_value};
 
 use lr_rules::{ConfKind, Memory, Path, PathFault, Text, has_bad_byte, is_absolute};

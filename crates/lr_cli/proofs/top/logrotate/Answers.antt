@@ -1,6 +1,6 @@
 use Rattle.std.proofs.Common.{inl, inr, refl, ap, ◌∙◌, Err}
 use Rattle.lr_host.proofs.Left.{left_as, left_first}
-use Rattle.lr_glob.specs.Looking.{AreSights}
+use Rattle.lr_host.specs.Looking.{AreSights}
 use Rattle.lr_report.specs.declared.outcome.Outcome.TheVariants.{BadWords, OutOfMemory}
 use Rattle.lr_cli.specs.Faults.{answer_of, plan_told}
 use Rattle.lr_cli.specs.Printed.{without_out}
