@@ -12,6 +12,7 @@ use Rattle.lr_host.specs.Told.{Each, Made, at_first, by_writer, by_tool, Left, n
 use Rattle.lr_host.proofs.Looked.{nothing_no_file}
 use Rattle.lr_host.proofs.Made.{made_on}
 use Rattle.lr_host.proofs.Names.{put_here}
+use Rattle.lr_host.proofs.Each.{each_none}
 use Rattle.lr_plan.specs.declared.mark.Mark.{Mark}
 use Rattle.lr_plan.specs.declared.step.Step.{Step}
 use Rattle.lr_plan.specs.declared.step.Step.TheVariants as step
@@ -19,7 +20,7 @@ use Rattle.lr_plan.specs.Outcomes.{Succeeds, Fails, marks_of}
 use Rattle.lr_acts.specs.Making.{StepNames}
 use Rattle.lr_acts.specs.Named.{PathIsNamed, WasNamed, untold, at_moment, TakesName, KeepName, CreatesAt, OneCreates, LastsBehind, TellCreated, KeepsNames}
 use Rattle.lr_acts.proofs.Keeping.{KeepsName, writer_keeps, left_keeps}
-use Rattle.lr_acts.proofs.Unnaming.{unnames, OfUnnaming, each_none, each_made, each_failed}
+use Rattle.lr_acts.proofs.Unnaming.{unnames, OfUnnaming, each_made, each_failed}
 
 -- ---- a file that was made
 

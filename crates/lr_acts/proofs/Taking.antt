@@ -9,7 +9,7 @@ use Rattle.lr_host.specs.declared.journal.Journal.{Journal}
 use Rattle.lr_host.specs.World.{past}
 use Rattle.lr_host.specs.Told.{Counts, Each, at_first, Left, not_told, is_told}
 use Rattle.lr_host.specs.Lists.{IsIn}
-use Rattle.lr_host.proofs.Each.{each_append, each_in_order}
+use Rattle.lr_host.proofs.Each.{each_append, each_in_order, each_none}
 use Rattle.lr_host.proofs.Left.{left_first, left_as, left_then}
 use Rattle.lr_host.proofs.Lists.{in_append}
 use Rattle.lr_host.proofs.Made.{made_on}
@@ -22,7 +22,7 @@ use Rattle.lr_acts.specs.Making.{FaultCause}
 use Rattle.lr_acts.specs.Named.{PathIsNamed, WasNamed, untold, at_moment}
 use Rattle.lr_acts.specs.Taken.{SparesPath, WasTaken, no_journal, at_last, TakesAt, OneTakes, RemovesAt, NoneRemoves, LastTaken, TakenOnly}
 use Rattle.lr_acts.proofs.Naming.{was_wider}
-use Rattle.lr_acts.proofs.Unnaming.{unnames, OfUnnaming, each_none, each_made, each_failed}
+use Rattle.lr_acts.proofs.Unnaming.{unnames, OfUnnaming, each_made, each_failed}
 
 -- ---- at a moment
 

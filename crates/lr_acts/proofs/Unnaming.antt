@@ -1,11 +1,12 @@
 -- What holds of each entry that a step leaves, where it holds of all but unlinks and renames, and of the step's own.
-use Rattle.std.proofs.Common.{◌≡◌, ◌⊎◌, ⊎_elim, Bool, true, false, refl, sym, subst, ℕ, List, [], ◌∷◌, Option}
+use Rattle.std.proofs.Common.{◌≡◌, ⊎_elim, Bool, true, false, refl, ℕ, List, Option}
 use Rattle.lr_rules.specs.declared.fault.Fault.{Fault}
 use Rattle.lr_rules.specs.declared.path.Path.{Path}
 use Rattle.lr_host.specs.declared.entry.Entry.{Entry}
 use Rattle.lr_host.specs.declared.entry.Entry.TheVariants as entry
 use Rattle.lr_host.specs.declared.entry.Entry.TheVariants.{Makes, MakesDir, Renames, Unlinks}
 use Rattle.lr_host.specs.Told.{Each}
+use Rattle.lr_host.proofs.Each.{each_none, each_one, each_maybe}
 use Rattle.lr_copy.proofs.EachOfBytes.{each_all, each_broke}
 use Rattle.lr_plan.specs.declared.step.Step.{Step}
 use Rattle.lr_plan.specs.declared.step.Step.TheVariants as step
@@ -24,15 +25,6 @@ abbrev pub OfUnnaming : (Entry → Type 0) → Step → Type 0
 OfUnnaming P (step.Removes path) = P (Unlinks path)
 OfUnnaming P (step.Renames from to) = P (Renames from to)
 OfUnnaming P _ = Unit {0}
-
-pub each_none : (P : Entry → Type 0) {ts : List Entry} → ts ≡ [] → Each P ts
-each_none P is = subst (Each P) (sym is) tt
-
-each_one : (P : Entry → Type 0) {e : Entry} {ts : List Entry} → ts ≡ e ∷ [] → P e → Each P ts
-each_one P is k = subst (Each P) (sym is) (k, tt)
-
-each_maybe : (P : Entry → Type 0) (e : Entry) {ts : List Entry} → (ts ≡ []) ⊎ (ts ≡ e ∷ []) → P e → Each P ts
-each_maybe P e m k = ⊎_elim (λ none. each_none P none) (λ one. each_one P one k) m
 
 module _ (P : Entry → Type 0) (other : (e : Entry) → unnames e ≡ false → P e) where
   appended_each : (to : Path) (text : List ℕ) (ts : List Entry) → Appended to text ts → Each P ts

@@ -8,7 +8,7 @@ use Rattle.lr_rules.specs.Path.{path_fault, parent_of}
 use Rattle.lr_rules.proofs.ParentPath.{parent_path}
 use Rattle.lr_host.specs.declared.entry.Entry.{Entry}
 use Rattle.lr_host.specs.Lists.{IsIn}
-use Rattle.lr_host.proofs.Lists.{in_from, in_to, in_append, in_unmap}
+use Rattle.lr_host.proofs.Lists.{in_from, in_to, in_append, in_unmap, of_flat}
 use Rattle.lr_plan.specs.declared.looks.LogLook.{LogLook}
 use Rattle.lr_plan.specs.declared.looks.Looks.{Looks}
 use Rattle.lr_plan.specs.declared.looks.SetLooks.{SetLooks}
@@ -18,7 +18,6 @@ use Rattle.lr_looks.specs.Sets.{looked_in}
 use Rattle.lr_looks.specs.Shown.{ShowsLooks}
 use Rattle.lr_looks.specs.Choices.{kept_of}
 use Rattle.lr_laws_looks.proofs.Coming.{was_looked, in_looked, in_files, in_kept}
-use Rattle.lr_laws_looks.proofs.Elements.{in_flat}
 use Rattle.lr_laws_looks.proofs.Free.{place_in}
 use Rattle.lr_laws_looks.proofs.Seen.{log_path}
 use Rattle.lr_audit.specs.Dirs.{look_dir, set_dirs, asked_dirs, AreDirs}
@@ -49,8 +48,8 @@ module _ {reserved : List Path} (rules : List Rule) (sets : List SetLooks) (faul
 
   sets_so : (dir : Path) → IsIn dir (flat_map set_dirs sets) → path_fault dir ≡ None
   sets_so dir i =
-      let set = in_flat set_dirs sets dir i in
-      let look = in_flat look_dir set.0.logs dir set.2 in
+      let set = of_flat set_dirs sets dir i in
+      let look = of_flat look_dir set.0.logs dir set.2 in
       subst (λ (x : Path). path_fault x ≡ None) (of_look look.0 dir look.0.stand.there look.2) (family_so set.0 look.0 set.1 look.1)
 
 -- So each directory has one.

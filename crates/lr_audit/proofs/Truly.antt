@@ -1,7 +1,6 @@
 -- What an audit saw of files is true of the disk.
 use Rattle.std.proofs.Common.{◌≡◌, ◌≢◌, ◌⊎◌, inl, inr, ⊎_elim, ℕ, Bool, true, false, cond, List, [], ◌∷◌, ◌++◌, map, reverse, Option, Some, None, refl, sym, ap, ◌∙◌, subst}
 use Rattle.std.specs.Prelude.{All, Contains, filter, is_none}
-use Rattle.std.specs.List.{flat_map}
 use Rattle.std.specs.List.Sorted.{IsPermutation}
 use Rattle.std.proofs.lemmas.List.Elements.{All-contains}
 use Rattle.std.proofs.lemmas.List.Sorted.{Contains-permutation, IsPermutation-sym}
@@ -28,7 +27,7 @@ use Rattle.lr_host.specs.Opening.{IsJournal}
 use Rattle.lr_host.specs.Quiet.{ChangeNothing}
 use Rattle.lr_host.specs.Told.{Made, Then}
 use Rattle.lr_host.specs.World.{Past, World, world, names}
-use Rattle.lr_host.proofs.Lists.{in_from, in_to, in_map, in_unmap, in_front, in_back, in_append, from_reverse}
+use Rattle.lr_host.proofs.Lists.{in_from, in_to, in_map, in_unmap, in_front, in_back, from_reverse, to_flat, of_flat}
 use Rattle.lr_host.proofs.Looked.{nothing_no_file, nothing_no_dir, seen_file, seen_none}
 use Rattle.lr_host.proofs.More.{file_more, directory_more}
 use Rattle.lr_host.proofs.Quiet.{IsAny, Moment, moment, quiet_more, since_any}
@@ -41,15 +40,6 @@ use Rattle.lr_audit.specs.Files.{are_path_bytes, paths_in, FileSight, file_path,
 use Rattle.lr_audit.specs.Truth.{IsTakenAway, AreTrueFiles}
 
 -- ---- lists
-
-to_flat : {A B : Type 0} (f : A → List B) (xs : List A) (x : A) (y : B) → IsIn x xs → IsIn y (f x) → IsIn y (flat_map f xs)
-to_flat f [] x y i j = absurd i
-to_flat f (z ∷ zs) x y (inl e) j = in_front y (f z) (flat_map f zs) (subst (λ w. IsIn y (f w)) (sym e) j)
-to_flat f (z ∷ zs) x y (inr i) j = in_back y (f z) (flat_map f zs) (to_flat f zs x y i j)
-
-of_flat : {A B : Type 0} (f : A → List B) (xs : List A) (y : B) → IsIn y (flat_map f xs) → (x : A) × IsIn x xs × IsIn y (f x)
-of_flat f [] y i = absurd i
-of_flat {A} f (z ∷ zs) y i = ⊎_elim (λ j. (z, inl refl, j)) (λ j. let r : (x : A) × IsIn x zs × IsIn y (f x) = of_flat f zs y j in (r.0, inr r.1, r.2)) (in_append y (f z) (flat_map f zs) i)
 
 to_filter : (xs : List Path) (x : Path) → IsIn x xs → are_path_bytes x ≡ true → IsIn x (filter are_path_bytes xs)
 to_filter [] x i h = absurd i

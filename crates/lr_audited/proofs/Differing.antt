@@ -17,10 +17,11 @@ use Rattle.lr_rules.specs.Limits.{meets_limits, is_format, or_none}
 use Rattle.lr_rules.specs.Names.{naming_of, aside_path, IsOwnName, Meet, the_log, IsBesideLog}
 use Rattle.lr_rules.specs.Path.{path_fault}
 use Rattle.lr_rules.specs.Dated.{stamp_key}
+use Rattle.lr_rules.proofs.Beside.{beside_other}
 use Rattle.lr_stamps.proofs.Naming.{one_stamp_at}
 use Rattle.lr_host.specs.declared.entry.Entry.{Entry}
 use Rattle.lr_host.specs.Lists.{IsIn, IsNotIn, AreDistinct}
-use Rattle.lr_host.proofs.Lists.{in_append, in_back, in_map, in_unmap, in_to}
+use Rattle.lr_host.proofs.Lists.{in_append, in_back, in_map, in_unmap, in_to, of_flat}
 use Rattle.lr_family.specs.declared.place.Place.{Place}
 use Rattle.lr_family.specs.declared.place.Place.TheVariants as at
 use Rattle.lr_family.specs.declared.stand.Member.{Member}
@@ -51,12 +52,11 @@ use Rattle.lr_laws_family.specs.Shown.{Shown}
 use Rattle.lr_laws_family.proofs.Picking.{named_all}
 use Rattle.lr_laws_rotations.proofs.Own.{named_own}
 use Rattle.lr_laws_rotations.proofs.PartFile.{part_no_member, part_no_log, part_no_waiting}
-use Rattle.lr_laws_rotations.proofs.Waiting.{beside_other}
 use Rattle.lr_plan.specs.Planned.{is_file}
 use Rattle.lr_laws_looks.proofs.Apart.{OffFound, OffLooked, kept_off, looked_pairs}
 use Rattle.lr_laws_looks.proofs.Aside.{SawAside, all_aside}
 use Rattle.lr_laws_looks.proofs.Coming.{IsFrom, came_from, in_kept, in_looked, in_set, in_where}
-use Rattle.lr_laws_looks.proofs.Elements.{in_list, in_flat, in_each, Pairs, pairs_flat, pairs_two}
+use Rattle.lr_laws_looks.proofs.Elements.{in_list, in_each, Pairs, pairs_flat, pairs_two}
 use Rattle.lr_laws_looks.proofs.SeenListed.{WasShown, WasTold, all_shown, all_told}
 use Rattle.lr_laws_looks.proofs.Gives.{all_in}
 use Rattle.lr_laws_looks.proofs.Seen.{log_path, looked_family}
@@ -128,7 +128,7 @@ abbrev sight_paths : List PathSight → List Path
 sight_paths ss = map (λ (s : PathSight). s.path) ss
 
 in_sights : (ss : List PathSight) (x : Path) → IsIn x (flat_map part_in ss) → IsIn x (sight_paths ss)
-in_sights ss x i = let s = in_flat part_in ss x i in subst (λ (y : Path). IsIn y (sight_paths ss)) (part_is s.0.path x s.0.seen s.2) (in_map (λ (t : PathSight). t.path) s.0 ss s.1)
+in_sights ss x i = let s = of_flat part_in ss x i in subst (λ (y : Path). IsIn y (sight_paths ss)) (part_is s.0.path x s.0.seen s.2) (in_map (λ (t : PathSight). t.path) s.0 ss s.1)
 
 seen_once : (path : Path) (o : Option Seen) → AreDistinct (part_seen path o)
 seen_once path None = tt
@@ -309,7 +309,7 @@ module _ {reserved : List Path} (rules : Rules) (sets : List SetLooks) (faults :
   all_files : (ls : List LookedLog) → Pairs OffLooked ls → ((l : LookedLog) → IsIn l ls → IsIn l s.looked) → AreDistinct (flat_map files_in ls)
   all_files [] p among = tt
   all_files (l ∷ ls) p among = distinct_both (files_in l) (flat_map files_in ls) (files_are l (among l (inl refl))).once (all_files ls p.1 (λ m i. among m (inr i)))
-      (λ x y a b. let m = in_flat files_in ls y b in off_files l m.0 x y (among l (inl refl)) (among m.0 (inr m.1)) (in_each (OffLooked l) ls m.0 p.0 m.1) a m.2)
+      (λ x y a b. let m = of_flat files_in ls y b in off_files l m.0 x y (among l (inl refl)) (among m.0 (inr m.1)) (in_each (OffLooked l) ls m.0 p.0 m.1) a m.2)
 
   looks_off : Pairs OffLooked s.looked
   looks_off = subst (Pairs OffLooked) (sym s.entries.second.families.looked_are) (looked_pairs s.kept s.entries.second.families.sights (kept_off rules.sets sets faults ts s))
@@ -332,7 +332,7 @@ module _ {reserved : List Path} (rules : Rules) (sets : List SetLooks) (faults :
       by false e none = absurd none
 
   set_is : (k : ℕ) (x : LookedLog) → IsIn x (of_set k s.looked) → x.set ≡ k
-  set_is k x i = let l = in_flat (where_in k) s.looked x i in placed k l.0 x l.2
+  set_is k x i = let l = of_flat (where_in k) s.looked x i in placed k l.0 x l.2
 
   -- a file of a definition at this place or a later one
   record IsFileFrom (k : ℕ) (x : Path) : Type 0 where
@@ -385,7 +385,7 @@ module _ {reserved : List Path} (rules : Rules) (sets : List SetLooks) (faults :
     where
       here : IsIn x (paths_in_lines (rule_lines r set.logs)) → IsFileFrom k x
       here j =
-          let l = in_flat files_in (of_set k s.looked) x (subst (λ (ls : List LookedLog). IsIn x (flat_map files_in ls)) h.0 (subst (IsIn x) (set_are k r set.logs) j)) in
+          let l = of_flat files_in (of_set k s.looked) x (subst (λ (ls : List LookedLog). IsIn x (flat_map files_in ls)) h.0 (subst (IsIn x) (set_are k r set.logs) j)) in
           let e = set_is k l.0 l.1 in
           record { log = l.0; looked = in_set k s.looked l.0 l.1; late = omega (arith, e); has = l.2 }
 
@@ -408,7 +408,7 @@ module _ {reserved : List Path} (rules : Rules) (sets : List SetLooks) (faults :
           (pairs_two OffLooked s.looked looks_off l.0 f.log (in_set k s.looked l.0 l.1) f.looked)
         where
           l : (m : LookedLog) × IsIn m (of_set k s.looked) × IsIn x (files_in m)
-          l = in_flat files_in (of_set k s.looked) x (subst (IsIn x) own_is i)
+          l = of_flat files_in (of_set k s.looked) x (subst (IsIn x) own_is i)
 
           f : IsFileFrom (k + 1) y
           f = of_sets (k + 1) rs ss h.1 y j

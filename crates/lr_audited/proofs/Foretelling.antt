@@ -21,7 +21,7 @@ use Rattle.lr_stamps.specs.Dated.{clock_seconds}
 use Rattle.lr_host.specs.declared.entry.Entry.{Entry}
 use Rattle.lr_host.specs.Lists.{IsIn, AreDistinct}
 use Rattle.lr_host.specs.World.{in_list}
-use Rattle.lr_host.proofs.Lists.{in_front, in_back}
+use Rattle.lr_host.proofs.Lists.{in_front, in_back, to_flat, of_flat}
 use Rattle.lr_due.specs.declared.answer.Due.{Due}
 use Rattle.lr_due.specs.declared.answer.Due.TheVariants as due
 use Rattle.lr_due.specs.Due.{due_of}
@@ -63,7 +63,6 @@ use Rattle.lr_laws_acts.specs.Fitting.{NoneMeets, DontMeet}
 use Rattle.lr_laws_looks.specs.Planned.{target_in, targets_of_sets}
 use Rattle.lr_laws_looks.specs.Targets.{target_of, where_free, targets_of, groups_of, all_targets}
 use Rattle.lr_laws_looks.proofs.Apart.{targets_dont_meet}
-use Rattle.lr_laws_looks.proofs.Elements.{in_flat}
 use Rattle.lr_laws_looks.proofs.Hindrances.{free_of_members}
 use Rattle.lr_laws_looks.proofs.Planned.{plan_targets}
 use Rattle.lr_laws_looks.proofs.Seen.{targets_have_names}
@@ -471,11 +470,6 @@ parts_are (set ∷ sets) =
     ∙ (ap (λ (xs : List Path). xs ++ flat_map target_parts (targets_of_sets sets)) (sym (flat_of_map target_parts target_in set.logs))
     ∙ sym (flat_map-append target_parts (map target_in set.logs) (targets_of_sets sets)))
 
-to_flat : {A B : Type 0} (f : A → List B) (xs : List A) (x : A) (y : B) → IsIn x xs → IsIn y (f x) → IsIn y (flat_map f xs)
-to_flat f [] x y i j = absurd i
-to_flat f (z ∷ zs) x y (inl e) j = in_front y (f z) (flat_map f zs) (subst (λ w. IsIn y (f w)) (sym e) j)
-to_flat f (z ∷ zs) x y (inr i) j = in_back y (f z) (flat_map f zs) (to_flat f zs x y i j)
-
 is_listed : (xs : List Path) (x : Path) → IsIn x xs → in_list xs x ≡ true
 is_listed [] x i = absurd i
 is_listed (y ∷ ys) x (inl e) = ap (λ (b : Bool). b || in_list ys x) ((bytes_eq-Decides y x).1 e)
@@ -531,7 +525,7 @@ module _ (ts : List Target) (names : TargetsHaveNames ts) (d : DontMeet ts) wher
     where
       other : (x y : Path) → (x ≡ t.ready.log) ⊎ IsMember t.naming x → IsIn y (flat_map target_parts ts) → y ≢ x
       other x y h j same =
-          let u = in_flat target_parts ts y j in
+          let u = of_flat target_parts ts y j in
           let job = of_job u.0 y u.0.job refl u.2 in
           ⊎_elim (λ (e : t ≡ u.0). part_apart t job.0 i (ap (λ (z : Target). z.job) e ∙ job.1) x h (job.2 ∙ same))
           (λ (none : ShareNone t u.0). none x (own_of t i x h) (subst (Own u.0) (job.2 ∙ same) (part_file_own u.0 (in_names ts u.0 names u.1) job.0 job.1)))

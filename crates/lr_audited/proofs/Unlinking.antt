@@ -10,8 +10,9 @@ use Rattle.lr_rules.specs.declared.rule.Make.{Make}
 use Rattle.lr_rules.specs.declared.rule.Make.TheVariants as make
 use Rattle.lr_rules.specs.declared.rule.Rule.{Rule}
 use Rattle.lr_rules.specs.Names.{IsOwnName, the_log}
+use Rattle.lr_rules.proofs.Beside.{beside_other}
 use Rattle.lr_host.specs.Lists.{IsIn, AreDistinct}
-use Rattle.lr_host.proofs.Lists.{in_to}
+use Rattle.lr_host.proofs.Lists.{in_to, of_flat}
 use Rattle.lr_family.specs.Parts.{part_of, IsMember}
 use Rattle.lr_scripts.specs.declared.command.Command.{Command}
 use Rattle.lr_scripts.specs.declared.removal.Removal.{Removal}
@@ -28,9 +29,7 @@ use Rattle.lr_laws_rotations.specs.Rotation.{removal_paths}
 use Rattle.lr_laws_rotations.specs.Target.{Target}
 use Rattle.lr_laws_rotations.proofs.Own.{member_own, named_own, family_members, target_member, part_file_own}
 use Rattle.lr_laws_rotations.proofs.PartFile.{part_no_waiting, job_part, job_no_member}
-use Rattle.lr_laws_rotations.proofs.Waiting.{beside_other}
 use Rattle.lr_laws_rotations.proofs.Way.{not_aside, aside_is, stays_first, first_apart, aside_apart, first_own, aside_own}
-use Rattle.lr_laws_looks.proofs.Elements.{in_flat}
 use Rattle.lr_audited.specs.Removed.{aside_going}
 use Rattle.lr_audited.specs.Unlinked.{Origins, without, renamed, unlinked, going_paths}
 use Rattle.lr_audited.proofs.Retiring.{log_from, ComesBy, landed, brought, Retires}
@@ -313,7 +312,7 @@ module _ (t : Target) (h : HasNames t) (rule : Rule) (mailer : Path) where
     -- each that is told is where the log's file stood, or a member's
     told_own : (x : Path) → IsIn x told → (x ≡ t.ready.log) ⊎ IsMember t.naming x
     told_own x i =
-        let q = in_flat (λ (p : Option Path × Path). option_to_list p.0) retires.pairs x (subst (IsIn x) retires.told_are i) in
+        let q = of_flat (λ (p : Option Path × Path). option_to_list p.0) retires.pairs x (subst (IsIn x) retires.told_are i) in
         by q.0 (retires.each q.0 q.1) q.2
       where
         of_from : (job : Option Job) → IsIn x (option_to_list (log_from job t.ready.log)) → x ≡ t.ready.log

@@ -1,9 +1,6 @@
 -- What a call leaves between its begin and its end: looks, listings and reads.
-use Rattle.std.proofs.Common.{◌≡◌, ◌≢◌, List, [], ◌∷◌, ◌++◌, reverse, Bool, true, Option, Result, refl, sym, ap, ◌∙◌, subst}
-use Rattle.std.proofs.lemmas.List.{reverse-reverse}
+use Rattle.std.proofs.Common.{◌≢◌, List, [], ◌∷◌, ◌++◌, Bool, Option, Result, refl, sym, subst}
 use Rattle.lr_rules.specs.declared.path.Path.{Path}
-use Rattle.lr_rules.specs.declared.clock.Clock.{Clock}
-use Rattle.lr_rules.specs.declared.rules.Rules.{Rules}
 use Rattle.lr_rules.specs.declared.rule.Naming.{Naming}
 use Rattle.lr_rules.specs.declared.fault.Fault.{Fault}
 use Rattle.lr_host.specs.declared.entry.Entry.{Entry}
@@ -11,8 +8,8 @@ use Rattle.lr_host.specs.declared.entry.Entry.TheVariants as entry
 use Rattle.lr_host.specs.declared.journal.Journal.{Journal}
 use Rattle.lr_host.specs.Quiet.{IsQuiet, AreQuiet, ChangeNothing}
 use Rattle.lr_host.specs.Reading.{IsReadOf}
-use Rattle.lr_host.specs.Told.{Each, Are, Left, not_told, is_told, Made, at_first, by_writer, by_tool, IsWriters, Then, WhereTold}
-use Rattle.lr_host.specs.World.{Past, ◌▸◌, past, world}
+use Rattle.lr_host.specs.Told.{Each, Left, not_told, is_told, Made, at_first, by_writer, by_tool, Then, WhereTold}
+use Rattle.lr_host.specs.World.{Past, ◌▸◌, past}
 use Rattle.lr_host.proofs.Each.{each_append, each_as, each_in_order}
 use Rattle.lr_host.proofs.Quiet.{quiet_still}
 use Rattle.lr_family.proofs.OnlyLooks.{looking_both}
@@ -20,6 +17,7 @@ use Rattle.lr_cat.specs.declared.texts.TextStop.{TextStop}
 use Rattle.lr_cat.specs.declared.texts.TextStop.TheVariants as stop
 use Rattle.lr_cat.specs.Saw.{FamilySaw, ShowsFamilySaw, SeesNone, not_stood, not_found, Works, not_seen, broke_off, read_all, aside_of, files_of}
 use Rattle.lr_host.specs.Looking.{IsSight, AreSights, AreLooking}
+use Rattle.lr_host.proofs.Running.{IsOn, writes_on}
 use Rattle.lr_cat.specs.Texts.{FileText, ReadsTexts, ReadsTextPart, TextBreaksOff, ReadsAllOf}
 use Rattle.lr_cat.proofs.Putting.{whole_only}
 use Rattle.lr_cat.proofs.Standing.{both_looks, looks_sights, none_looks, stand_looks, stop_looks}
@@ -82,16 +80,6 @@ sights_still ts a = quiet_still ts (sights_quiet ts a)
 
 -- ---- the run goes on
 
-abbrev pub IsOn : Past → Type 0
-IsOn p = (world p).running ≡ true
-
-writes_on : (p : Past) (e : Entry) → IsWriters e → IsOn p → IsOn (p ▸ e)
-writes_on p (entry.Attach writer x at) i r = r
-writes_on p (entry.Feed writer bytes at) i r = r
-writes_on p (entry.Flush writer) i r = r
-writes_on p (entry.Detach writer) i r = r
-writes_on p _ i r = absurd i
-
 looks_on : (p : Past) (e : Entry) → IsSight e → IsOn p → IsOn (p ▸ e)
 looks_on p (entry.Look x seen) i r = r
 looks_on p (entry.List dir listed) i r = r
@@ -106,15 +94,3 @@ made_on p _ _ (by_tool {es = es} {q = q} {e = e} m i f) a r = looks_on q e a.0 (
 pub stays_on : {o n : Option Journal} → Left AreSights o n → WhereTold o IsOn → WhereTold n IsOn
 stays_on not_told r = tt
 stays_on (is_told {j = j} {k = k} {es = es} m h) r = made_on (past j) (past k) es m (each_in_order IsSight es h) r
-
-started : (p q : Past) (state : Path) (clock : Clock) (rules : Rules) (es : List Entry) → es ≡ entry.Starts state clock.now rules ∷ [] → Made p es q → IsOn q
-started p _ state clock rules _ e at_first = absurd (cc)
-started p _ state clock rules es e (by_writer {q = q} {e = d} m i f) = writes_on q d i (started p q state clock rules es e m)
-started p _ state clock rules _ e (by_tool {es = es} {q = q} {e = d} m i f) = subst (λ (x : Entry). IsOn (q ▸ x)) (sym same) refl
-  where
-    same : d ≡ entry.Starts state clock.now rules
-    same = cc
-
-pub is_on : (state : Path) (clock : Clock) (rules : Rules) {o n : Option Journal} → Left (Are (entry.Starts state clock.now rules ∷ [])) o n → WhereTold n IsOn
-is_on state clock rules not_told = tt
-is_on state clock rules (is_told {j = j} {k = k} {es = es} m h) = started (past j) (past k) state clock rules es (sym (reverse-reverse es) ∙ ap reverse h) m

@@ -18,7 +18,7 @@ use Rattle.lr_host.specs.Quiet.{ChangeNothing}
 use Rattle.lr_host.specs.Told.{Counts, Left, Rose, not_told, is_told, Maybe, WhereTold}
 use Rattle.lr_host.specs.World.{past}
 use Rattle.lr_host.proofs.Left.{left_as}
-use Rattle.lr_host.proofs.Quiet.{quiet_still, sees_quiet, still_both, then_still}
+use Rattle.lr_host.proofs.Quiet.{quiet_still, sees_quiet, still_both, then_still, none_still}
 use Rattle.lr_clock.specs.Came.{WhereCame}
 use Rattle.lr_conf.specs.Meaning.{Meaning}
 use Rattle.lr_due.specs.Zone.{IsInRange}
@@ -41,9 +41,6 @@ use Rattle.lr_cat.proofs.Sighted.{sights_still, works_sights}
 use Rattle.lr_cat.proofs.Whole.{IsWork, shows_work, some_none, whole_history}
 use Rattle.lr_host.proofs.Quiet.{still_in_order}
 use Rattle.lr_cat.proofs.Keeping.{still_safe}
-
-none_still : (ts : List Entry) → ts ≡ [] → ChangeNothing ts
-none_still ts e = subst ChangeNothing (sym e) refl
 
 sees_still : {P : _} (x : Path) (ts : List Entry) → Sees x P ts → ChangeNothing ts
 sees_still x ts s = quiet_still ts (sees_quiet x ts s)

@@ -92,9 +92,6 @@ ended_so P (Err stop.Memory) o m k x y p l = p
 
 -- ---- from the begin on
 
-pub did_begin : (state : Path) (clock : Clock) (rules : Rules) (b : Bool) {o n : Option Journal} → b ≡ true → Left (DidWhere {E = CallFault} (Ok b) (Starts state clock.now rules)) o n → Left (Are (Starts state clock.now rules ∷ [])) o n
-did_begin state clock rules b e l = left_as l (λ ts h. subst (λ (x : Bool). DidWhere {E = CallFault} (Ok x) (Starts state clock.now rules) ts) e h)
-
 pub did_nothing : (state : Path) (clock : Clock) (rules : Rules) (b : Bool) {o n : Option Journal} → b ≡ false → Left (DidWhere {E = CallFault} (Ok b) (Starts state clock.now rules)) o n → Left (Are []) o n
 did_nothing state clock rules b e l = left_as l (λ ts h. subst (λ (x : Bool). DidWhere {E = CallFault} (Ok x) (Starts state clock.now rules) ts) e h)
 

@@ -7,6 +7,7 @@ use Rattle.lr_rules.specs.declared.fault.Fault.{Fault}
 use Rattle.lr_rules.specs.declared.fault.Fault.TheVariants as fault
 use Rattle.lr_rules.specs.declared.path.Path.{Path}
 use Rattle.lr_rules.specs.StatePath.{state_part}
+use Rattle.lr_rules.proofs.Bools.{not_both}
 use Rattle.lr_host.specs.declared.entry.Entry.{Entry}
 use Rattle.lr_host.specs.declared.entry.Entry.TheVariants as entry
 use Rattle.lr_host.specs.declared.journal.Journal.{Journal}
@@ -99,9 +100,6 @@ own_copies (x ∷ xs) ys h = own_copies xs ys h.1
 -- faults behind others met nothing where all did
 own_met : (dirs : List Path) (xs own : List Fault) → MetNothing dirs (xs ++ own) → MetNothing dirs own
 own_met dirs xs own m = record { no_call = own_calls xs own m.no_call; no_end = own_ends xs own m.no_end; no_copy = own_copies xs own m.no_copy; no_other = λ dir i j. m.no_other dir i (in_back (fault.NotFile dir) xs own j) }
-
-no_both : (b : Bool) → b ≡ true → b ≡ false → ⊥
-no_both b one other = absurd (cc)
 
 same_report : (a b : Report) → Done a ≡ Done b → a ≡ b
 same_report a b e = cc
@@ -230,10 +228,10 @@ module _ (request : Request) (zone : Zone) (seconds : ℤ) (c : Came) (j k : Jou
   called_so true is plan (Done report) e counted counts are names = record {
     saw = saw_truly;
     given = given_so;
-    only = λ acts. absurd (no_both request.settings.debug is acts);
-    rest = λ acts. absurd (no_both request.settings.debug is acts);
-    sets = λ acts. absurd (no_both request.settings.debug is acts);
-    made = λ other acts done. absurd (no_both request.settings.debug is acts);
+    only = λ acts. absurd (not_both request.settings.debug is acts);
+    rest = λ acts. absurd (not_both request.settings.debug is acts);
+    sets = λ acts. absurd (not_both request.settings.debug is acts);
+    made = λ other acts done. absurd (not_both request.settings.debug is acts);
     tried = λ other dry done. subst (λ (r : Report). NoneEndsTry state r.faults) (same_report report other done) (tries_so report plan dry e.0 e.1);
     short = λ memory. absurd (cc);
   }
@@ -244,7 +242,7 @@ module _ (request : Request) (zone : Zone) (seconds : ℤ) (c : Came) (j k : Jou
     rest = λ acts. rest_so acts e.1;
     sets = λ acts. sets_so acts e.1;
     made = λ other acts done. subst (λ (r : Report). Makes request c r counted counts j k) (same_report report other done) (makes acts e.1 report plan e.0 (names report refl acts) counted counts are);
-    tried = λ other dry done. absurd (no_both request.settings.debug dry is);
+    tried = λ other dry done. absurd (not_both request.settings.debug dry is);
     short = λ memory. absurd (cc);
   }
   called_so false is plan OutOfMemory e counted counts are names = record {

@@ -4,14 +4,14 @@ use Rattle.std.specs.Prelude.{◌≢◌, All}
 use Rattle.std.specs.List.{AllByRecursion as Each, list_all}
 use Rattle.std.proofs.lemmas.Bool.{and_parts}
 use Rattle.std.proofs.lemmas.List.Elements.{All-from_recursion}
-use Rattle.std.proofs.lemmas.Bool.Decides.{nat_tests}
 use Rattle.lr_rules.specs.declared.path.Path.{Path}
 use Rattle.lr_rules.specs.declared.fault.ConfKind.{ConfKind}
 use Rattle.lr_rules.specs.declared.fault.Phase.{Phase}
 use Rattle.lr_rules.specs.declared.rule.Count.{Count}
 use Rattle.lr_rules.specs.declared.rule.Count.TheVariants as count
 use Rattle.lr_rules.specs.declared.rule.Rule.{Rule}
-use Rattle.lr_rules.specs.Limits.{is_count, is_log_word, IsCount}
+use Rattle.lr_rules.specs.Limits.{is_log_word, IsCount}
+use Rattle.lr_rules.proofs.Counts.{count_small}
 use Rattle.lr_forms.specs.declared.set.Set.{Set}
 use Rattle.lr_forms.specs.declared.set.Set.TheVariants as set
 use Rattle.lr_forms.specs.declared.said.Said.{Said}
@@ -64,12 +64,8 @@ more_ok xs ys x y = (more_front xs ys x.0, append IsRuleWord xs ys x.1 y.1)
 
 -- ---- fields
 
-small : (c : Count) → is_count c ≡ true → IsCount c
-small (count.Keep n) h = grind (arith, nat_tests)
-small count.Always h = tt
-
 count_given : (v : Set) → S v → Given IsCount (count_set v)
-count_given (set.Count c) ok = small c ok
+count_given (set.Count c) ok = count_small c ok
 count_given v ok = tt
 
 rule_ok : (file : Path) (at : ℕ) (words : List (List ℕ)) (vs : List Set) → N words → Each S vs → IsPlainRule (rule_of file at words (fields_of vs))

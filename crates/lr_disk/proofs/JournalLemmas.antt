@@ -3,17 +3,14 @@ use Rattle.std.proofs.Common.{◌≡◌, ℕ, ◌+◌, ◌<◌, ◌≤◌, true,
 use Rattle.std.specs.Prelude.{Result, Ok, Err, MatchResult, OnOk}
 use Rattle.lr_host.specs.declared.entry.Entry.{Entry}
 use Rattle.lr_host.specs.declared.journal.Journal.{Journal}
-use Rattle.lr_host.specs.World.{Past, Opens, ◌▸◌, past, then, World, world, effect}
+use Rattle.lr_host.specs.World.{Opens, ◌▸◌, past, then, World, world, effect}
 use Rattle.lr_host.specs.declared.entry.Entry.TheVariants as entry
 use Rattle.lr_host.specs.Fits.{Fits}
 use Rattle.lr_host.specs.Opening.{IsJournal}
+use Rattle.lr_host.proofs.Made.{then_append}
 use Rattle.lr_disk.specs.declared.state.State.{State}
 use Rattle.lr_disk.specs.State.{ShowsWorld, IsDisk, with_entry}
 use Rattle.lr_disk.proofs.StateLemmas.{shows_still}
-
-then_append : (p : Past) (xs ys : List Entry) → then p (xs ++ ys) ≡ then (then p xs) ys
-then_append p [] ys = refl
-then_append p (e ∷ es) ys = then_append (p ▸ e) es ys
 
 pub past_entry : (j : Journal) (e : Entry) → past (with_entry j e) ≡ past j ▸ e
 past_entry j e = then_append (Opens j.opening) j.entries (e ∷ [])

@@ -7,6 +7,8 @@ use Rattle.lr_host.specs.Lists.{AreDistinct}
 use Rattle.lr_host.specs.World.{World, Names, names_kept, is_file, IsClosed}
 use Rattle.lr_host.specs.Below.{NamesBelow}
 use Rattle.lr_host.specs.Fits.{IsNamed, AreLengths, LengthsDiffer, AreRising, IsCut}
+use Rattle.lr_host.proofs.Closed.{eq_true}
+use Rattle.lr_host.proofs.Looked.{is_file_true, true_is_file}
 use Rattle.lr_disk.specs.declared.state.State.{State}
 use Rattle.lr_disk.specs.declared.file.MemFile.{MemFile}
 use Rattle.lr_disk.specs.Pairs.{keys}
@@ -14,27 +16,18 @@ use Rattle.lr_disk.specs.Names.{named_in}
 use Rattle.lr_disk.specs.State.{ShowsWorld}
 use Rattle.lr_disk.specs.Lengths.{has_file, names_left, MayKeep, AreWithin}
 use Rattle.lr_disk.proofs.StateLemmas.{left_names, left_below}
-use Rattle.lr_disk.proofs.PairLemmas.{numbers_tell, valued_has}
-use Rattle.lr_disk.proofs.ListingLemmas.{or_cases, later_value, itself}
+use Rattle.lr_disk.proofs.PairLemmas.{valued_has}
+use Rattle.lr_disk.proofs.ListingLemmas.{or_cases, later_value}
 
 -- names that agree
 abbrev pub Agree : Names → Names → Type 0
 Agree n m = (x : Path) → n x ≡ m x
 
-is_the_file : (t : Thing) (id : ℕ) → is_file t id ≡ true → t ≡ thing.File id
-is_the_file thing.Nothing id h = absurd (cc)
-is_the_file (thing.File g) id h = ap (λ n. thing.File n) ((numbers_tell g id).0 h)
-is_the_file thing.Directory id h = absurd (cc)
-is_the_file thing.Other id h = absurd (cc)
-
-the_file_is : (t : Thing) (id : ℕ) → t ≡ thing.File id → is_file t id ≡ true
-the_file_is t id e = subst (λ u. is_file u id ≡ true) (sym e) ((numbers_tell id id).1 refl)
-
 pub has_named : (ns : List (Path × Thing)) (id : ℕ) → AreDistinct (keys ns) → has_file ns id ≡ true → IsNamed (named_in ns) id
 has_named [] id once h = absurd (cc)
 has_named (n ∷ ns) id once h =
     or_cases (is_file n.1 id) (has_file ns id) (IsNamed (named_in (n ∷ ns)) id) h
-    (λ t. (n.0, ap (λ b. cond b n.1 (named_in ns n.0)) (itself n.0 n.0 refl) ∙ is_the_file n.1 id t))
+    (λ t. (n.0, ap (λ b. cond b n.1 (named_in ns n.0)) (eq_true n.0 n.0 refl) ∙ is_file_true n.1 id t))
     (λ t. there (has_named ns id once.1 t))
   where
     there : IsNamed (named_in ns) id → IsNamed (named_in (n ∷ ns)) id
@@ -56,7 +49,7 @@ named_has (n ∷ ns) id x e = go (bytes_eq n.0 x) e (named_has ns id x)
     right false b h = h
 
     go : (b : Bool) → cond b n.1 (named_in ns x) ≡ thing.File id → (named_in ns x ≡ thing.File id → has_file ns id ≡ true) → (is_file n.1 id || has_file ns id) ≡ true
-    go true e f = left (is_file n.1 id) (has_file ns id) (the_file_is n.1 id e)
+    go true e f = left (is_file n.1 id) (has_file ns id) (true_is_file n.1 id e)
     go false e f = right (is_file n.1 id) (has_file ns id) (f e)
 
 named_agree : (n m : Names) (g : ℕ) → Agree n m → IsNamed n g → IsNamed m g

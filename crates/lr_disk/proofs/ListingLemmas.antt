@@ -13,18 +13,12 @@ use Rattle.lr_host.specs.declared.thing.Thing.{Thing}
 use Rattle.lr_host.specs.declared.thing.Thing.TheVariants as thing
 use Rattle.lr_host.specs.Fits.{IsPart, AreNamesIn}
 use Rattle.lr_host.specs.Lists.{AreDistinct, IsNotIn}
+use Rattle.lr_host.proofs.Closed.{eq_true, by_bytes}
 use Rattle.lr_disk.specs.Pairs.{keys}
 use Rattle.lr_disk.specs.Names.{named_in, has_path, is_nothing, stands_right_in, name_of, listed_in}
-use Rattle.lr_disk.proofs.PairLemmas.{bytes_tell}
 
 abbrev Pair : Type 0
 Pair = Path × Thing
-
-same : (p q : List ℕ) → bytes_eq p q ≡ true → p ≡ q
-same p q h = (bytes_tell p q).0 h
-
-pub itself : (p q : List ℕ) → p ≡ q → bytes_eq p q ≡ true
-itself p q e = (bytes_tell p q).1 e
 
 pub or_cases : (a b : Bool) (P : Type 0) → (a || b) ≡ true → (a ≡ true → P) → (b ≡ true → P) → P
 or_cases true b P h f g = f refl
@@ -57,11 +51,11 @@ inside : (dir : Path) (n : Pair) → stands_right_in dir n ≡ true → Inside d
 inside dir n h =
     let a = and_parts (not (is_nothing n.1)) (bytes_eq (parent_of n.0) dir && not (is_empty (last_of n.0))) h in
     let b = and_parts (bytes_eq (parent_of n.0) dir) (not (is_empty (last_of n.0))) a.1 in
-    record { named = nothing n.1 (not-true _ a.0); parent = same (parent_of n.0) dir b.0; some = not-true _ b.1 }
+    record { named = nothing n.1 (not-true _ a.0); parent = by_bytes (parent_of n.0) dir b.0; some = not-true _ b.1 }
 
 -- what one pair lists
 one_listed : (dir : Path) (name : List ℕ) (n : Pair) (b : Bool) → stands_right_in dir n ≡ b → list_any (bytes_eq name) (cond b (last_of n.0 ∷ []) []) ≡ true → Inside dir n × (name ≡ last_of n.0)
-one_listed dir name n true h l = (inside dir n h, or_cases (bytes_eq name (last_of n.0)) false (name ≡ last_of n.0) l (λ t. same name (last_of n.0) t) (λ f. absurd (cc)))
+one_listed dir name n true h l = (inside dir n h, or_cases (bytes_eq name (last_of n.0)) false (name ≡ last_of n.0) l (λ t. by_bytes name (last_of n.0) t) (λ f. absurd (cc)))
 one_listed dir name n false h l = absurd (cc)
 
 -- the whole path of what a pair lists
@@ -74,10 +68,10 @@ later_value ns m x new h = go (bytes_eq m.0 x) refl
   where
     found : (ns : List Pair) → IsNotIn x (keys ns) → has_path ns x ≡ true → ⊥
     found [] new h = cc
-    found (n ∷ ns) new h = or_cases (bytes_eq n.0 x) (has_path ns x) ⊥ h (λ t. new.0 (sym (same n.0 x t))) (λ t. found ns new.1 t)
+    found (n ∷ ns) new h = or_cases (bytes_eq n.0 x) (has_path ns x) ⊥ h (λ t. new.0 (sym (by_bytes n.0 x t))) (λ t. found ns new.1 t)
 
     go : (b : Bool) → bytes_eq m.0 x ≡ b → cond b m.1 (named_in ns x) ≡ named_in ns x
-    go true e = absurd (found ns (subst (λ y. IsNotIn y (keys ns)) (same m.0 x e) new) h)
+    go true e = absurd (found ns (subst (λ y. IsNotIn y (keys ns)) (by_bytes m.0 x e) new) h)
     go false e = refl
 
 pub listed_stands : (dir : Path) (name : List ℕ) (ns : List Pair) → ArePaths ns → AreDistinct (keys ns) → list_any (bytes_eq name) (listed_in dir ns) ≡ true → IsPart name × (named_in ns (joined dir name) ≢ thing.Nothing) × (has_path ns (joined dir name) ≡ true)
@@ -91,7 +85,7 @@ listed_stands dir name (n ∷ ns) paths once h =
     here : Inside dir n × (name ≡ last_of n.0) → IsPart name × (named_in (n ∷ ns) (joined dir name) ≢ thing.Nothing) × (has_path (n ∷ ns) (joined dir name) ≡ true)
     here i =
         let path : joined dir name ≡ n.0 = ap (joined dir) i.1 ∙ whole dir n paths.0 i.0 in
-        let hit : bytes_eq n.0 (joined dir name) ≡ true = itself n.0 (joined dir name) (sym path) in (
+        let hit : bytes_eq n.0 (joined dir name) ≡ true = eq_true n.0 (joined dir name) (sym path) in (
           (subst (λ m. is_empty m ≡ false) (sym i.1) i.0.some, subst (λ m. list_any is_slash m ≡ false) (sym i.1) (last_plain n.0 paths.0)),
           (λ none. i.0.named (sym (ap (λ b. cond b n.1 (named_in ns (joined dir name))) hit) ∙ none)),
           ap (λ b. b || has_path ns (joined dir name)) hit,
@@ -115,8 +109,8 @@ stands_listed dir name (n ∷ ns) path part s =
         let parent : parent_of n.0 ≡ dir = ap parent_of is ∙ parent_joined dir name path part.1 in
         let t : stands_right_in dir n ≡ true =
         ap (λ b. not b && (bytes_eq (parent_of n.0) dir && not (is_empty (last_of n.0)))) (something n.1 named)
-        ∙ (ap (λ b. b && not (is_empty (last_of n.0))) (itself (parent_of n.0) dir parent) ∙ ap not (ap is_empty last ∙ part.0)) in
-        ap (λ b. list_any (bytes_eq name) (cond b (last_of n.0 ∷ []) [])) t ∙ ap (λ b. b || false) (itself name (last_of n.0) (sym last))
+        ∙ (ap (λ b. b && not (is_empty (last_of n.0))) (eq_true (parent_of n.0) dir parent) ∙ ap not (ap is_empty last ∙ part.0)) in
+        ap (λ b. list_any (bytes_eq name) (cond b (last_of n.0 ∷ []) [])) t ∙ ap (λ b. b || false) (eq_true name (last_of n.0) (sym last))
 
     or_left : (a b : Bool) → a ≡ true → (a || b) ≡ true
     or_left true b h = refl
@@ -127,7 +121,7 @@ stands_listed dir name (n ∷ ns) path part s =
     or_right false b h = h
 
     go : (b : Bool) → bytes_eq n.0 (joined dir name) ≡ b → cond b n.1 (named_in ns (joined dir name)) ≢ thing.Nothing → (named_in ns (joined dir name) ≢ thing.Nothing → list_any (bytes_eq name) (listed_in dir ns) ≡ true) → (list_any (bytes_eq name) (name_of dir n) || list_any (bytes_eq name) (listed_in dir ns)) ≡ true
-    go true e s f = or_left _ _ (listed_here (same n.0 (joined dir name) e) s)
+    go true e s f = or_left _ _ (listed_here (by_bytes n.0 (joined dir name) e) s)
     go false e s f = or_right _ _ (f s)
 
 -- each once
@@ -149,9 +143,9 @@ listed_once dir (n ∷ ns) paths once = go (stands_right_in dir n) refl (listed_
 
 bytes_equivalence : IsEquivalence bytes_eq
 bytes_equivalence = record {
-  refl = λ x. itself x x refl;
-  symm = λ x y. by_cases (bytes_eq x y) (bytes_eq y x) (λ t. itself y x (sym (same x y t))) (λ t. itself x y (sym (same y x t)));
-  congr = λ x y z e. subst (λ w. bytes_eq x z ≡ bytes_eq w z) (same x y e) refl;
+  refl = λ x. eq_true x x refl;
+  symm = λ x y. by_cases (bytes_eq x y) (bytes_eq y x) (λ t. eq_true y x (sym (by_bytes x y t))) (λ t. eq_true x y (sym (by_bytes y x t)));
+  congr = λ x y z e. subst (λ w. bytes_eq x z ≡ bytes_eq w z) (by_bytes x y e) refl;
 }
   where
     by_cases : (a b : Bool) → (a ≡ true → b ≡ true) → (b ≡ true → a ≡ true) → a ≡ b
@@ -163,7 +157,7 @@ pub listed_are : (dir : Path) (ns : List Pair) → path_fault dir ≡ None → A
 listed_are dir ns path paths once = record {
   all = λ name. (
     (λ has. let s = listed_stands dir name ns paths once (list_any-from_Contains bytes_equivalence name (listed_in dir ns) has) in (s.0, s.1)),
-    (λ s. Contains-from_any same name (listed_in dir ns) (stands_listed dir name ns path s.0 s.1)),
+    (λ s. Contains-from_any by_bytes name (listed_in dir ns) (stands_listed dir name ns path s.0 s.1)),
   );
   once = listed_once dir ns paths once;
 }
@@ -200,8 +194,8 @@ take_kept [] mid last a b = refl
 take_kept (x ∷ xs) [] last a b = absurd (cc)
 take_kept (x ∷ xs) (y ∷ ys) [] a b = absurd (cc)
 take_kept (x ∷ xs) (y ∷ ys) (z ∷ zs) a b =
-    let same : z ≡ x = heads b ∙ heads a in
-    ap (λ l. z ∷ l) (take_kept xs ys zs (tails a) (tails b)) ∙ ap (λ h. h ∷ xs) same
+    let by_bytes : z ≡ x = heads b ∙ heads a in
+    ap (λ l. z ∷ l) (take_kept xs ys zs (tails a) (tails b)) ∙ ap (λ h. h ∷ xs) by_bytes
   where
     heads : {X : Type 0} {p q : X} {ps qs : List X} → p ∷ ps ≡ q ∷ qs → p ≡ q
     heads e = cc

@@ -6,12 +6,12 @@ use Rattle.std.proofs.lemmas.List.Elements.{Contains-push_cases, Contains-push, 
 use Rattle.lr_rules.specs.declared.path.Path.{Path}
 use Rattle.lr_rules.specs.declared.rule.Naming.{Naming}
 use Rattle.lr_rules.specs.Path.{joined}
+use Rattle.lr_stamps.proofs.Members.{joined_same}
 use Rattle.lr_family.specs.declared.spot.Spot.{Spot}
 use Rattle.lr_family.specs.Parts.{IsMember}
 use Rattle.lr_family.specs.Places.{IsPlaceOf}
 use Rattle.lr_family.specs.Spots.{IsListed, HasPath, IsAmong, HasSpots, AddsSpot}
 use Rattle.lr_family.proofs.Names.{placed_member, member_begins}
-use Rattle.lr_family.proofs.Unique.{joined_same}
 
 -- ---- one name
 

@@ -1,5 +1,5 @@
 -- Lists that rise strictly are fixed by what they have.
-use Rattle.std.proofs.Common.{◌≡◌, ℕ, Bool, true, false, List, Ordering, BTreeSet, refl, sym}
+use Rattle.std.proofs.Common.{◌≡◌, ℕ, Bool, true, List, Ordering, BTreeSet}
 use Rattle.std.specs.Prelude.{Contains, Any}
 use Rattle.std.specs.BTreeMap.{is_at}
 use Rattle.std.specs.Cmp.{IsTotalOrder}
@@ -10,12 +10,8 @@ use Rattle.std.proofs.lemmas.List.Folds.{Any-from_list_any, list_any-from_Any}
 use Rattle.std.proofs.lemmas.Map.Lookups.{CmpEqualImpliesEq, exact_bytes, btree_set_from_contains}
 use Rattle.lr_rules.specs.declared.path.Path.{Path}
 use Rattle.lr_rules.specs.declared.rule.Naming.{Naming}
+use Rattle.lr_rules.proofs.Bools.{same_bools}
 use Rattle.lr_family.specs.Parts.{IsPartAmong, AreParts, by_bytes}
-
-both_true : (a b : Bool) → (a ≡ true → b ≡ true) → (b ≡ true → a ≡ true) → a ≡ b
-both_true true b f g = sym (f refl)
-both_true false true f g = g refl
-both_true false false f g = refl
 
 any_same : {K : Type 0} (p : K → Bool) (xs ys : List K) → ((x : K) → Contains xs x → Contains ys x) → list_any p xs ≡ true → list_any p ys ≡ true
 any_same p xs ys f e = go (Any-from_list_any p xs e)
@@ -24,7 +20,7 @@ any_same p xs ys f e = go (Any-from_list_any p xs e)
     go a = let c = f a.1 (a.0, a.2, a.3) in list_any-from_Any p ys (c.0, a.1, c.1, c.2, a.4)
 
 pub same_rising : {K : Type 0} {R : K → K → Ordering} → IsTotalOrder R → CmpEqualImpliesEq R → (xs ys : List K) → IsStrictlySortedBy R xs → IsStrictlySortedBy R ys → ((x : K) → Contains xs x → Contains ys x) → ((x : K) → Contains ys x → Contains xs x) → xs ≡ ys
-same_rising {K} {R} total exact xs ys up vp f g = btree_set_from_contains total (set_of xs) (set_of ys) up vp (λ q. both_true (list_any (is_at (R q)) xs) (list_any (is_at (R q)) ys) (any_same (is_at (R q)) xs ys f) (any_same (is_at (R q)) ys xs g)) exact
+same_rising {K} {R} total exact xs ys up vp f g = btree_set_from_contains total (set_of xs) (set_of ys) up vp (λ q. same_bools (list_any (is_at (R q)) xs) (list_any (is_at (R q)) ys) (any_same (is_at (R q)) xs ys f) (any_same (is_at (R q)) ys xs g)) exact
   where
     set_of : List K → BTreeSet K
     set_of ks = record { keys = ks }

@@ -19,12 +19,12 @@ use Rattle.lr_rules.specs.declared.path.Path.{Path}
 use Rattle.lr_rules.specs.declared.rule.Naming.{Naming}
 use Rattle.lr_rules.specs.Match.{part_end}
 use Rattle.lr_rules.specs.Path.{joined}
+use Rattle.lr_stamps.proofs.Members.{joined_same}
 use Rattle.lr_host.specs.Listing.{NamesRise}
 use Rattle.lr_family.specs.InternalParts.{AddsPart, HasParts}
 use Rattle.lr_family.specs.Parts.{part_of, IsMember, IsMembersPart, IsPartAmong, AreParts, by_bytes}
 use Rattle.lr_family.proofs.Names.{member_begins}
 use Rattle.lr_family.proofs.Prefixes.{same_number}
-use Rattle.lr_family.proofs.Unique.{joined_same}
 
 -- ---- the name of a part file
 

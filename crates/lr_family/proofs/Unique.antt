@@ -1,5 +1,5 @@
 -- A name tells its number, and a path its place.
-use Rattle.std.proofs.Common.{◌≡◌, ℕ, ◌+◌, ◌-◌, ◌≤◌, cond, nat_eq, List, [], ◌∷◌, ◌++◌, length, refl, sym, ap, ◌∙◌, arith, Option, Some, None}
+use Rattle.std.proofs.Common.{◌≡◌, ℕ, ◌+◌, ◌-◌, ◌≤◌, List, ◌∷◌, ◌++◌, refl, sym, ap, ◌∙◌, arith, Option, Some, None}
 use Rattle.std.specs.Prelude.{decimal, MatchOption}
 use Rattle.std.specs.Option.{SomeIff}
 use Rattle.std.proofs.lemmas.List.{append_cancel_left, append_cancel_right}
@@ -8,17 +8,13 @@ use Rattle.lr_rules.specs.declared.path.Path.{Path}
 use Rattle.lr_rules.specs.declared.rule.Naming.{Naming}
 use Rattle.lr_rules.specs.Names.{IsMemberAt}
 use Rattle.lr_rules.specs.Path.{joined}
+use Rattle.lr_rules.proofs.Heads.{tails}
+use Rattle.lr_stamps.proofs.Members.{joined_same}
 use Rattle.lr_family.specs.declared.place.Place.TheVariants as at
 use Rattle.lr_family.specs.Named.{framed, member_name, IsNamedAt}
 
-cons_same : (x y : ℕ) (xs ys : List ℕ) → x ∷ xs ≡ y ∷ ys → xs ≡ ys
-cons_same x y xs ys e = cc
-
 pub frame_same : (base a b ext : List ℕ) → framed base a ext ≡ framed base b ext → a ≡ b
-frame_same base a b ext e = cons_same 46 46 a b (append_cancel_left base (46 ∷ a) (46 ∷ b) (append_cancel_right (base ++ 46 ∷ a) (base ++ 46 ∷ b) ext e))
-
-pub joined_same : (dir xs ys : List ℕ) → joined dir xs ≡ joined dir ys → xs ≡ ys
-joined_same dir xs ys e = cons_same 47 47 xs ys (append_cancel_left (cond (nat_eq (length dir) 1) [] dir) (47 ∷ xs) (47 ∷ ys) e)
+frame_same base a b ext e = tails 46 46 a b (append_cancel_left base (46 ∷ a) (46 ∷ b) (append_cancel_right (base ++ 46 ∷ a) (base ++ 46 ∷ b) ext e))
 
 pub named_same : (n : Naming) (p q : ℕ) (name : List ℕ) → IsNamedAt n p name → IsNamedAt n q name → p ≡ q
 named_same n p q name a b =

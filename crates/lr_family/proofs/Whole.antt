@@ -1,5 +1,5 @@
 -- What a listing, and the looks at members behind it, leave taken together.
-use Rattle.std.proofs.Common.{◌≡◌, inl, inr, ℕ, Bool, true, false, List, [], ◌∷◌, ◌++◌, Option, Some, None, Result, Ok, Err, refl, sym, ap, ◌∙◌, subst}
+use Rattle.std.proofs.Common.{◌≡◌, inl, inr, ℕ, Bool, true, false, List, [], ◌∷◌, ◌++◌, Option, Some, Result, Ok, Err, refl, sym, ap, ◌∙◌, subst}
 use Rattle.std.specs.Prelude.{IfOk, IfErr}
 use Rattle.std.proofs.lemmas.List.{append-nil}
 use Rattle.std.specs.List.Sorted.{IsPermutation}
@@ -8,15 +8,12 @@ use Rattle.lr_rules.specs.declared.rule.Naming.{Naming}
 use Rattle.lr_rules.specs.declared.fault.CallKind.{CallKind}
 use Rattle.lr_rules.specs.declared.fault.CallKind.TheVariants as call
 use Rattle.lr_rules.specs.Path.{parent_of}
-use Rattle.lr_host.specs.declared.thing.Thing.{Thing}
-use Rattle.lr_host.specs.declared.thing.Thing.TheVariants as thing
 use Rattle.lr_host.specs.declared.thing.Kind.TheVariants as kind
 use Rattle.lr_host.specs.declared.thing.Seen.{Seen}
 use Rattle.lr_host.specs.declared.entry.Entry.{Entry}
 use Rattle.lr_host.specs.declared.entry.Entry.TheVariants as entry
 use Rattle.lr_host.specs.declared.journal.Journal.{Journal}
-use Rattle.lr_host.specs.World.{World, world, names}
-use Rattle.lr_host.specs.Fits.{Sees as TrulySees}
+use Rattle.lr_host.specs.World.{world, names}
 use Rattle.lr_host.specs.Listing.{HasListed}
 use Rattle.lr_host.specs.Told.{Left, Can}
 use Rattle.lr_host.proofs.Left.{left_first, left_as, left_then, left_both}
@@ -30,6 +27,7 @@ use Rattle.lr_family.specs.declared.directory.DirStop.{DirStop}
 use Rattle.lr_family.specs.declared.directory.DirStop.TheVariants as stopped
 use Rattle.lr_family.specs.Spots.{AreSpots}
 use Rattle.lr_host.specs.Looks.{Sees, IsNothing, IsDir, IsNoDir, is_dir}
+use Rattle.lr_host.proofs.Looked.{seen_dir}
 use Rattle.lr_family.specs.Among.{StandsAmong, ShowsMembers, ShowsIn, ShowsNoneIn}
 use Rattle.lr_family.specs.Listed.{ShowsListing, NotListed}
 use Rattle.lr_family.specs.Looks.{ShowsSpots}
@@ -40,12 +38,6 @@ use Rattle.lr_family.specs.Stops.{SomeStopped}
 use Rattle.lr_family.specs.Directory.{DirSeen, DirLookStopped, ParentStopped, ListStopped}
 
 -- a path where a look saw a directory can be listed
-seen_dir : (w : World) (t : Thing) (seen : Seen) → TrulySees w t (Some seen) → seen.kind ≡ kind.Dir → t ≡ thing.Directory
-seen_dir w thing.Nothing seen s k = absurd (let none : Some seen ≡ None = s in cc)
-seen_dir w (thing.File g) seen s k = absurd (let file : seen.kind ≡ kind.File = s.0 in cc)
-seen_dir w thing.Directory seen s k = refl
-seen_dir w thing.Other seen s k = absurd (let other : seen.kind ≡ kind.Other = s in cc)
-
 seen_can_list : {x : Path} {seen : Seen} {o n : Option Journal} → Left (λ ts. ts ≡ entry.Look x (Some seen) ∷ []) o n → seen.kind ≡ kind.Dir → Can n (entry.List x [])
 seen_can_list {x} {seen} l k = entry_says l (λ w f. seen_dir (world w) (names (world w) x) seen f k)
 

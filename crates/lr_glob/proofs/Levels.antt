@@ -7,6 +7,7 @@ use Rattle.std.proofs.lemmas.List.{append_cancel_right}
 use Rattle.lr_rules.specs.declared.path.Path.{Path}
 use Rattle.lr_rules.specs.Path.{joined, is_slash, last_of, root}
 use Rattle.lr_rules.proofs.PathLemmas.{last_joined}
+use Rattle.lr_rules.proofs.Joined.{joined_long}
 use Rattle.lr_host.specs.Fits.{IsPart}
 
 abbrev pub slashes : List ℕ → ℕ
@@ -55,9 +56,6 @@ pub level_next : (k : ℕ) (name : List ℕ) → IsPart name → level_of k name
 level_next zero [] part = let t = part.0 in absurd (cc)
 level_next zero (b ∷ bs) part = ap suc (no_slashes (b ∷ bs) part.1)
 level_next (suc k) name part = let s = no_slashes name part.1 in omega (arith, s)
-
-joined_long : (d name : List ℕ) → nat_eq (length d) 1 ≡ false → joined d name ≡ d ++ 47 ∷ name
-joined_long d name long = ap (λ b. cond b [] d ++ 47 ∷ name) long
 
 not_one : (n : ℕ) → 1 ≤ n → (n ≡ 1 → ⊥) → nat_eq n 1 ≡ false
 not_one n more other = false_from_ne_true (nat_eq n 1) (λ t. other ((Decides-eqb n 1).0 t))

@@ -16,7 +16,7 @@ use Rattle.lr_host.specs.Lists.{IsIn, IsNotIn, AreDistinct}
 use Rattle.lr_host.specs.Looks.{Sees, IsDir, is_dir, PathSight, look_of}
 use Rattle.lr_host.specs.Told.{Each, Then, Made, at_first, by_writer, by_tool}
 use Rattle.lr_host.specs.World.{Past, World, world}
-use Rattle.lr_host.proofs.Each.{each_first, each_map, each_reverse, none_pass}
+use Rattle.lr_host.proofs.Each.{each_first, each_map, each_reverse, none_pass, each_last}
 use Rattle.lr_host.proofs.Lists.{in_front, in_to}
 use Rattle.lr_glob.specs.declared.found.Found.{Found}
 use Rattle.lr_glob.specs.declared.found.GlobStop.{GlobStop}
@@ -48,10 +48,6 @@ true_entries : (p q : Past) (es : List Entry) → Made p es q → Each IsTrue es
 true_entries p _ _ at_first = tt
 true_entries p _ es (by_writer {q = q} m i f) = true_entries p q es m
 true_entries p _ _ (by_tool {es = es} {q = q} {e = e} m i f) = (true_entry (world q) e f, true_entries p q es m)
-
-pub each_last : (P : Entry → Type 0) (xs ys : List Entry) → Each P (xs ++ ys) → Each P ys
-each_last P [] ys a = a
-each_last P (x ∷ xs) ys a = each_last P xs ys a.1
 
 visit_true : (v : Visit) → Each IsTrue (visit_entries v) → AreNames (visit_names v)
 visit_true v a = by (is_dir v.seen) a.1

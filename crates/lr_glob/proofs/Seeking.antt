@@ -17,7 +17,7 @@ use Rattle.lr_host.specs.Fits.{IsPart}
 use Rattle.lr_host.specs.Lists.{IsIn}
 use Rattle.lr_host.specs.Told.{Each, Made}
 use Rattle.lr_host.specs.World.{Past}
-use Rattle.lr_host.proofs.Each.{each_first}
+use Rattle.lr_host.proofs.Each.{each_first, each_last}
 use Rattle.lr_host.proofs.Lists.{in_map, in_append, in_back, in_from, in_to}
 use Rattle.lr_match.proofs.Ends.{ends_tell}
 use Rattle.lr_host.specs.Listing.{is_file_kind}
@@ -30,7 +30,7 @@ use Rattle.lr_glob.specs.Sights.{is_whole, is_long, file_at, found_file, seen_at
 use Rattle.lr_glob.specs.Sought.{IsSought}
 use Rattle.lr_glob.specs.Words.{WordGave, Comes, SearchThen}
 use Rattle.lr_glob.proofs.Apart.{dir_of, joined_in, visited_in}
-use Rattle.lr_glob.proofs.ListsOnce.{IsTrue, each_last, visits_true, made_true}
+use Rattle.lr_glob.proofs.ListsOnce.{IsTrue, visits_true, made_true}
 use Rattle.lr_glob.proofs.Names.{behind, under, AreParts, under_root, word_behind, literal_part, word_parts}
 use Rattle.lr_glob.proofs.Going.{GoesWith, Goes, goes_all}
 use Rattle.lr_glob.proofs.Literals.{parts_utf8}

@@ -10,7 +10,7 @@ use Rattle.lr_rules.specs.declared.path.Path.{Path}
 use Rattle.lr_host.specs.Told.{Counts, NoneFell, Onward, Rose}
 use Rattle.lr_host.specs.Counted.{calls_in, scripts_in, NoneAround, RoseBy, AreCounted, AddsFaults, Went, WentBy}
 
-none_more : (n : ℕ) → 0 + n ≡ n
+pub none_more : (n : ℕ) → 0 + n ≡ n
 none_more n = omega arith
 
 pub calls_on : (xs ys : List Fault) → calls_in (xs ++ ys) ≡ calls_in xs + calls_in ys

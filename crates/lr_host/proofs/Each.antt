@@ -1,5 +1,5 @@
 -- What holds of each entry of a list.
-use Rattle.std.proofs.Common.{◌≡◌, Bool, true, false, cond, sym, ap, ◌∙◌, refl, subst, List, [], ◌∷◌, ◌++◌, map, reverse}
+use Rattle.std.proofs.Common.{◌≡◌, Bool, true, false, cond, sym, ap, ◌∙◌, refl, subst, List, [], ◌∷◌, ◌++◌, map, reverse, ◌⊎◌, ⊎_elim}
 use Rattle.std.specs.Prelude.{filter}
 use Rattle.std.proofs.lemmas.List.{reverse-append, reverse-reverse, append-nil}
 use Rattle.std.proofs.lemmas.List.Elements.{filter-append}
@@ -54,3 +54,24 @@ none_passed f e es h = go (f e) refl h
     go : (b : Bool) → f e ≡ b → cond b (e ∷ filter f es) (filter f es) ≡ [] → (f e ≡ false) × (filter f es ≡ [])
     go true is h = absurd (cc)
     go false is h = (is, h)
+
+pub each_last : (P : Entry → Type 0) (xs ys : List Entry) → Each P (xs ++ ys) → Each P ys
+each_last P [] ys a = a
+each_last P (x ∷ xs) ys a = each_last P xs ys a.1
+
+pub each_filter : (Q : Entry → Type 0) (f : Entry → Bool) (xs : List Entry) → Each Q xs → Each Q (filter f xs)
+each_filter Q f [] a = tt
+each_filter Q f (x ∷ xs) a = go (each_filter Q f xs a.1) (f x)
+  where
+    go : Each Q (filter f xs) → (b : Bool) → Each Q (cond b (x ∷ filter f xs) (filter f xs))
+    go rest true = (a.0, rest)
+    go rest false = rest
+
+pub each_none : (P : Entry → Type 0) {ts : List Entry} → ts ≡ [] → Each P ts
+each_none P is = subst (Each P) (sym is) tt
+
+pub each_one : (P : Entry → Type 0) {e : Entry} {ts : List Entry} → ts ≡ e ∷ [] → P e → Each P ts
+each_one P is k = subst (Each P) (sym is) (k, tt)
+
+pub each_maybe : (P : Entry → Type 0) (e : Entry) {ts : List Entry} → (ts ≡ []) ⊎ (ts ≡ e ∷ []) → P e → Each P ts
+each_maybe P e m k = ⊎_elim (λ none. each_none P none) (λ one. each_one P one k) m

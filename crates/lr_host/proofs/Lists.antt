@@ -1,6 +1,7 @@
 -- What a list has.
 use Rattle.std.proofs.Common.{◌≡◌, ◌⊎◌, inl, inr, ⊎_elim, ℕ, zero, suc, ◌<◌, List, [], ◌∷◌, ◌++◌, length, get_or, map, reverse, refl, sym, ap, subst, arith, Contains}
 use Rattle.std.proofs.lemmas.List.{reverse-append, reverse-reverse}
+use Rattle.std.specs.List.{flat_map}
 use Rattle.lr_host.specs.Lists.{IsIn}
 
 in_at : {X : Type 0} (x : X) (xs : List X) (i : ℕ) → i < length xs → get_or xs i x ≡ x → IsIn x xs
@@ -53,3 +54,12 @@ in_reverse x (y ∷ ys) h = subst (IsIn x) (sym (reverse-append (y ∷ []) ys)) 
 
 pub from_reverse : {X : Type 0} (x : X) (xs : List X) → IsIn x (reverse xs) → IsIn x xs
 from_reverse x xs h = subst (IsIn x) (reverse-reverse xs) (in_reverse x (reverse xs) h)
+
+pub to_flat : {A B : Type 0} (f : A → List B) (xs : List A) (x : A) (y : B) → IsIn x xs → IsIn y (f x) → IsIn y (flat_map f xs)
+to_flat f [] x y i j = absurd i
+to_flat f (z ∷ zs) x y (inl e) j = in_front y (f z) (flat_map f zs) (subst (λ w. IsIn y (f w)) (sym e) j)
+to_flat f (z ∷ zs) x y (inr i) j = in_back y (f z) (flat_map f zs) (to_flat f zs x y i j)
+
+pub of_flat : {A B : Type 0} (f : A → List B) (xs : List A) (y : B) → IsIn y (flat_map f xs) → (x : A) × IsIn x xs × IsIn y (f x)
+of_flat f [] y h = absurd h
+of_flat f (x ∷ xs) y h = ⊎_elim (λ a. (x, inl refl, a)) (λ b. let r = of_flat f xs y b in (r.0, inr r.1, r.2)) (in_append y (f x) (flat_map f xs) h)

@@ -1,11 +1,12 @@
 -- What a look says of the thing that the path names.
-use Rattle.std.proofs.Common.{◌≡◌, ◌≢◌, ℕ, refl, Some, None}
+use Rattle.std.proofs.Common.{◌≡◌, ◌≢◌, ℕ, refl, Some, None, true, ap, arith, ◌∙◌}
 use Rattle.lr_host.specs.declared.thing.Thing.{Thing}
 use Rattle.lr_host.specs.declared.thing.Thing.TheVariants as thing
 use Rattle.lr_host.specs.declared.thing.Kind.TheVariants as kind
 use Rattle.lr_host.specs.declared.thing.Seen.{Seen}
-use Rattle.lr_host.specs.World.{World}
+use Rattle.lr_host.specs.World.{World, is_file}
 use Rattle.lr_host.specs.Fits.{Sees}
+use Rattle.lr_host.proofs.Places.{eq_same}
 
 pub seen_file : (w : World) (t : Thing) (seen : Seen) → Sees w t (Some seen) → seen.kind ≡ kind.File → (g : ℕ) × (t ≡ thing.File g)
 seen_file w thing.Nothing seen s k = absurd (let none : Some seen ≡ None = s in cc)
@@ -44,3 +45,12 @@ file_no_dir t g a b = cc
 
 pub same_file : (t : Thing) (f g : ℕ) → t ≡ thing.File f → t ≡ thing.File g → f ≡ g
 same_file t f g a b = cc
+
+pub is_file_true : (t : Thing) (g : ℕ) → is_file t g ≡ true → t ≡ thing.File g
+is_file_true (thing.File f) g e = let h : f ≡ g = grind (arith, e) in ap thing.File h
+is_file_true thing.Nothing g e = absurd (cc)
+is_file_true thing.Directory g e = absurd (cc)
+is_file_true thing.Other g e = absurd (cc)
+
+pub true_is_file : (t : Thing) (g : ℕ) → t ≡ thing.File g → is_file t g ≡ true
+true_is_file t g e = ap (λ v. is_file v g) e ∙ eq_same g

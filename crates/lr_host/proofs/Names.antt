@@ -4,6 +4,8 @@ use Rattle.std.proofs.lemmas.Slice.Eq.{bytes_eq-Decides}
 use Rattle.lr_rules.specs.declared.path.Path.{Path}
 use Rattle.lr_host.specs.declared.thing.Thing.{Thing}
 use Rattle.lr_host.specs.World.{Names, put}
+use Rattle.lr_host.specs.Fits.{IsDirectoryAt}
+use Rattle.lr_host.specs.declared.thing.Thing.TheVariants as thing
 
 pub put_cases : (n : Names) (x : Path) (t : Thing) (y : Path) (v : Thing) → put n x t y ≡ v → ((y ≡ x) × (t ≡ v)) ⊎ ((y ≢ x) × (n y ≡ v))
 put_cases n x t y v e = go (bytes_eq x y) refl e
@@ -21,3 +23,12 @@ put_other n x y t ne = go (bytes_eq x y) refl
     go : (b : Bool) → bytes_eq x y ≡ b → cond b t (n y) ≡ n y
     go true q = absurd (ne (sym ((bytes_eq-Decides x y).0 q)))
     go false q = refl
+
+-- a directory stays one
+-- a directory stands where one is made, and where one stood
+pub put_directory : (n : Names) (x y : Path) → IsDirectoryAt n y → IsDirectoryAt (put n x thing.Directory) y
+put_directory n x y d = go (bytes_eq x y)
+  where
+    go : (b : Bool) → cond b thing.Directory (n y) ≡ thing.Directory
+    go true = refl
+    go false = d

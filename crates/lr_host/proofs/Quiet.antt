@@ -215,3 +215,6 @@ moment P p _ e _ n (by_tool {es = es} {q = q} {e = d} m w f) h i = go (λ there.
     go : (IsIn e es → Moment P p q e) → (d ≡ e) ⊎ IsIn e es → Moment P p (q ▸ d) e
     go rest (inl same) = record { at = q; since = made_quiet P p q es b.0 m s.1; fits = subst (Fits (world q)) same f; until = looked here w f s.0 }
     go rest (inr there) = let r = rest there in record { at = r.at; since = r.since; fits = r.fits; until = looked r.until w f s.0 }
+
+pub none_still : (ts : List Entry) → ts ≡ [] → ChangeNothing ts
+none_still ts e = subst ChangeNothing (sym e) refl

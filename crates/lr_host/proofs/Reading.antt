@@ -44,7 +44,7 @@ Ends limit size [] = size ≡ limit
 Ends limit size (Reads x from piece ∷ ts) = (size < limit) × (((is_empty piece ≡ true) × (ts ≡ [])) ⊎ ((is_empty piece ≡ false) × Ends limit (size + length piece) ts))
 Ends limit size (_ ∷ ts) = ⊥
 
-some_long : (piece : List ℕ) → is_empty piece ≡ false → 0 < length piece
+pub some_long : (piece : List ℕ) → is_empty piece ≡ false → 0 < length piece
 some_long [] e = absurd (cc e)
 some_long (b ∷ piece) e = omega arith
 

@@ -32,6 +32,7 @@ use Rattle.lr_include.specs.declared.task.Task.{Task}
 use Rattle.lr_include.specs.declared.task.Task.TheVariants as task
 use Rattle.lr_include.specs.Lines.{conf_kind}
 use Rattle.lr_host.specs.Counted.{call_in, calls_in, RoseBy}
+use Rattle.lr_host.proofs.Counts.{calls_on}
 use Rattle.lr_include.specs.Allowed.{failed_read, failed_visit, failed_in}
 use Rattle.lr_include.specs.Stages.{Stage, lines_now, open_behind, ask_of, asked_at, asks_now, taken, before_asks, settled_from, settled_stage, room_for, kind_piece, piece_of, last_piece, line_tasks, entering, name_tasks, telling_exposed, behind_names, visited, visited_by, at_visits, ShowsNext, ShowsVisits, begun, line_ask, visits_mean, Reads}
 
@@ -64,10 +65,6 @@ total_none w h (x ∷ xs) = let a = h x in let more = total_none w h xs in omega
 calls_total : (fs : List Fault) → calls_in fs ≡ total call_in fs
 calls_total [] = refl
 calls_total (f ∷ fs) = ap (λ n. call_in f + n) (calls_total fs)
-
-calls_both : (fs gs : List Fault) → calls_in (fs ++ gs) ≡ calls_in fs + calls_in gs
-calls_both [] gs = omega arith
-calls_both (f ∷ fs) gs = let more = calls_both fs gs in omega (arith, more)
 
 -- ---- lines
 
@@ -140,7 +137,7 @@ own_calls file first p = refl
 line_calls : (file : Path) (first : Option ℕ) (e : Line) → calls_in (line_faults file first (past e)) ≡ calls_line e
 line_calls file first e =
     let p = past e in
-    let a = calls_both (at_line file kind.NoBrace (left_names first p)) (own_fault file first p) in
+    let a = calls_on (at_line file kind.NoBrace (left_names first p)) (own_fault file first p) in
     let b = at_calls file kind.NoBrace (left_names first p) in
     let c = own_calls file first p in
     let d = past_calls e in
@@ -186,7 +183,7 @@ body_calls None words vs es = mapped_calls calls_line spoilt_fault spoilt_calls 
 body_calls (Some at) words vs es =
     let body = body_of [] (before ends es) in
     let f = fields_of (vs ++ filter_map set_in body) in
-    let a = calls_both (filter_map fault_in (through drops body)) (cond (list_any drops body) (rest_of body) (of_end at words f (find ends es))).faults in
+    let a = calls_on (filter_map fault_in (through drops body)) (cond (list_any drops body) (rest_of body) (of_end at words f (find ends es))).faults in
     let b = mapped_calls calls_within fault_in in_calls (through drops body) in
     let c = closed_calls at words f (find ends es) body (list_any drops body) refl in
     let d = through_behind calls_within drops body in
@@ -216,8 +213,8 @@ opened_calls p es out f g false = omega (arith, f)
 outside_on : (e : Line) (es : List Line) (out : List OutsideLine) → Outside (out ++ past e ∷ []) es → Inside (out ++ past e ∷ []) es → Outside out (e ∷ es)
 outside_on e es out f g =
     let p = past e in
-    let a = calls_both (line_faults (line_file e) (first_pending out) p) ((of_opening out p es).faults ++ (meaning (opens p) (out ++ p ∷ []) es).faults) in
-    let b = calls_both (of_opening out p es).faults (meaning (opens p) (out ++ p ∷ []) es).faults in
+    let a = calls_on (line_faults (line_file e) (first_pending out) p) ((of_opening out p es).faults ++ (meaning (opens p) (out ++ p ∷ []) es).faults) in
+    let b = calls_on (of_opening out p es).faults (meaning (opens p) (out ++ p ∷ []) es).faults in
     let c = line_calls (line_file e) (first_pending out) e in
     let d = opened_calls p es out f g (opens p) in
     omega (arith, a, b, c, d)

@@ -3,7 +3,7 @@ use Rattle.std.proofs.Common.{◌≡◌, ◌⊎◌, inl, inr, ⊎_elim, ℕ, suc
 use Rattle.std.specs.Prelude.{nat_le, ◌==◌, decimal, codes}
 use Rattle.std.specs.List.{list_any, list_all}
 use Rattle.std.specs.Str.{is_utf8}
-use Rattle.std.proofs.lemmas.Bool.{and_parts, or_parts, or_from, not-true, le-leb, or_cases}
+use Rattle.std.proofs.lemmas.Bool.{and_parts, or_parts, or_from, not-true, or_cases}
 use Rattle.std.proofs.lemmas.List.{take-append-drop}
 use Rattle.std.proofs.lemmas.List.Elements.{All-head, All-tail}
 use Rattle.std.proofs.lemmas.Slice.Eq.{bytes_eq-Decides}
@@ -18,7 +18,7 @@ use Rattle.lr_rules.specs.Dated.{IsDatedAt}
 use Rattle.lr_rules.specs.Limits.{is_log_word, is_olddir, is_extension, is_address, is_small, is_size, is_count, is_criterion, is_make, is_plain_piece, written, are_first, is_epoch_alone, is_format, times, or_none, meets_limits}
 use Rattle.lr_rules.specs.Names.{AreDigits, IsStampShape, number_pieces, IsMiddleShape, IsMemberAt, ends_with, ext_of, base_of, aside_path, is_aside, naming_of}
 use Rattle.lr_rules.specs.Path.{path_fault, parent_of, last_of, joined, is_slash}
-use Rattle.lr_rules.proofs.Digits.{decimal_run, decimal_plain}
+use Rattle.lr_rules.proofs.Digits.{decimal_run, decimal_plain, IsDigit, digit_is}
 use Rattle.lr_rules.proofs.PathLemmas.{plain_both, last_joined, joined_parts, last_plain}
 use Rattle.lr_rules.specs.Bytes.{is_digit}
 use Rattle.lr_stamps.proofs.StampShapes.{numbered_shape}
@@ -26,9 +26,6 @@ use Rattle.lr_host.specs.Sets.{LogSet, Order, Numbered, Dated, order, IsKeyBy, I
 use Rattle.lr_laws.proofs.PlainStamps.{field_digits, field_some, middle_plain}
 
 -- ---- digits
-
-abbrev IsDigit : ℕ → Type 0
-IsDigit d = (48 ≤ d) × (d ≤ 57)
 
 -- how many of the bytes are digits
 abbrev digits : List ℕ → ℕ
@@ -42,9 +39,6 @@ digits_on (x ∷ xs) ys = go (is_digit x) (digits_on xs ys)
     go : (b : Bool) → digits (xs ++ ys) ≡ digits xs + digits ys → cond b (suc (digits (xs ++ ys))) (digits (xs ++ ys)) ≡ cond b (suc (digits xs)) (digits xs) + digits ys
     go true e = omega (arith, e)
     go false e = e
-
-digit_is : (d : ℕ) → IsDigit d → is_digit d ≡ true
-digit_is d r = ap (λ b. b && nat_le d 57) (le-leb 48 d r.0) ∙ le-leb d 57 r.1
 
 all_digits : (ds : List ℕ) → AreDigits ds → digits ds ≡ length ds
 all_digits [] h = refl

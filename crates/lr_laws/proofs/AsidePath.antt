@@ -1,6 +1,5 @@
 -- What the path names where a log waits while it is set aside, behind entries that give it no file but the log's.
-use Rattle.std.proofs.Common.{◌≡◌, ◌⊎◌, inl, inr, ⊎_elim, ℕ, ◌<◌, Bool, true, false, bytes_eq, refl, sym, ◌∙◌, ap, arith, List, [], ◌∷◌}
-use Rattle.std.proofs.lemmas.Slice.Eq.{bytes_eq-Decides}
+use Rattle.std.proofs.Common.{◌≡◌, ◌⊎◌, inl, inr, ⊎_elim, ℕ, ◌<◌, refl, sym, ◌∙◌, ap, arith, List, [], ◌∷◌}
 use Rattle.lr_rules.specs.declared.path.Path.{Path}
 use Rattle.lr_host.specs.declared.entry.Entry.{Entry}
 use Rattle.lr_host.specs.declared.entry.Entry.TheVariants.{Attach, Feed, Flush, Detach, Starts, Renames, Makes, MakesDir, Appends, Truncates, Unlinks}
@@ -20,6 +19,7 @@ use Rattle.lr_host.proofs.Made.{made_journal}
 use Rattle.lr_host.proofs.More.{IsMoreAt, file_at, put_at, more_at_on, wrote_names, attach_names, names_by}
 use Rattle.lr_host.proofs.Names.{put_here, put_other}
 use Rattle.lr_host.proofs.Places.{synced_names}
+use Rattle.lr_host.proofs.Closed.{same_or_not}
 use Rattle.lr_laws.specs.Follow.{NamesNone}
 use Rattle.lr_laws.specs.Rotation.{IsAside, LogFits}
 use Rattle.lr_laws.proofs.Disk.{KeepsClosed, fits_closed, leaves_now}
@@ -45,13 +45,6 @@ aside_gives s x _ a out = tt
 pub record WaitsSo (s : LogSet) (q : Past) (x : Path) (n : Names) : Type 0 where
   pub more : IsMoreAt x n (names (world q))
   pub none : n x ≡ thing.Nothing → NamesNone s q x
-
-same_or_not : (x y : Path) → (x ≡ y) ⊎ (x ≡ y → ⊥)
-same_or_not x y = go (bytes_eq x y) refl
-  where
-    go : (b : Bool) → bytes_eq x y ≡ b → (x ≡ y) ⊎ (x ≡ y → ⊥)
-    go true e = inl ((bytes_eq-Decides x y).0 e)
-    go false e = inr (λ same. let t : bytes_eq x y ≡ true = (bytes_eq-Decides x y).1 same in cc)
 
 -- ---- one entry
 

@@ -16,13 +16,13 @@ use Rattle.lr_host.specs.Steady.{AttachesOnly}
 use Rattle.lr_host.specs.Told.{Each, IsTools, IsWriters, Made, at_first, by_writer, by_tool}
 use Rattle.lr_host.specs.World.{Past, ◌▸◌, World, world, names, Change, Puts, Moves, Drops, making, pending_after, in_list, paths_in, is_listed, undone_at, settled}
 use Rattle.lr_host.proofs.Closed.{Touches, NoneTouches, by_bytes}
-use Rattle.lr_host.proofs.Each.{each_as, each_reverse}
+use Rattle.lr_host.proofs.Each.{each_as, each_reverse, each_last}
 use Rattle.lr_host.proofs.Looked.{same_file}
 use Rattle.lr_host.proofs.Quiet.{before_last}
 use Rattle.lr_laws.specs.Renewing.{Renews, IsWritten, HasText}
 use Rattle.lr_laws.specs.StateWhole.{renamed_paths, IsSettled, WritersSpareState}
 use Rattle.lr_laws.proofs.Files.{LeavesFile}
-use Rattle.lr_laws.proofs.Lists.{At, at, each_last}
+use Rattle.lr_laws.proofs.Lists.{At, at}
 use Rattle.lr_laws.proofs.Parts.{IsOwn, own_walk}
 use Rattle.lr_laws.proofs.Renewed.{IsFilled, filling, filled, Spared, renamed_own, in_two}
 use Rattle.lr_laws.proofs.Syncs.{none_undone, is_parent}

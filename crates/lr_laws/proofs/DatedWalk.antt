@@ -4,6 +4,7 @@ use Rattle.std.proofs.lemmas.Bool.{or_right}
 use Rattle.lr_rules.specs.declared.path.Path.{Path}
 use Rattle.lr_rules.specs.declared.rule.Rule.{Rule}
 use Rattle.lr_rules.specs.declared.rule.Count.TheVariants.{Keep}
+use Rattle.lr_rules.proofs.Bools.{not_both}
 use Rattle.lr_host.specs.declared.entry.Entry.{Entry}
 use Rattle.lr_host.specs.declared.entry.Entry.TheVariants.{Renames, Makes, MakesDir, Appends, Truncates, Unlinks}
 use Rattle.lr_host.specs.declared.entry.Entry.TheVariants as entry
@@ -117,9 +118,6 @@ aside_step s p q newest turned es (entry.Runs program args input ended) f out r 
 aside_step s p q newest turned es _ f out r = absurd out
 
 -- ---- one entry of the tool
-
-not_both : (b : Bool) → b ≡ true → b ≡ false → ⊥
-not_both b p q = cc
 
 -- the later members still name files
 later_still : (s : LogSet) (n m : Names) (t : ℤ) (ys : List Path) → ((y : Path) (k : ℤ) → s.key y ≡ Some k → m y ≡ n y) → AreLaterMembers s.key n t ys → AreLaterMembers s.key m t ys

@@ -7,7 +7,7 @@ use Rattle.lr_host.specs.declared.entry.Entry.{Entry}
 use Rattle.lr_host.specs.Fits.{Fits}
 use Rattle.lr_host.specs.Safe.{IsPrefix, whole, shorter}
 use Rattle.lr_host.specs.Quiet.{AttachedOnlySince}
-use Rattle.lr_host.specs.Told.{Each, IsTools, Made, at_first, by_writer, by_tool}
+use Rattle.lr_host.specs.Told.{IsTools, Made, at_first, by_writer, by_tool}
 use Rattle.lr_host.specs.World.{Past, ◌▸◌, world}
 use Rattle.lr_host.proofs.Made.{made_on, cut, CutAt, cut_one}
 use Rattle.lr_host.proofs.Quiet.{size, since_before, since_behind}
@@ -124,7 +124,3 @@ first_part (x ∷ xs) e ys (a ∷ fs) bs is = go (first_part xs e ys fs bs (tail
     go : FirstPart xs e ys fs bs → FirstPart (x ∷ xs) e ys (a ∷ fs) bs
     go (ends_before rest r) = ends_before rest (ap (λ y. y ∷ xs) same ∙ ap (λ zs. a ∷ zs) r)
     go (has_it more r s) = has_it more (ap (λ zs. a ∷ zs) r ∙ ap (λ y. y ∷ (xs ++ (e ∷ more))) (sym same)) s
-
-pub each_last : (P : Entry → Type 0) (xs ys : List Entry) → Each P (xs ++ ys) → Each P ys
-each_last P [] ys a = a
-each_last P (x ∷ xs) ys a = each_last P xs ys a.1

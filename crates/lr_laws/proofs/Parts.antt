@@ -1,10 +1,9 @@
 -- The part file: made, filled in pieces, and synced.
 use Rattle.std.proofs.Common.{◌≡◌, ◌≢◌, ⊎_elim, ◌≤◌, ◌<◌, ◌+◌, ℕ, Bool, true, false, cond, nat_eq, refl, sym, ◌∙◌, ap, subst, arith, List, [], ◌∷◌, ◌++◌, length, map, reverse, append_assoc, Option, Some, None, All}
-use Rattle.std.proofs.lemmas.List.{append-nil, length-append}
-use Rattle.std.specs.Prelude.{codes, suc}
+use Rattle.std.proofs.lemmas.List.{append-nil}
+use Rattle.std.specs.Prelude.{suc}
 use Rattle.std.specs.List.{flat_map}
 use Rattle.lr_rules.specs.declared.path.Path.{Path}
-use Rattle.lr_rules.specs.StatePath.{state_part}
 use Rattle.lr_host.specs.declared.thing.Thing.{Thing}
 use Rattle.lr_host.specs.declared.thing.Thing.TheVariants as thing
 use Rattle.lr_host.specs.declared.entry.Entry.{Entry}
@@ -14,22 +13,15 @@ use Rattle.lr_host.specs.Quiet.{AttachedOnlySince}
 use Rattle.lr_host.specs.Steady.{AttachesOnly}
 use Rattle.lr_host.specs.Told.{Each, IsWriters, Made, at_first, by_writer, by_tool}
 use Rattle.lr_host.specs.World.{Past, Opens, ◌▸◌, World, world, names, making, attached, drawn_after, step, opening_hold, holds_after, is_file}
-use Rattle.lr_host.proofs.Looked.{nothing_no_file}
+use Rattle.lr_host.proofs.Looked.{nothing_no_file, true_is_file}
 use Rattle.lr_host.proofs.More.{attach_names}
 use Rattle.lr_host.proofs.Quiet.{before_last}
 use Rattle.lr_laws.proofs.Disk.{leaves_now, drawn_grows}
 use Rattle.lr_laws.proofs.Single.{single}
-use Rattle.lr_laws.proofs.Sound.{true_is_file}
 use Rattle.lr_laws.proofs.Files.{IsGuarded, IsSynced, LeavesFile, writer_guards, tool_guards}
 use Rattle.lr_laws.proofs.Lists.{at}
 use Rattle.lr_host.specs.Lists.{IsIn}
 use Rattle.lr_laws.proofs.Walks.{NamesNone, tool_same, far_attached}
-
-pub part_apart : (state : Path) → state_part state ≢ state
-part_apart state e =
-    let long : length (state ++ codes ".tmp") ≡ length state + 4 = length-append state (codes ".tmp") in
-    let same : length (state ++ codes ".tmp") ≡ length state = ap length e in
-    absurd (omega (arith, long, same))
 
 -- ---- identities that were drawn
 

@@ -13,11 +13,9 @@ use Rattle.lr_rules.specs.Limits.{is_plain_piece, is_format}
 use Rattle.lr_rules.specs.Names.{AreDigits, IsFieldShape, IsStampShape, number_pieces, IsMiddleShape}
 use Rattle.lr_rules.specs.Path.{is_bad_byte, is_slash}
 use Rattle.lr_rules.proofs.PathLemmas.{plain_both}
+use Rattle.lr_rules.proofs.Digits.{IsDigit}
 
 -- ---- digits
-
-abbrev IsDigit : ℕ → Type 0
-IsDigit d = (48 ≤ d) × (d ≤ 57)
 
 no_slash : (d : ℕ) → IsDigit d → is_slash d ≡ false
 no_slash d r = go (is_slash d) refl

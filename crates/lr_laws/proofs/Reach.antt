@@ -1,14 +1,12 @@
 -- The paths that a set reaches: its log, that where it waits while it is set aside, and its members.
-use Rattle.std.proofs.Common.{◌≡◌, inl, inr, ◌+◌, Bool, true, false, ◌&&◌, bytes_eq, sym, ◌∙◌, ap, arith, length-append, ◌++◌, length, Option, Some, None, is_some, ℤ}
+use Rattle.std.proofs.Common.{◌≡◌, inl, inr, ◌+◌, true, false, ◌&&◌, bytes_eq, sym, ◌∙◌, ap, arith, length-append, ◌++◌, length, Option, Some, None, is_some, ℤ}
 use Rattle.std.specs.Prelude.{codes}
 use Rattle.std.proofs.lemmas.Bool.{or_left, or_right, or_parts, or_from, and_from}
 use Rattle.std.proofs.lemmas.Slice.Eq.{bytes_eq-Decides}
 use Rattle.lr_rules.specs.declared.path.Path.{Path}
 use Rattle.lr_rules.specs.Names.{aside_path}
+use Rattle.lr_rules.proofs.Bools.{not_both}
 use Rattle.lr_host.specs.Sets.{LogSet, in_set, IsAsideOf, IsUnplaced, is_unplaced, in_reach}
-
-not_both : (b : Bool) → b ≡ true → b ≡ false → ⊥
-not_both b p q = cc
 
 is_keyed : (o : Option ℤ) (k : ℤ) → o ≡ Some k → is_some o ≡ true
 is_keyed o k is = ap is_some is

@@ -17,9 +17,9 @@ use Rattle.lr_host.proofs.Each.{each_append, each_as, each_map, each_reverse}
 use Rattle.lr_host.proofs.Looked.{nothing_no_file}
 use Rattle.lr_host.proofs.Made.{made_on, made_journal}
 use Rattle.lr_host.proofs.Names.{put_cases, put_here}
+use Rattle.lr_host.proofs.Places.{eq_same}
 use Rattle.lr_laws.specs.Renewing.{IsWithinDirs, Renews}
 use Rattle.lr_laws.specs.StateWhole.{LeftAs, StandsAs}
-use Rattle.lr_laws.proofs.ClosedLaws.{same_eq}
 use Rattle.lr_laws.proofs.Files.{IsGuarded, IsSynced, LeavesFile}
 use Rattle.lr_laws.proofs.Leaving.{Lasts, stands_made}
 use Rattle.lr_laws.proofs.Lists.{middle, at}
@@ -48,7 +48,7 @@ made_own p x mode j = record {
 }
   where
     made_empty : ((world (p ▸ entry.Makes x mode)).files (world p).drawn).bytes ≡ []
-    made_empty = ap (λ (b : Bool). cond b [] ((world p).files (world p).drawn).bytes) (same_eq (world p).drawn)
+    made_empty = ap (λ (b : Bool). cond b [] ((world p).files (world p).drawn).bytes) (eq_same (world p).drawn)
 
 syncs_calm : (x : Path) (dirs : List Path) → Each (λ e. LeavesFile x e × NamesNone e) (map entry.SyncsDir dirs)
 syncs_calm x [] = tt

@@ -9,9 +9,9 @@ use Rattle.lr_laws.specs.Follow.{KeepsPlaces}
 use Rattle.lr_host.specs.Later.{stood, IsGeneration, later, leaves}
 use Rattle.lr_host.specs.Kept.{IsWhole, Stands, IsKept}
 use Rattle.lr_host.specs.Released.{IsUnnamed, IsReleased}
-use Rattle.lr_laws.proofs.Sound.{is_file_true, true_is_file}
 use Rattle.lr_laws.proofs.Counting.{later_grows, IsWritten, whole_on}
 use Rattle.lr_host.specs.declared.thing.Thing.TheVariants as thing
+use Rattle.lr_host.proofs.Looked.{is_file_true, true_is_file}
 
 pub released_unnamed : (s : LogSet) (p : Past) (g : ℕ) → IsReleased s p g → IsUnnamed (names (world p)) g
 released_unnamed s (Opens o) g r = absurd r

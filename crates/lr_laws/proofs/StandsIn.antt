@@ -13,9 +13,10 @@ use Rattle.lr_host.specs.Kept.{Leaves}
 use Rattle.lr_host.proofs.Names.{put_here, put_other}
 use Rattle.lr_host.proofs.Closed.{Touches, touches_or_not, Splits, with_next, without_next, IsApart, apart_none, kept_names, untouched, all_closed}
 use Rattle.lr_host.proofs.Places.{IsSplit, split_of, splits, leaves_of, bound, synced_names}
+use Rattle.lr_host.proofs.Looked.{nothing_no_file, file_no_dir, nothing_no_dir}
 use Rattle.lr_laws.specs.Rooted.{IsParted}
 use Rattle.lr_laws.proofs.Disk.{fits_closed, LeftBy, as_it_was, taken_back, kept_too, by_cut, left_by}
-use Rattle.lr_laws.proofs.RootedLaw.{inside_parent, LastMakes, others_make, none_touches, clash_nothing, clash_file, clash_named, stand_after}
+use Rattle.lr_laws.proofs.RootedLaw.{inside_parent, LastMakes, others_make, none_touches, stand_after}
 
 -- each such path that names something stands in a directory
 abbrev PartedStand : Names → Type 0
@@ -48,7 +49,7 @@ fitted w (Unlinks x) c f q = subst (Fitted (names w)) same (drops f.1)
 fitted w (Attach writer x at) c f q = go (names w x) refl q f.0
   where
     go : (t : Thing) → names w x ≡ t → making t x w.drawn ≡ Adds c → IsFileAt (names w) x ⊎ ((names w x ≡ thing.Nothing) × IsDirectoryAt (names w) (parent_of x)) → Fitted (names w) c
-    go thing.Nothing r q (inl named) = absurd (clash_named (names w x) named.0 r named.1)
+    go thing.Nothing r q (inl named) = absurd (nothing_no_file (names w x) named.0 r named.1)
     go thing.Nothing r q (inr free) = subst (Fitted (names w)) same (puts free.0 free.1)
       where
         same : Puts x (thing.File w.drawn) ≡ c
@@ -63,20 +64,20 @@ keeps_directory : (n m : Names) (c : Change) (d : Path) → Fitted n c → ((x :
 keeps_directory n m c d f ag is = untouched c m d (go c f ag) ∙ is
   where
     go : (c : Change) → Fitted n c → ((x : Path) → Touches c x → m x ≡ n x) → Touches c d → ⊥
-    go _ (puts {x = x} free dir) ag t = clash_nothing (m d) (ag d t ∙ (ap n (sym t) ∙ free)) is
-    go _ (moves {from = from} {to = to} {g = g} file not_dir dir other) ag (inl t) = clash_file (m d) g (ag d (inl t) ∙ (ap n (sym t) ∙ file)) is
+    go _ (puts {x = x} free dir) ag t = nothing_no_dir (m d) (ag d t ∙ (ap n (sym t) ∙ free)) is
+    go _ (moves {from = from} {to = to} {g = g} file not_dir dir other) ag (inl t) = file_no_dir (m d) g (ag d (inl t) ∙ (ap n (sym t) ∙ file)) is
     go _ (moves {from = from} {to = to} file not_dir dir other) ag (inr t) = not_dir (ap n t ∙ (sym (ag d (inr t)) ∙ is))
-    go _ (drops {x = x} {g = g} file) ag t = clash_file (m d) g (ag d t ∙ (ap n (sym t) ∙ file)) is
+    go _ (drops {x = x} {g = g} file) ag t = file_no_dir (m d) g (ag d t ∙ (ap n (sym t) ∙ file)) is
 
 directory_before : (n : Names) (c : Change) (d : Path) → Fitted n c → changed c n d ≡ thing.Directory → (Touches c d → c ≡ Puts d thing.Directory) × ((Touches c d → ⊥) → n d ≡ thing.Directory)
 directory_before n c d f is = (λ t. made c f is t, λ nt. sym (untouched c n d nt) ∙ is)
   where
     made : (c : Change) → Fitted n c → changed c n d ≡ thing.Directory → Touches c d → c ≡ Puts d thing.Directory
     made _ (puts {x = x} {t = t} free dir) is s = let e : t ≡ thing.Directory = sym (put_here n x d t (sym s)) ∙ is in cc
-    made _ (moves {from = from} {to = to} {g = g} file not_dir dir other) is (inr s) = absurd (clash_file (n from) g file (sym (put_here (put n from thing.Nothing) to d (n from) (sym s)) ∙ is))
+    made _ (moves {from = from} {to = to} {g = g} file not_dir dir other) is (inr s) = absurd (file_no_dir (n from) g file (sym (put_here (put n from thing.Nothing) to d (n from) (sym s)) ∙ is))
     made _ (moves {from = from} {to = to} {g = g} file not_dir dir other) is (inl s) =
-        absurd (clash_nothing (changed (Moves from to) n d) (put_other (put n from thing.Nothing) to d (n from) (λ same. other (s ∙ same)) ∙ put_here n from d thing.Nothing (sym s)) is)
-    made _ (drops {x = x} file) is s = absurd (clash_nothing (changed (Drops x) n d) (put_here n x d thing.Nothing (sym s)) is)
+        absurd (nothing_no_dir (changed (Moves from to) n d) (put_other (put n from thing.Nothing) to d (n from) (λ same. other (s ∙ same)) ∙ put_here n from d thing.Nothing (sym s)) is)
+    made _ (drops {x = x} file) is s = absurd (nothing_no_dir (changed (Drops x) n d) (put_here n x d thing.Nothing (sym s)) is)
 
 -- ---- each moment
 

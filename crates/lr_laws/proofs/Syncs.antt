@@ -5,10 +5,11 @@ use Rattle.std.proofs.lemmas.Bool.{or_left}
 use Rattle.std.proofs.lemmas.Slice.Eq.{bytes_eq-Decides}
 use Rattle.lr_rules.specs.declared.path.Path.{Path}
 use Rattle.lr_rules.specs.Path.{parent_of}
+use Rattle.lr_rules.proofs.Bools.{not_both}
 use Rattle.lr_host.specs.declared.entry.Entry.TheVariants as entry
 use Rattle.lr_host.specs.Kept.{Leaves}
 use Rattle.lr_host.specs.World.{Past, ◌▸◌, world, Names, names, names_after, names_kept, MayLeave, but, Change, in_list, paths_in, is_listed, kept_at, undone_at, has_parent, is_bound, settled}
-use Rattle.lr_host.proofs.Closed.{Touches, touched_any, touched_in, untouched, NoneTouches, unbound_of, not_both}
+use Rattle.lr_host.proofs.Closed.{Touches, touched_any, touched_in, untouched, NoneTouches, unbound_of}
 use Rattle.lr_host.proofs.Places.{bound, synced_names}
 
 -- ---- paths that no change has

@@ -3,6 +3,7 @@ use Rattle.std.proofs.Common.{◌≡◌, ◌≢◌, ◌⊎◌, inl, inr, ⊎_eli
 use Rattle.std.proofs.lemmas.List.{reverse-append, reverse-reverse}
 use Rattle.lr_rules.specs.declared.path.Path.{Path}
 use Rattle.lr_rules.specs.StatePath.{state_part}
+use Rattle.lr_rules.proofs.Beside.{part_apart}
 use Rattle.lr_host.specs.declared.thing.Thing.{Thing}
 use Rattle.lr_host.specs.declared.thing.Thing.TheVariants as thing
 use Rattle.lr_host.specs.declared.entry.Entry.{Entry}
@@ -26,7 +27,7 @@ use Rattle.lr_laws.specs.StateWhole.{IsSettled, WritersSpareState, renamed_paths
 use Rattle.lr_laws.proofs.Files.{LeavesFile, tool_guards, tool_synced, cut_whole}
 use Rattle.lr_laws.proofs.Leaving.{Lasts, lasts_on, stands_made, alike}
 use Rattle.lr_laws.proofs.Lists.{made_prefix, IsOnWay, on_way, at, FirstPart, ends_before, has_it, first_part}
-use Rattle.lr_laws.proofs.Parts.{part_apart, guarded_first}
+use Rattle.lr_laws.proofs.Parts.{guarded_first}
 use Rattle.lr_laws.proofs.Renewed.{IsFilled, filling, filled, Spared, renamed_own, in_two, all_stand}
 use Rattle.lr_laws.proofs.Syncs.{none_left, none_listed}
 use Rattle.lr_laws.proofs.Walks.{IsSafeFile, LeftLast, now_left, left_before, left_last, NamesNone, AllowsNew, left_drawn, calm_entry, calm_walk, named_walk, safe_walk}

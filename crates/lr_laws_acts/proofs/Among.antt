@@ -9,13 +9,12 @@ use Rattle.lr_host.specs.Lists.{IsIn}
 use Rattle.lr_host.specs.Quiet.{is_disk_change}
 use Rattle.lr_host.specs.Steps.{is_change}
 use Rattle.lr_host.specs.Told.{Each, Are}
-use Rattle.lr_host.proofs.Each.{each_append, each_as, each_first, all_pass}
+use Rattle.lr_host.proofs.Each.{each_append, each_as, each_first, all_pass, each_last, each_filter}
 use Rattle.lr_host.proofs.Quiet.{disk_of_changes}
 use Rattle.lr_copy.specs.declared.job.Job.{Job}
 use Rattle.lr_copy.specs.Copying.{Copies, clearing, cutting}
 use Rattle.lr_copy.proofs.EachOfBytes.{each_all, each_are, each_both}
 use Rattle.lr_laws_family.specs.Whole.{Named}
-use Rattle.lr_laws.proofs.Lists.{each_last}
 use Rattle.lr_laws_acts.specs.Emptied.{CopiedLast, EmptiesCopied}
 use Rattle.lr_laws_rotations.specs.AllTurns.{StandsBetween, paths_beside}
 use Rattle.lr_laws_family.specs.Beside.{IsBeside}
@@ -28,7 +27,7 @@ use Rattle.lr_laws_family.proofs.Weaving.{weave_as}
 use Rattle.lr_laws_acts.specs.Copied.{CopyStands, IsSameFor}
 use Rattle.lr_laws_acts.proofs.Beside.{IsBesideOrCut, between_beside}
 use Rattle.lr_laws_family.proofs.Changes.{CopyParts, copy_parts}
-use Rattle.lr_laws_acts.proofs.Weaves.{IsOther, stands_once, all_other, each_filter, other_unfiltered, weave_at, weave_front, weave_behind, weave_less, weave_drop}
+use Rattle.lr_laws_acts.proofs.Weaves.{IsOther, stands_once, all_other, other_unfiltered, weave_at, weave_front, weave_behind, weave_less, weave_drop}
 
 -- a rename or an unlink of certain paths changes the disk
 these_change : (Own : Path → Type 0) (e : Entry) → IsOfThese Own e → is_disk_change e ≡ true

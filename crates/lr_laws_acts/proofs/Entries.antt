@@ -5,10 +5,9 @@ use Rattle.lr_host.specs.declared.entry.Entry.{Entry}
 use Rattle.lr_host.specs.declared.entry.Entry.TheVariants as entry
 use Rattle.lr_host.specs.Quiet.{IsQuiet, AreQuiet}
 use Rattle.lr_host.specs.Told.{Each, Then}
-use Rattle.lr_host.proofs.Each.{each_as}
+use Rattle.lr_host.proofs.Each.{each_as, each_last}
 use Rattle.lr_copy.specs.declared.job.Job.{Job}
 use Rattle.lr_copy.specs.Stops.{EmptiesNone}
-use Rattle.lr_laws.proofs.Lists.{each_last}
 use Rattle.lr_laws_family.specs.Whole.{Named}
 use Rattle.lr_laws_acts.specs.Emptied.{CopiedLast, EmptiesCopied}
 use Rattle.lr_laws_acts.proofs.Lists.{Stands, in_first, in_second, stands, only_one}

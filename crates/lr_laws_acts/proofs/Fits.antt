@@ -26,10 +26,11 @@ use Rattle.lr_host.specs.Told.{Each, Then, Made, at_first, by_writer, by_tool, L
 use Rattle.lr_host.specs.Steps.{is_naming, CanAll}
 use Rattle.lr_host.proofs.More.{IsMoreAt, more_at_on, wrote_names}
 use Rattle.lr_host.proofs.Names.{put_other}
-use Rattle.lr_host.proofs.Each.{filter_reverse, none_pass, each_append, each_as, each_reverse, each_first}
+use Rattle.lr_host.proofs.Each.{filter_reverse, none_pass, each_append, each_as, each_reverse, each_first, each_last}
 use Rattle.lr_host.proofs.Left.{left_first, left_then, can_as, still_step}
 use Rattle.lr_host.proofs.Known.{ever_says}
 use Rattle.lr_host.proofs.Looked.{file_no_dir, seen_dir}
+use Rattle.lr_host.proofs.Quiet.{IsAny}
 use Rattle.lr_scripts.specs.declared.command.Command.{Command}
 use Rattle.lr_scripts.specs.declared.removal.Removal.{Removal}
 use Rattle.lr_scripts.specs.Programs.{runs}
@@ -50,7 +51,7 @@ use Rattle.lr_laws_rotations.specs.Apart.{HasNames}
 use Rattle.lr_laws_rotations.proofs.Own.{named_own, own_paths}
 use Rattle.lr_laws_rotations.proofs.Way.{source_own}
 use Rattle.lr_laws_family.specs.Weave.{IsFirstOf}
-use Rattle.lr_laws_rotations.proofs.Alike.{IsLike, like_self, AreLike, Anywhere, more_like, put_like, Reads, can_like, after_like, fit_like, each_anywhere, calls_as, calls_made, calls_still}
+use Rattle.lr_laws_rotations.proofs.Alike.{IsLike, like_self, AreLike, more_like, put_like, Reads, can_like, after_like, fit_like, each_anywhere, calls_as, calls_made, calls_still}
 use Rattle.lr_laws_family.proofs.Fed.{IsTurn}
 use Rattle.lr_laws_rotations.proofs.Others.{rotation_turns}
 use Rattle.lr_plan.specs.declared.mark.Mark.{Mark}
@@ -68,7 +69,7 @@ use Rattle.lr_laws_acts.proofs.Lasting.{dir_walk, makes_later}
 use Rattle.lr_laws_acts.specs.Parts.{takes_name, MakesOnly, changes_by}
 use Rattle.lr_laws_acts.proofs.Parting.{Begun, course_first}
 use Rattle.lr_laws_acts.proofs.Halves.{own_calls, letting_calls, front_calls, removing_calls, back_calls, call_halves}
-use Rattle.lr_laws_acts.proofs.Planning.{calls_of_step, calls_by, log_is, front_asks, finishing_asks, removals_ask, log_plain, program_none, program_asks, program_plain, each_end}
+use Rattle.lr_laws_acts.proofs.Planning.{calls_of_step, calls_by, log_is, front_asks, finishing_asks, removals_ask, log_plain, program_none, program_asks, program_plain}
 
 -- ---- entries that change other paths
 
@@ -239,11 +240,11 @@ module _ (t : Target) (h : HasNames t) where
 
   -- those behind the leftovers' removals
   behind_leftovers : Each (Asks (NamesOf t)) (map move_step t.ready.moves ++ (transfer_of t.ready t.job t.aside ++ unlinks t.ready.retire))
-  behind_leftovers = each_end (Asks (NamesOf t)) (unlinks t.ready.leftovers) (map move_step t.ready.moves ++ (transfer_of t.ready t.job t.aside ++ unlinks t.ready.retire)) turns_ask
+  behind_leftovers = each_last (Asks (NamesOf t)) (unlinks t.ready.leftovers) (map move_step t.ready.moves ++ (transfer_of t.ready t.job t.aside ++ unlinks t.ready.retire)) turns_ask
 
   -- and those behind the moves
   behind_moves : Each (Asks (NamesOf t)) (transfer_of t.ready t.job t.aside ++ unlinks t.ready.retire)
-  behind_moves = each_end (Asks (NamesOf t)) (map move_step t.ready.moves) (transfer_of t.ready t.job t.aside ++ unlinks t.ready.retire) behind_leftovers
+  behind_moves = each_last (Asks (NamesOf t)) (map move_step t.ready.moves) (transfer_of t.ready t.job t.aside ++ unlinks t.ready.retire) behind_leftovers
 
   -- the calls of a copy, too; and its final path is one of the names
   copy_asks : (job : Job) (rest : List Entry) → t.job ≡ Some job → Each (Asks (NamesOf t)) (clearing job ++ entry.Renames job.part job.to ∷ rest) → Each (Asks (NamesOf t)) (copy_calls job) × NamesOf t t.ready.target
@@ -259,7 +260,7 @@ module _ (t : Target) (h : HasNames t) where
       source = subst (NamesOf t) (sym shape.from_is) (named_own t.log t.naming (source_of t) (source_own t h))
 
       moved : NamesOf t job.part × NamesOf t job.to
-      moved = (each_end (Asks (NamesOf t)) (clearing job) (entry.Renames job.part job.to ∷ rest) a).0
+      moved = (each_last (Asks (NamesOf t)) (clearing job) (entry.Renames job.part job.to ∷ rest) a).0
 
       made : Bool → List Entry
       made c = entry.Makes job.part job.mode ∷ entry.Reads job.from 0 [] ∷ entry.Appends job.part [] ∷ entry.SyncsFile job.part ∷ entry.Renames job.part job.to ∷ entry.SyncsDir job.dir ∷ cond c (entry.Truncates job.from ∷ []) []
@@ -291,7 +292,7 @@ module _ (t : Target) (h : HasNames t) where
   -- so do the read of the final path and the removals behind it
   pub back_asks : Each (Asks (NamesOf t)) (back_calls t)
   back_asks = each_append (Asks (NamesOf t)) (letting_calls t.job t.aside) (removing_calls t) own_way_asks.letting
-      (own_way_asks.target, each_end (Asks (NamesOf t)) (transfer_of t.ready t.job t.aside) (unlinks t.ready.retire) behind_moves)
+      (own_way_asks.target, each_last (Asks (NamesOf t)) (transfer_of t.ready t.job t.aside) (unlinks t.ready.retire) behind_moves)
 
   -- the calls before the scripts may make a directory besides
   front_ask : Each (AsksFor (NamesOf t)) (front_calls t)
@@ -439,7 +440,7 @@ saw_dir path None d left = absurd d
 saw_dir path (Some seen) d left = ever_says {e = entry.Look path (Some seen)} {e' = entry.SyncsDir path} left (λ ts w. (subst (IsIn (entry.Look path (Some seen))) (sym w) (inl refl), ap (filter is_naming) w)) (λ w fits. seen_dir (world w) (names (world w) path) seen fits d)
 
 there_already : (path : Path) (n : Names) (es : List Entry) → IsDirectoryAt n path → FitCalls (put n path thing.Directory) es → FitCalls n es
-there_already path n es is fit = fit_like Anywhere (put n path thing.Directory) n es (each_anywhere es) (λ y i. go y (bytes_eq path y) refl) fit
+there_already path n es is fit = fit_like IsAny (put n path thing.Directory) n es (each_anywhere es) (λ y i. go y (bytes_eq path y) refl) fit
   where
     go : (y : Path) (b : Bool) → bytes_eq path y ≡ b → IsLike (cond b thing.Directory (n y)) (n y)
     go y true e = ap n (sym ((bytes_eq-Decides path y).0 e)) ∙ is

@@ -12,7 +12,7 @@ use Rattle.lr_host.specs.declared.entry.Entry.TheVariants as entry
 use Rattle.lr_host.specs.Lists.{IsIn}
 use Rattle.lr_host.specs.Steps.{is_change}
 use Rattle.lr_host.specs.Told.{Each}
-use Rattle.lr_host.proofs.Each.{each_as, each_first}
+use Rattle.lr_host.proofs.Each.{each_as, each_first, each_last}
 use Rattle.lr_host.proofs.Lists.{in_front, in_back}
 use Rattle.lr_scripts.specs.declared.command.Command.{Command}
 use Rattle.lr_scripts.specs.declared.removal.Removal.{Removal}
@@ -33,7 +33,7 @@ use Rattle.lr_laws_acts.specs.Parts.{change_of, changes_by, IsPlainStep, ArePlai
 use Rattle.lr_laws_acts.specs.Planned.{bare_removal, IsReadyFor, AreReadyFor, HaveLogs}
 use Rattle.lr_laws_acts.proofs.Guarded.{has_front, has_back, has_on, IsGuarded, AreGuarded, EachGuarded, IsGuardedSet, AreGuardedSets, sets_guarded}
 use Rattle.lr_laws_acts.proofs.Halves.{front_of, back_of, halves}
-use Rattle.lr_laws_acts.proofs.Planning.{dir_is, each_every, front_is, back_is, front_plain, back_plain, each_end}
+use Rattle.lr_laws_acts.proofs.Planning.{dir_is, each_every, front_is, back_is, front_plain, back_plain}
 
 -- ---- steps of one log
 
@@ -57,7 +57,7 @@ front_turns : (t : Target) (log : LogPlan) → IsReadyFor t log → Each (IsTurn
 front_turns t log r = subst (Each (IsTurnOf t)) (sym (front_is t log r)) (each_first (IsTurnOf t) (front_of t) (back_of t) (subst (Each (IsTurnOf t)) (sym (halves t)) (all_turns t)))
 
 back_turns : (t : Target) (log : LogPlan) → IsReadyFor t log → Each (IsTurnOf t) (changes_by (retirement log))
-back_turns t log r = subst (Each (IsTurnOf t)) (sym (back_is t log r)) (each_end (IsTurnOf t) (front_of t) (back_of t) (subst (Each (IsTurnOf t)) (sym (halves t)) (all_turns t)))
+back_turns t log r = subst (Each (IsTurnOf t)) (sym (back_is t log r)) (each_last (IsTurnOf t) (front_of t) (back_of t) (subst (Each (IsTurnOf t)) (sym (halves t)) (all_turns t)))
 
 -- the marks tell of the directory that the rotation makes, if any
 abbrev TellsDir : Target → List Mark → Type 0
@@ -87,7 +87,7 @@ module _ (P : Allowed) (allows : AllowsMore P) where
       plain_as (AlsoDoes t) (P marks) s (λ e also. f marks (λ m i. i) e (inr also)) plain.0,
       each_as (IsTurnOf t) (P marks) (change_of s) (λ e i. f marks (λ m i. i) e (inl i)) (each_first (IsTurnOf t) (change_of s) (changes_by ss) turns),
     ),
-    all_guarded t ss (marks ++ marks_of s) plain.1 (each_end (IsTurnOf t) (change_of s) (changes_by ss) turns) (λ more has e o. f more (has_on more (marks ++ marks_of s) marks has (has_front marks (marks_of s))) e o),
+    all_guarded t ss (marks ++ marks_of s) plain.1 (each_last (IsTurnOf t) (change_of s) (changes_by ss) turns) (λ more has e o. f more (has_on more (marks ++ marks_of s) marks has (has_front marks (marks_of s))) e o),
   )
 
   module _ (t : Target) (log : LogPlan) (r : IsReadyFor t log) (a : AllowsLog P t) where

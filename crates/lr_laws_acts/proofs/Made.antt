@@ -5,11 +5,11 @@ use Rattle.lr_rules.specs.declared.path.Path.{Path}
 use Rattle.lr_host.specs.declared.entry.Entry.{Entry}
 use Rattle.lr_host.specs.declared.entry.Entry.TheVariants as entry
 use Rattle.lr_host.specs.Told.{Each, Then}
+use Rattle.lr_host.proofs.Each.{each_last}
 use Rattle.lr_copy.specs.declared.job.Job.{Job}
 use Rattle.lr_copy.specs.Copying.{clearing}
 use Rattle.lr_copy.specs.Stops.{EmptiesNone}
 use Rattle.lr_copy.proofs.EachOfBytes.{each_all, each_broke}
-use Rattle.lr_laws.proofs.Lists.{each_last}
 use Rattle.lr_laws_family.specs.Whole.{Named}
 use Rattle.lr_plan.specs.declared.mark.Mark.{Mark}
 use Rattle.lr_plan.specs.declared.step.Step.{Step}

@@ -11,7 +11,7 @@ use Rattle.lr_host.specs.declared.entry.Entry.{Entry}
 use Rattle.lr_host.specs.declared.entry.Entry.TheVariants as entry
 use Rattle.lr_host.specs.Lists.{IsIn}
 use Rattle.lr_host.specs.Told.{Each}
-use Rattle.lr_host.proofs.Each.{each_append, each_first}
+use Rattle.lr_host.proofs.Each.{each_append, each_first, each_last}
 use Rattle.lr_host.proofs.Lists.{in_append}
 use Rattle.lr_scripts.specs.declared.command.Command.{Command}
 use Rattle.lr_scripts.specs.declared.removal.Removal.{Removal}
@@ -413,11 +413,6 @@ anything (t ∷ ts) = (λ e also. tt, anything ts)
 
 -- ---- seen from one log
 
--- what holds of each of both lists holds of each of the second
-pub each_end : (P : Entry → Type 0) (xs ys : List Entry) → Each P (xs ++ ys) → Each P ys
-each_end P [] ys a = a
-each_end P (x ∷ xs) ys a = each_end P xs ys a.1
-
 -- P holds of all steps of these logs
 abbrev pub AllLogs : (Entry → Type 0) → List Target → Type 0
 AllLogs P [] = Unit {0}
@@ -436,7 +431,7 @@ in_front : (P : Entry → Type 0) (t : Target) → Each P (target_entries t) →
 in_front P t a = each_first P (front_of t) (back_of t) (subst (Each P) (sym (halves t)) a)
 
 in_back : (P : Entry → Type 0) (t : Target) → Each P (target_entries t) → Each P (back_of t)
-in_back P t a = each_end P (front_of t) (back_of t) (subst (Each P) (sym (halves t)) a)
+in_back P t a = each_last P (front_of t) (back_of t) (subst (Each P) (sym (halves t)) a)
 
 flat_fronts : (P : Entry → Type 0) (ts : List Target) → AllLogs P ts → Each P (flat_map front_of ts)
 flat_fronts P [] a = tt

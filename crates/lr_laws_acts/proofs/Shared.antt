@@ -9,7 +9,7 @@ use Rattle.lr_host.specs.declared.journal.Journal.{Journal}
 use Rattle.lr_host.specs.Lists.{IsIn}
 use Rattle.lr_host.specs.Told.{Each, Left}
 use Rattle.lr_host.specs.Steps.{is_naming}
-use Rattle.lr_host.proofs.Each.{each_append, each_first}
+use Rattle.lr_host.proofs.Each.{each_append, each_first, each_last}
 use Rattle.lr_host.proofs.Left.{left_first, left_then}
 use Rattle.lr_plan.specs.declared.plan.LogPlan.{LogPlan}
 use Rattle.lr_plan.specs.declared.plan.SetPlan.{SetPlan}
@@ -26,7 +26,7 @@ use Rattle.lr_laws_acts.specs.Parts.{takes_name, change_of, changes_by, ArePlain
 use Rattle.lr_laws_acts.specs.Planned.{IsReadyFor, AreReadyFor}
 use Rattle.lr_laws_acts.proofs.Parting.{went_changes, went_only, joined_changes}
 use Rattle.lr_laws_acts.proofs.Halves.{front_of, back_of, halves, back_calls}
-use Rattle.lr_laws_acts.proofs.Planning.{front_is, back_is, front_plain, back_plain, program_none, program_plain, each_end}
+use Rattle.lr_laws_acts.proofs.Planning.{front_is, back_is, front_plain, back_plain, program_none, program_plain}
 use Rattle.lr_laws_acts.proofs.Fits.{Avoids, NamesOf, AllSucceed, Asks, asks_for, Never, none_named, naming_avoids, made_far, can_far, front_then, back_can, back_asks, rotation_far, fit_later, program_can, unchanged}
 
 -- ---- one list behind another
@@ -63,7 +63,7 @@ back_left : (o m : Option Journal) (t : Target) → IsFit o t → CanCalls m (ba
 back_left o m t fit can = record {
   names = fit.names;
   asks = back_asks t fit.names;
-  far_from = λ x apart. each_end (Avoids (NamesOf x)) (front_of t) (back_of t) (subst (Each (Avoids (NamesOf x))) (sym (halves t)) (rotation_far x t fit apart));
+  far_from = λ x apart. each_last (Avoids (NamesOf x)) (front_of t) (back_of t) (subst (Each (Avoids (NamesOf x))) (sym (halves t)) (rotation_far x t fit apart));
   fits = can;
 }
 

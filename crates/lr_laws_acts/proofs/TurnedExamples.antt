@@ -2,6 +2,7 @@
 use Rattle.std.proofs.Common.{◌≡◌, refl, subst, arith, List}
 use Rattle.lr_rules.specs.declared.path.Path.{Path}
 use Rattle.lr_rules.specs.declared.rule.Naming.{Naming}
+use Rattle.lr_rules.proofs.Beside.{beside_other}
 use Rattle.lr_host.specs.declared.thing.Thing.TheVariants as thing
 use Rattle.lr_host.specs.Opening.{IsJournal}
 use Rattle.lr_host.specs.World.{Opens, world, names}
@@ -12,7 +13,6 @@ use Rattle.lr_laws_family.specs.CopiesWorked.{job}
 use Rattle.lr_laws_family.proofs.CopiesExamples.{name_journal, paths}
 use Rattle.lr_laws_family.specs.Rotation.{Rotation, By, Copy, Aside as SetsAside}
 use Rattle.lr_laws_family.specs.Turned.{IsCopied, IsSetAside, IsBrought, IsTurned}
-use Rattle.lr_laws_rotations.proofs.Waiting.{beside_other}
 use Rattle.lr_laws_acts.specs.TurnedWorked.{unlinked, aside, left_aside}
 
 -- ---- unlinked

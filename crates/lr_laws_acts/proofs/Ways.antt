@@ -3,6 +3,7 @@ use Rattle.std.proofs.Common.{◌≡◌, ◌≢◌, inl, inr, false, refl, sym, 
 use Rattle.lr_rules.specs.declared.clock.Clock.{Clock}
 use Rattle.lr_rules.specs.declared.path.Path.{Path}
 use Rattle.lr_rules.specs.declared.rules.Rules.{Rules}
+use Rattle.lr_rules.proofs.Beside.{beside_other}
 use Rattle.lr_host.specs.declared.entry.Entry.{Entry}
 use Rattle.lr_host.specs.declared.entry.Entry.TheVariants.{Renames, Unlinks}
 use Rattle.lr_copy.specs.declared.job.Job.{Job}
@@ -14,7 +15,6 @@ use Rattle.lr_laws_rotations.specs.Seen.{IsLogSeen}
 use Rattle.lr_laws_rotations.specs.Target.{Target, source_by, source_of, HasWay, IsTargetAside, target_entries}
 use Rattle.lr_laws_rotations.proofs.CallsFit.{log_paths}
 use Rattle.lr_laws_rotations.proofs.Rotating.{by_both}
-use Rattle.lr_laws_rotations.proofs.Waiting.{beside_other}
 use Rattle.lr_laws_rotations.proofs.Way.{has_way}
 
 one_job : (o : Option Job) (a b : Job) → o ≡ Some a → o ≡ Some b → a ≡ b

@@ -3,9 +3,9 @@ use Rattle.std.proofs.Common.{◌≡◌, ◌≢◌, Bool, true, false, cond, ref
 use Rattle.std.specs.Prelude.{filter}
 use Rattle.lr_host.specs.declared.entry.Entry.{Entry}
 use Rattle.lr_host.specs.Told.{Each}
-use Rattle.lr_laws.proofs.Lists.{each_last}
 use Rattle.lr_laws_family.specs.Weave.{Weave, none, own, other}
 use Rattle.lr_rules.proofs.Heads.{heads, tails}
+use Rattle.lr_host.proofs.Each.{each_last}
 use Rattle.lr_laws_family.proofs.Splitting.{weave_each}
 
 -- ---- an entry that stands once
@@ -29,14 +29,6 @@ all_other r [] f = tt
 all_other r (x ∷ xs) f = (λ same. f [] xs (ap (λ y. y ∷ xs) same), all_other r xs (λ fs bs e. f (x ∷ fs) bs (ap (λ ys. x ∷ ys) e)))
 
 -- ---- some of them
-
-pub each_filter : (Q : Entry → Type 0) (f : Entry → Bool) (xs : List Entry) → Each Q xs → Each Q (filter f xs)
-each_filter Q f [] a = tt
-each_filter Q f (x ∷ xs) a = go (each_filter Q f xs a.1) (f x)
-  where
-    go : Each Q (filter f xs) → (b : Bool) → Each Q (cond b (x ∷ filter f xs) (filter f xs))
-    go rest true = (a.0, rest)
-    go rest false = rest
 
 -- an entry that passes stands among those that pass
 pub other_unfiltered : (r : Entry) (f : Entry → Bool) (xs : List Entry) → f r ≡ true → Each (IsOther r) (filter f xs) → Each (IsOther r) xs

@@ -19,6 +19,7 @@ use Rattle.lr_laws.proofs.PlainStamps.{field_some, middle_plain}
 use Rattle.lr_family.specs.Kin.{IsKin, is_barred}
 use Rattle.lr_laws_family.specs.Members.{IsNoMember}
 use Rattle.lr_rules.specs.declared.rule.Rule.{Rule}
+use Rattle.lr_host.proofs.Reading.{some_long}
 
 -- ---- shapes of stamps
 
@@ -57,10 +58,6 @@ middle_some f w good (inl h) = shape_some f.pieces w (pieces_some f good) h
 middle_some f w good (inr h) = shape_some (f.pieces ++ number_pieces) w (more_some f.pieces number_pieces (pieces_some f good)) h.1
 
 -- ---- lengths
-
-pub some_long : (xs : List ℕ) → is_empty xs ≡ false → 0 < length xs
-some_long [] h = absurd (cc h)
-some_long (x ∷ xs) h = omega arith
 
 -- a base and an extension together are as long as the log's name, or longer
 pub base_long : (ext name : List ℕ) → length name ≤ length (base_of ext name) + length ext

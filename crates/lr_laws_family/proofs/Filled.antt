@@ -1,5 +1,5 @@
 -- The part file, while it gets the bytes of the log.
-use Rattle.std.proofs.Common.{◌≡◌, ◌≢◌, ⊎_elim, ◌≤◌, ◌+◌, ℕ, Bool, true, cond, nat_eq, refl, sym, ◌∙◌, ap, subst, arith, List, [], ◌∷◌, ◌++◌, take, drop, length, reverse, append_assoc, append-nil}
+use Rattle.std.proofs.Common.{◌≡◌, ◌≢◌, ⊎_elim, ◌≤◌, ◌+◌, ℕ, Bool, cond, refl, sym, ◌∙◌, ap, subst, arith, List, [], ◌∷◌, ◌++◌, take, drop, length, reverse, append_assoc, append-nil}
 use Rattle.std.proofs.Math.Seq.{drop-append_seam}
 use Rattle.std.proofs.lemmas.List.{take-append-drop, length-append}
 use Rattle.lr_rules.specs.declared.path.Path.{Path}
@@ -15,6 +15,7 @@ use Rattle.lr_host.specs.Told.{Made, at_first, by_tool}
 use Rattle.lr_host.specs.World.{Past, ◌▸◌, world, names}
 use Rattle.lr_host.proofs.Made.{made_journal}
 use Rattle.lr_host.proofs.Names.{put_cases, put_here}
+use Rattle.lr_host.proofs.Places.{eq_same}
 use Rattle.lr_copy.specs.Bytes.{Copying, none_read, read_more, took_more}
 use Rattle.lr_laws.proofs.Lists.{at}
 use Rattle.lr_laws.proofs.Parts.{named_drawn, held_drawn, IsOwn, own_append, own_waits, own_walk}
@@ -29,9 +30,6 @@ pub record IsSoFar (from part : Path) (g h : ℕ) (bytes owed : List ℕ) (p : P
   pub same : taken ++ owed ≡ bytes
   pub own : IsOwn part h taken p
 
-same_eq : (n : ℕ) → nat_eq n n ≡ true
-same_eq n = grind arith
-
 -- a file that was just made
 pub made_own : (p : Past) (x : Path) (mode : _) → IsJournal p → IsOwn x (world p).drawn [] (p ▸ entry.Makes x mode)
 made_own p x mode j = record {
@@ -45,7 +43,7 @@ made_own p x mode j = record {
 }
   where
     made_empty : ((world (p ▸ entry.Makes x mode)).files (world p).drawn).bytes ≡ []
-    made_empty = ap (λ (b : Bool). cond b [] ((world p).files (world p).drawn).bytes) (same_eq (world p).drawn)
+    made_empty = ap (λ (b : Bool). cond b [] ((world p).files (world p).drawn).bytes) (eq_same (world p).drawn)
 
 -- what a read gives of bytes that were read up to there
 read_rest : (bytes rest piece all : List ℕ) → all ≡ bytes ++ rest → IsPiece all (length bytes) piece → rest ≡ piece ++ drop (length piece) rest

@@ -9,10 +9,9 @@ use Rattle.lr_host.specs.Lists.{IsIn}
 use Rattle.lr_host.specs.Opening.{IsJournal}
 use Rattle.lr_host.specs.Told.{Each, IsTools, IsWriters, Made, at_first, by_writer, by_tool}
 use Rattle.lr_host.specs.World.{Past, ◌▸◌, world, names, making, makes, is_file, holds_file}
-use Rattle.lr_host.proofs.Looked.{nothing_no_file}
+use Rattle.lr_host.proofs.Looked.{nothing_no_file, is_file_true}
 use Rattle.lr_host.proofs.Made.{made_journal}
 use Rattle.lr_host.proofs.More.{attach_names}
-use Rattle.lr_laws.proofs.Sound.{is_file_true}
 use Rattle.lr_laws.specs.StateWhole.{renamed_paths}
 use Rattle.lr_laws.proofs.Files.{LeavesFile}
 use Rattle.lr_laws.proofs.Parts.{named_drawn, named_once}

@@ -8,7 +8,8 @@ use Rattle.lr_host.specs.Safe.{IsPrefix, shorter}
 use Rattle.lr_host.specs.Told.{Each, Made, at_first, by_writer, by_tool, IsWriters}
 use Rattle.lr_host.specs.World.{Past, ◌▸◌, world}
 use Rattle.lr_host.proofs.Quiet.{size}
-use Rattle.lr_laws.proofs.Lists.{IsOnWay, on_way, prefix_size, each_last}
+use Rattle.lr_host.proofs.Each.{each_last}
+use Rattle.lr_laws.proofs.Lists.{IsOnWay, on_way, prefix_size}
 use Rattle.lr_laws_family.specs.Whole.{IsUnread}
 
 -- the entry is the last of these

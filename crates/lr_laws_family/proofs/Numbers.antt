@@ -11,6 +11,7 @@ use Rattle.lr_rules.specs.declared.rule.Count.{Count}
 use Rattle.lr_rules.specs.declared.rule.Count.TheVariants as count
 use Rattle.lr_rules.specs.declared.rule.Format.{Format}
 use Rattle.lr_rules.specs.declared.rule.Naming.{Naming}
+use Rattle.lr_rules.proofs.Bools.{not_both}
 use Rattle.lr_host.specs.declared.thing.Thing.{Thing}
 use Rattle.lr_host.specs.declared.thing.Thing.TheVariants as thing
 use Rattle.lr_host.specs.declared.entry.Entry.{Entry}
@@ -171,9 +172,6 @@ left_on : (c : Count) (k : ℕ) → is_left c k ≡ true → is_left c (suc k) �
 left_on (count.Keep t) k e = grind (arith, nat_tests)
 left_on count.Always k e = absurd (cc)
 
-clash_bool : (b : Bool) → b ≡ true → b ≡ false → ⊥
-clash_bool b p q = cc
-
 module _ (n : Naming) (c : Count) (from : List ℕ) (members : List Member) (log source : Path) (by : By) (family : IsFamily log n) (none : n.dated ≡ None) (no_source : IsNoMember n source) (named : AreNamed n members) (next : HaveNextNames n c (places_of members)) (going : AreGoing c (places_of members) from) where
   abbrev places : List ℕ
   places = places_of members
@@ -226,9 +224,9 @@ module _ (n : Naming) (c : Count) (from : List ℕ) (members : List Member) (log
         go true a false b l d t e = refl
         go false a true b true d true e = refl
         go false a true b true d false e = empty e
-        go false a true b false d true e = absurd (clash_bool (has k from) (has_it k from (going.full k (it_has k places e) d b)) a)
+        go false a true b false d true e = absurd (not_both (has k from) (has_it k from (going.full k (it_has k places e) d b)) a)
         go false a true b false d false e = empty e
-        go false a false b true d t e = absurd (clash_bool (is_left c (suc k)) (left_on c k d) b)
+        go false a false b true d t e = absurd (not_both (is_left c (suc k)) (left_on c k d) b)
         go false a false b false d t e = refl
 
     -- what a rotation by places makes of members, by their paths

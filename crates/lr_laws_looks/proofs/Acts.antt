@@ -13,8 +13,9 @@ use Rattle.lr_host.specs.Told.{Each}
 use Rattle.lr_host.specs.World.{Past, ◌▸◌, World, world, Names, names, put}
 use Rattle.lr_host.proofs.Each.{each_as}
 use Rattle.lr_host.proofs.Looked.{nothing_no_dir, file_no_dir}
-use Rattle.lr_host.proofs.More.{directory_more, file_more, not_more}
+use Rattle.lr_host.proofs.More.{not_more}
 use Rattle.lr_host.proofs.Names.{put_other}
+use Rattle.lr_host.proofs.Stays.{Stays}
 use Rattle.lr_laws.specs.Follow.{changed_paths}
 use Rattle.lr_plan.specs.declared.mark.Mark.{Mark}
 use Rattle.lr_plan.specs.declared.step.SetSteps.{SetSteps}
@@ -27,7 +28,7 @@ use Rattle.lr_laws_rotations.proofs.Own.{any_change}
 use Rattle.lr_laws_acts.specs.Parts.{ArePlanned}
 use Rattle.lr_laws_acts.proofs.Parting.{done_some}
 use Rattle.lr_laws_looks.specs.Free.{AreFreeOf}
-use Rattle.lr_laws_looks.proofs.Lasting.{Stays, IsKeptBy}
+use Rattle.lr_laws_looks.proofs.Lasting.{IsKeptBy}
 
 -- a rename, an unlink, the making, filling or emptying of a file, or the making of a directory, at other paths than these
 abbrev pub Spares : List Path → Entry → Type 0
@@ -76,16 +77,8 @@ no_directory w (Truncates x) y t f d (inl is) = file_no_dir (names w x) f.0 f.1 
 no_directory w (Truncates x) y t f d (inr none) = none
 no_directory w _ y t f d i = absurd t
 
--- a directory stands
-pub dir_stays : (y : Path) → Stays (λ n. IsDirectoryAt n y)
-dir_stays y n n' more d = directory_more n n' y more d
-
 pub dir_kept : (reserved : List Path) (y : Path) → IsKeptBy (Spares reserved) (λ n. IsDirectoryAt n y)
 dir_kept reserved y q e s f d = same_name q e y s.0 (no_directory (world q) e y s.0 f d) ∙ d
-
--- a file stands at a reserved path
-pub file_stays : (y : Path) → Stays (λ n. IsFileAt n y)
-file_stays y n n' more f = file_more n n' y more f
 
 pub file_kept : (reserved : List Path) (y : Path) → IsIn y reserved → IsKeptBy (Spares reserved) (λ n. IsFileAt n y)
 file_kept reserved y i q e s f h = (h.0, same_name q e y s.0 (λ changed. s.1 y changed i) ∙ h.1)

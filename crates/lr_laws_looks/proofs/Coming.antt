@@ -14,7 +14,7 @@ use Rattle.lr_host.specs.declared.thing.Kind.{Kind}
 use Rattle.lr_host.specs.declared.thing.Kind.TheVariants as kind
 use Rattle.lr_host.specs.Listing.{is_file_kind}
 use Rattle.lr_host.specs.Lists.{IsIn}
-use Rattle.lr_host.proofs.Lists.{in_map, in_unmap, in_front, in_back, in_append}
+use Rattle.lr_host.proofs.Lists.{in_map, in_unmap, in_front, in_back, in_append, of_flat}
 use Rattle.lr_glob.specs.declared.found.Found.{Found as Match}
 use Rattle.lr_glob.specs.Words.{Comes as WordComes}
 use Rattle.lr_kept.specs.declared.choice.Choice.{Choice}
@@ -34,7 +34,6 @@ use Rattle.lr_looks.specs.Sights.{WordSight, found_at, found_by, found_of, Shows
 use Rattle.lr_laws_rotations.specs.Target.{Target}
 use Rattle.lr_laws_family.specs.Weave.{Among}
 use Rattle.lr_laws_looks.specs.Targets.{target_of, where_free, targets_of, all_targets}
-use Rattle.lr_laws_looks.proofs.Elements.{in_flat}
 
 -- ---- a look of the plan
 
@@ -56,7 +55,7 @@ pub record IsOfLook (clock : Clock) (rule : Rule) (looks : List LogLook) (t : Ta
 
 pub of_look : (clock : Clock) (rule : Rule) (decide : LogLook → Due) (looks : List LogLook) (t : Target) → IsIn t (targets_of clock rule decide looks) → IsOfLook clock rule looks t
 of_look clock rule decide looks t i =
-    let r = in_flat (λ (look : LogLook). where_due (decide look) (where_free (hindrances clock rule look) (target_of clock rule look))) looks t i in
+    let r = of_flat (λ (look : LogLook). where_due (decide look) (where_free (hindrances clock rule look) (target_of clock rule look))) looks t i in
     let f = in_free (hindrances clock rule r.0) (target_of clock rule r.0) t (in_due (decide r.0) (where_free (hindrances clock rule r.0) (target_of clock rule r.0)) t r.2) in
     record { look = r.0; among = r.1; free = f.0; is = f.1 }
 
@@ -95,7 +94,7 @@ in_where k l x h = go (eqb k l.set) h
     go false none = absurd none
 
 pub in_set : (k : ℕ) (logs : List LookedLog) (x : LookedLog) → IsIn x (of_set k logs) → IsIn x logs
-in_set k logs x h = let r = in_flat (where_in k) logs x h in subst (λ (y : LookedLog). IsIn y logs) (in_where k r.0 x r.2) r.1
+in_set k logs x h = let r = of_flat (where_in k) logs x h in subst (λ (y : LookedLog). IsIn y logs) (in_where k r.0 x r.2) r.1
 
 -- the looks of the definition at a place are the logs of it that were looked at whole
 pub at_set : (k j : ℕ) (logs : List LookedLog) (sets : List SetLooks) (set : SetLooks) → HaveLooksFrom k logs sets → slice_get sets j ≡ Some set → map (looked_in (k + j)) set.logs ≡ of_set (k + j) logs
@@ -142,7 +141,7 @@ in_file f g h = go (is_file_kind f.seen.kind) refl h
 
 pub in_files : (fs : List FoundLog) (g : FoundLog) → IsIn g (flat_map where_file fs) → IsIn g fs × (g.seen.kind ≡ kind.File)
 in_files fs g h =
-    let r = in_flat where_file fs g h in
+    let r = of_flat where_file fs g h in
     let f = in_file r.0 g r.2 in
     (subst (λ (x : FoundLog). IsIn x fs) f.0 r.1, subst (λ (x : FoundLog). x.seen.kind ≡ kind.File) f.0 f.1)
 

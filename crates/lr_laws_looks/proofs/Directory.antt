@@ -6,7 +6,8 @@ use Rattle.lr_rules.specs.declared.rule.Naming.{Naming}
 use Rattle.lr_rules.specs.Limits.{is_format, or_none}
 use Rattle.lr_rules.specs.Match.{part_end}
 use Rattle.lr_rules.specs.Names.{aside_path, IsMiddleShape, IsMemberShape, IsOwnName, the_log, set_aside, a_member, a_part}
-use Rattle.lr_laws_family.proofs.DatedNames.{middle_some, some_long}
+use Rattle.lr_host.proofs.Reading.{some_long}
+use Rattle.lr_laws_family.proofs.DatedNames.{middle_some}
 use Rattle.lr_laws_rotations.proofs.PartFile.{joined_no_dir}
 
 -- ---- what has the shape of a member has a name

@@ -1,8 +1,8 @@
 -- Elements of lists, and pairs of them.
-use Rattle.std.proofs.Common.{◌≡◌, ◌⊎◌, inl, inr, ⊎_elim, ℕ, zero, suc, List, [], ◌∷◌, ◌++◌, map, Some, slice_get, refl, sym, ap, ◌∙◌, subst}
+use Rattle.std.proofs.Common.{◌≡◌, ◌⊎◌, inl, inr, ℕ, zero, suc, List, [], ◌∷◌, ◌++◌, map, Some, slice_get, refl, sym, ap, ◌∙◌, subst}
 use Rattle.std.specs.List.{flat_map, AllByRecursion}
 use Rattle.lr_host.specs.Lists.{IsIn}
-use Rattle.lr_host.proofs.Lists.{in_append}
+use Rattle.lr_host.proofs.Lists.{of_flat}
 
 -- ---- places
 
@@ -26,10 +26,6 @@ unmap_at f (x ∷ xs) zero y h = (x, refl, cc)
 unmap_at f (x ∷ xs) (suc k) y h = unmap_at f xs k y h
 
 -- ---- lists of lists
-
-pub in_flat : {A B : Type 0} (f : A → List B) (xs : List A) (y : B) → IsIn y (flat_map f xs) → (x : A) × IsIn x xs × IsIn y (f x)
-in_flat f [] y h = absurd h
-in_flat f (x ∷ xs) y h = ⊎_elim (λ a. (x, inl refl, a)) (λ b. let r = in_flat f xs y b in (r.0, inr r.1, r.2)) (in_append y (f x) (flat_map f xs) h)
 
 -- ---- what holds of each
 
@@ -69,7 +65,7 @@ pairs_flat R S f [] one two p = tt
 pairs_flat R S f (x ∷ xs) one two p = pairs_both S (f x) (flat_map f xs) (one x) (pairs_flat R S f xs one two p.1) cross
   where
     cross : (a b : _) → IsIn a (f x) → IsIn b (flat_map f xs) → S a b
-    cross a b i j = let r = in_flat f xs b j in two x r.0 a b (in_each (R x) xs r.0 p.0 r.1) i r.2
+    cross a b i j = let r = of_flat f xs b j in two x r.0 a b (in_each (R x) xs r.0 p.0 r.1) i r.2
 
 -- two elements are one, or the one is later than the other
 pub pairs_two : {A : Type 0} (R : A → A → Type 0) (xs : List A) → Pairs R xs → (x y : A) → IsIn x xs → IsIn y xs → (x ≡ y) ⊎ (R x y ⊎ R y x)

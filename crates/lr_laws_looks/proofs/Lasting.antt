@@ -13,14 +13,10 @@ use Rattle.lr_host.specs.Told.{Each, Made, at_first, by_writer, by_tool, Left, n
 use Rattle.lr_host.specs.World.{Past, ◌▸◌, past, world, Names, names}
 use Rattle.lr_host.proofs.Each.{each_reverse, filter_reverse}
 use Rattle.lr_host.proofs.Lists.{from_reverse}
-use Rattle.lr_host.proofs.Made.{made_journal}
-use Rattle.lr_host.proofs.More.{IsMore, wrote_names}
+use Rattle.lr_host.proofs.More.{wrote_names}
 use Rattle.lr_host.proofs.Quiet.{IsAny, since_any, looked_names, moment, no_disk_change, quiet_changes, quiet_more, quiet_still, still_in_order}
+use Rattle.lr_host.proofs.Stays.{Stays}
 use Rattle.lr_laws_acts.proofs.Seen.{quiet_disk}
-
--- A fact of names that stays where writers make files.
-abbrev pub Stays : (Names → Type 0) → Type 0
-Stays Q = (n n' : Names) → IsMore n n' → Q n → Q n'
 
 -- the fact is so where the journal is told
 abbrev pub Holds : (Names → Type 0) → Option Journal → Type 0
@@ -54,11 +50,6 @@ pub record Says (Q : Names → Type 0) (ts : List Entry) : Type 0 where
   pub entry : Entry
   pub among : IsIn entry ts
   pub so : (w : Past) → IsJournal w → Fits (world w) entry → Q (names (world w))
-
--- a disk goes on as one
-pub disk_on : {P : List Entry → Type 0} {o n : Option Journal} → Left P o n → WhereTold o IsJournal → WhereTold n IsJournal
-disk_on not_told h = tt
-disk_on (is_told {j = j} {k = k} {es = es} m p) h = made_journal (past j) (past k) es m h
 
 -- what one of quiet entries says is so behind them
 pub said : (Q : Names → Type 0) {P : List Entry → Type 0} {o n : Option Journal} → Stays Q → WhereTold o IsJournal → Left P o n → ((ts : List Entry) → P ts → AreQuiet ts) → ((ts : List Entry) → P ts → Says Q ts) → Holds Q n

@@ -6,6 +6,7 @@ use Rattle.std.proofs.lemmas.Bool.{or_parts}
 use Rattle.std.proofs.lemmas.List.{append-nil}
 use Rattle.lr_rules.specs.Match.{Matches, PathMatches, is_wildcard}
 use Rattle.lr_rules.specs.Path.{is_slash, is_absolute}
+use Rattle.lr_rules.proofs.Cleaned.{ArePlain}
 use Rattle.lr_glob.specs.Parts.{parts_in}
 use Rattle.lr_glob.proofs.Names.{behind}
 
@@ -14,10 +15,6 @@ abbrev pub Pairs : List (List ℕ) → List (List ℕ) → Type 0
 Pairs [] [] = Unit {0}
 Pairs (part ∷ parts) (name ∷ names) = (list_any is_slash part ≡ false) × Matches true (chars part) (chars name) × Pairs parts names
 Pairs _ _ = ⊥
-
-abbrev ArePlain : List (List ℕ) → Type 0
-ArePlain [] = Unit {0}
-ArePlain (p ∷ ps) = (list_any is_slash p ≡ false) × ArePlain ps
 
 split_front : (bs xs q : List ℕ) (qs : List (List ℕ)) → list_any is_slash bs ≡ false → slice_split is_slash xs ≡ q ∷ qs → slice_split is_slash (bs ++ xs) ≡ (bs ++ q) ∷ qs
 split_front [] xs q qs plain e = e

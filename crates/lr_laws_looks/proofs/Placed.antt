@@ -17,6 +17,8 @@ use Rattle.lr_host.specs.Opening.{IsJournal}
 use Rattle.lr_host.specs.Quiet.{AreQuiet}
 use Rattle.lr_host.specs.Told.{Left, not_told, is_told, Can, WhereTold}
 use Rattle.lr_host.specs.World.{past, world, Names, names}
+use Rattle.lr_host.proofs.Stays.{Stays, dir_more, file_more}
+use Rattle.lr_host.proofs.Known.{left_journal}
 use Rattle.lr_plan.specs.declared.looks.LogLook.{LogLook}
 use Rattle.lr_plan.specs.declared.looks.SetLooks.{SetLooks}
 use Rattle.lr_plan.specs.declared.mark.Mark.{Mark}
@@ -44,9 +46,9 @@ use Rattle.lr_laws_looks.proofs.Seen.{targets_seen, targets_have_names, targets_
 use Rattle.lr_writing.specs.Fits.{AreDirectories, StateHasPlace, IsThere, CanBegin}
 use Rattle.lr_writing.specs.Synced.{AreSynced}
 use Rattle.lr_laws_looks.specs.Looked.{LooksCameTo}
-use Rattle.lr_laws_looks.proofs.Acts.{Spares, acts_spare, IsFree, free_stays, free_kept, dir_stays, dir_kept, file_stays, file_kept}
+use Rattle.lr_laws_looks.proofs.Acts.{Spares, acts_spare, IsFree, free_stays, free_kept, dir_kept, file_kept}
 use Rattle.lr_laws_looks.proofs.Dirs.{IsDirOfLog, AreDirsOfLogs, dirs_of_logs}
-use Rattle.lr_laws_looks.proofs.Lasting.{Stays, Holds, IsKeptBy, disk_on, lasts, lasts_quiet, said}
+use Rattle.lr_laws_looks.proofs.Lasting.{Holds, IsKeptBy, lasts, lasts_quiet, said}
 use Rattle.lr_laws_looks.proofs.PlacedListed.{says_dir}
 use Rattle.lr_laws_looks.proofs.Reading.{reading_says_free, reading_says_part}
 
@@ -87,11 +89,11 @@ placed : AllAreFree → (state : Path) (size : ℕ) (r : Remembered) (rules : Ru
 placed free state size r rules sets clock mailer decide marks faults dirs before read looked acted us synced disk there reading looks shown acts = record {
   place = has_place state dirs acted
       (on (IsFree state) (free_stays state) (free_kept reserved state (inl refl)) (said (IsFree state) (free_stays state) disk reading quiet (reading_says_free state size r)))
-      (on (λ n. IsDirectoryAt n (parent_of state)) (dir_stays (parent_of state)) (dir_kept reserved (parent_of state)) (lasts_quiet (λ n. IsDirectoryAt n (parent_of state)) (dir_stays (parent_of state)) reading quiet there.can))
+      (on (λ n. IsDirectoryAt n (parent_of state)) (dir_more (parent_of state)) (dir_kept reserved (parent_of state)) (lasts_quiet (λ n. IsDirectoryAt n (parent_of state)) (dir_more (parent_of state)) reading quiet there.can))
       (λ dir i. let o = of_logs dir i in stands dir o.0 o.1 o.2);
   part = is_there (state_part state) r.stale acted (λ stale.
-      on (λ n. IsFileAt n (state_part state)) (file_stays (state_part state)) (file_kept reserved (state_part state) (inr (inl refl)))
-      (said (λ n. IsFileAt n (state_part state)) (file_stays (state_part state)) disk reading quiet (reading_says_part state size r stale)));
+      on (λ n. IsFileAt n (state_part state)) (file_more (state_part state)) (file_kept reserved (state_part state) (inr (inl refl)))
+      (said (λ n. IsFileAt n (state_part state)) (file_more (state_part state)) disk reading quiet (reading_says_part state size r stale)));
 }
   where
     reserved : List Path
@@ -126,7 +128,7 @@ placed free state size r rules sets clock mailer decide marks faults dirs before
     stands : (dir : Path) (t : Target) → IsIn t targets → IsDirOfLog t marks dir → Holds (λ n. IsDirectoryAt n dir) acted
     stands dir t i of = ⊎_elim
         (λ made. marked_stands (map steps_of_set (all_plans clock mailer decide rules.sets sets)) marks faults dir looked acted made acts)
-        (λ says. over_acts (λ n. IsDirectoryAt n dir) (dir_stays dir) (dir_kept reserved dir) (said (λ n. IsDirectoryAt n dir) (dir_stays dir) (disk_on reading disk) looks quiet_looks (λ ts s. says ts (seen t i ts s))))
+        (λ says. over_acts (λ n. IsDirectoryAt n dir) (dir_more dir) (dir_kept reserved dir) (said (λ n. IsDirectoryAt n dir) (dir_more dir) (left_journal reading disk) looks quiet_looks (λ ts s. says ts (seen t i ts s))))
         (says_dir rules clock us t marks dir (targets_have_paths rules.sets sets shown.0 us clock decide shown.1 t i) (seen t i us shown) of)
 
     on : (Q : Names → Type 0) → Stays Q → IsKeptBy (Spares reserved) Q → Holds Q read → Holds Q acted

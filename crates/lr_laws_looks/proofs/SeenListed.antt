@@ -13,7 +13,7 @@ use Rattle.lr_host.specs.Listing.{HasListed}
 use Rattle.lr_host.specs.Lists.{IsIn}
 use Rattle.lr_host.specs.Looks.{Sees, IsDir, is_dir, look_of}
 use Rattle.lr_host.specs.Told.{Then}
-use Rattle.lr_host.proofs.Lists.{in_map, in_front, in_back, in_append}
+use Rattle.lr_host.proofs.Lists.{in_map, in_front, in_back, in_append, of_flat}
 use Rattle.lr_family.specs.declared.listing.Listing.{Listing}
 use Rattle.lr_family.specs.declared.stand.Stand.{Stand}
 use Rattle.lr_family.specs.Among.{StandsAmong, ShowsMembers, ShowsIn}
@@ -23,7 +23,7 @@ use Rattle.lr_looks.specs.Families.{FamilySight, Stood, Stopped, ShowsFamily, be
 use Rattle.lr_looks.specs.Found.{FoundLog}
 use Rattle.lr_laws_family.specs.Shown.{SawDir, Shown}
 use Rattle.lr_laws_family.proofs.Shows.{members_shown}
-use Rattle.lr_laws_looks.proofs.Elements.{in_list, in_flat}
+use Rattle.lr_laws_looks.proofs.Elements.{in_list}
 
 -- ---- listings
 
@@ -204,7 +204,7 @@ part_of_sight path x (Some seen) i = go seen.kind refl i
 
 parts_shown : (all : List Entry) (n : Naming) (names : List (List ℕ)) (parts : List Path) (ts : List Entry) → ((e : Entry) → IsIn e ts → IsIn e all) → PartsAmong n names parts ts → SawFiles parts all
 parts_shown all n names parts ts in_all p x i =
-    let g = in_flat part_in p.sights x (subst (IsIn x) p.parts_are i) in
+    let g = of_flat part_in p.sights x (subst (IsIn x) p.parts_are i) in
     let s = part_of_sight g.0.path x g.0.seen g.2 in
     let e : entry.Look g.0.path g.0.seen ≡ entry.Look x (Some s.1.0) = ap (λ (y : Path). entry.Look y g.0.seen) s.0 ∙ ap (entry.Look x) s.1.2 in (
       s.1.0,

@@ -1,6 +1,5 @@
 -- What the entries tell of each family whose directory was listed: each member and each part file among its names was looked at.
 use Rattle.std.proofs.Common.{◌≡◌, ◌⊎◌, inl, inr, ⊎_elim, ℕ, Bool, true, false, bytes_eq, List, [], ◌∷◌, map, Option, Some, None, refl, sym, subst}
-use Rattle.std.specs.List.{flat_map}
 use Rattle.std.specs.List.Sorted.{IsPermutation}
 use Rattle.std.proofs.lemmas.List.Sorted.{Contains-permutation}
 use Rattle.std.proofs.lemmas.Slice.Eq.{bytes_eq-Decides}
@@ -12,7 +11,7 @@ use Rattle.lr_host.specs.declared.entry.Entry.{Entry}
 use Rattle.lr_host.specs.declared.entry.Entry.TheVariants as entry
 use Rattle.lr_host.specs.Lists.{IsIn}
 use Rattle.lr_host.specs.Looks.{IsFile, PathSight, look_of}
-use Rattle.lr_host.proofs.Lists.{in_from, in_map, in_front, in_back}
+use Rattle.lr_host.proofs.Lists.{in_from, in_map, to_flat}
 use Rattle.lr_family.specs.declared.listing.Listing.{Listing}
 use Rattle.lr_family.specs.declared.stand.Stand.{Stand}
 use Rattle.lr_family.specs.Parts.{IsMembersPart, part_if_file, part_seen, part_in, PartsAmong}
@@ -24,11 +23,6 @@ use Rattle.lr_looks.specs.Found.{FoundLog}
 use Rattle.lr_laws_looks.proofs.SeenListed.{all_told}
 
 -- ---- part files
-
-to_flat : {A B : Type 0} (f : A → List B) (xs : List A) (x : A) (y : B) → IsIn x xs → IsIn y (f x) → IsIn y (flat_map f xs)
-to_flat f [] x y i j = absurd i
-to_flat f (z ∷ zs) x y (inl e) j = in_front y (f z) (flat_map f zs) (subst (λ w. IsIn y (f w)) (sym e) j)
-to_flat f (z ∷ zs) x y (inr i) j = in_back y (f z) (flat_map f zs) (to_flat f zs x y i j)
 
 -- one of the sights is of the path, or none
 sight_or_none : (x : Path) (gs : List PathSight) → ((g : PathSight) × IsIn g gs × (g.path ≡ x)) ⊎ (IsIn x (map (λ (g : PathSight). g.path) gs) → ⊥)

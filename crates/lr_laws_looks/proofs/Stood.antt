@@ -20,7 +20,7 @@ use Rattle.lr_host.specs.Opening.{IsJournal}
 use Rattle.lr_host.specs.Quiet.{AreQuiet}
 use Rattle.lr_host.specs.Told.{Made}
 use Rattle.lr_host.specs.World.{Past, World, world, names}
-use Rattle.lr_host.proofs.Lists.{in_map, in_unmap, in_front, in_back, in_from, in_to, from_reverse}
+use Rattle.lr_host.proofs.Lists.{in_map, in_unmap, in_front, in_back, in_from, in_to, from_reverse, to_flat}
 use Rattle.lr_host.proofs.More.{IsMore, file_more, directory_more, not_more}
 use Rattle.lr_host.proofs.Quiet.{IsAny, moment, quiet_more, quiet_still, since_any, still_in_order}
 use Rattle.lr_match.proofs.Ends.{ends_tell}
@@ -47,11 +47,6 @@ gather_in : {X : Type 0} (P : X → List Path → Type 0) (xs : List X) (paths :
 gather_in P _ _ x y Gathers.none i f = absurd i
 gather_in P _ _ x y (Gathers.more z zs its paths p g) (inl e) f = in_front y its paths (f its (subst (λ w. P w its) e p))
 gather_in P _ _ x y (Gathers.more z zs its paths p g) (inr i) f = in_back y its paths (gather_in P zs paths x y g i f)
-
-in_flat : {X Y : Type 0} (f : X → List Y) (xs : List X) (x : X) (y : Y) → IsIn x xs → IsIn y (f x) → IsIn y (flat_map f xs)
-in_flat f [] x y i j = absurd i
-in_flat f (z ∷ zs) x y (inl e) j = in_front y (f z) (flat_map f zs) (subst (λ w. IsIn y (f w)) (sym e) j)
-in_flat f (z ∷ zs) x y (inr i) j = in_back y (f z) (flat_map f zs) (in_flat f zs x y i j)
 
 -- the path of a name, where it is a path
 join_in : (dir : Path) (name : List ℕ) (its : List Path) → path_fault (joined dir name) ≡ None → JoinOf dir name its → IsIn (joined dir name) its
@@ -140,13 +135,13 @@ module _ (p q : Past) (es : List Entry) (m : Made p es q) (quiet : AreQuiet (rev
       gather_in (Picks part) visits paths v (joined dir name) g i (λ its k. gather_in (PickOf part v.dir) (visit_names v) its name (joined dir name) k listed (λ ones w. of_name ones w))
     where
       look : At p (entry.Look v.dir v.seen)
-      look = at_moment p q es m quiet (entry.Look v.dir v.seen) (within (entry.Look v.dir v.seen) (in_flat visit_entries visits v (entry.Look v.dir v.seen) i (inl refl)))
+      look = at_moment p q es m quiet (entry.Look v.dir v.seen) (within (entry.Look v.dir v.seen) (to_flat visit_entries visits v (entry.Look v.dir v.seen) i (inl refl)))
 
       seen : is_dir v.seen ≡ true
       seen = sees_dir (world look.at) (names (world look.at) v.dir) v.seen (directory_more (names (world p)) (names (world look.at)) v.dir look.more (subst (IsDirectoryAt (names (world p))) (sym at) there)) look.fits
 
       list : At p (entry.List v.dir v.listed)
-      list = at_moment p q es m quiet (entry.List v.dir v.listed) (within (entry.List v.dir v.listed) (in_flat visit_entries visits v (entry.List v.dir v.listed) i (its_list v seen)))
+      list = at_moment p q es m quiet (entry.List v.dir v.listed) (within (entry.List v.dir v.listed) (to_flat visit_entries visits v (entry.List v.dir v.listed) i (its_list v seen)))
 
       still : names (world list.at) (joined v.dir name) ≢ thing.Nothing
       still = not_more (names (world p)) (names (world list.at)) (joined v.dir name) thing.Nothing list.more (λ g h. cc) (subst (λ d. names (world p) (joined d name) ≢ thing.Nothing) (sym at) named)
@@ -195,7 +190,7 @@ module _ (p q : Past) (es : List Entry) (m : Made p es q) (quiet : AreQuiet (rev
         (record { path = s.path; seen = z.0 }, subst (λ look. IsIn (record { path = s.path; seen = z.0 }) (file_at s.path look)) (sym z.1) (file_there s.path z.0 z.2), is, z.2)
 
     searched : (word : List ℕ) (found : List Found) → IsUtf8 word → is_wildcard word ≡ true → PathMatches word x → (EndsWith x part_end → ⊥) → SearchThen word (λ ordered us. LookedAt ordered found us) (reverse es) → FindsFile x found
-    searched word found text wild matches whole s = (g.0, subst (IsIn g.0) (sym l.found_are) (in_flat found_file l.sights sight.0 g.0 sight.1 g.1), g.2, g.3)
+    searched word found text wild matches whole s = (g.0, subst (IsIn g.0) (sym l.found_are) (to_flat found_file l.sights sight.0 g.0 sight.1 g.1), g.2, g.3)
       where
         l : LookedAt s.ordered found s.entries.back
         l = s.entries.second

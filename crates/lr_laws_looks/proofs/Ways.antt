@@ -1,14 +1,14 @@
 -- The way from `/` to what a path names: the directories on it, and their names.
-use Rattle.std.proofs.Common.{◌≡◌, ◌≢◌, inl, inr, ℕ, zero, suc, ◌≤◌, true, false, not, nat_lt, cond, ◌-◌, List, [], ◌∷◌, ◌++◌, length, take, drop, None, refl, sym, ap, ◌∙◌, subst, arith}
+use Rattle.std.proofs.Common.{◌≡◌, ◌≢◌, inl, inr, ℕ, zero, suc, ◌≤◌, true, not, nat_lt, cond, ◌-◌, List, [], ◌∷◌, ◌++◌, length, take, drop, None, refl, sym, ap, ◌∙◌, subst, arith}
 use Rattle.std.specs.Prelude.{IsUtf8}
 use Rattle.std.specs.Str.{is_utf8}
 use Rattle.std.proofs.lemmas.Bool.{not-false}
 use Rattle.std.proofs.lemmas.Bool.Decides.{Decides-eqb}
 use Rattle.std.proofs.lemmas.Str.{IsUtf8-from_is_utf8}
 use Rattle.lr_rules.specs.declared.path.Path.{Path}
-use Rattle.lr_rules.specs.Path.{path_fault, joined, parent_of, is_absolute, has_bad_byte, has_empty_part, root}
+use Rattle.lr_rules.specs.Path.{path_fault, joined, parent_of, is_absolute, has_bad_byte, root}
 use Rattle.lr_rules.proofs.ParentPath.{parent_path}
-use Rattle.lr_rules.proofs.PathLemmas.{none_of, parent_front, joined_parts, last_start_is}
+use Rattle.lr_rules.proofs.PathLemmas.{none_of, parent_front, joined_parts, last_start_is, empty_none}
 use Rattle.lr_host.specs.declared.thing.Thing.{Thing}
 use Rattle.lr_host.specs.declared.thing.Thing.TheVariants as thing
 use Rattle.lr_host.specs.Fits.{IsFileAt, IsDirectoryAt, IsPart}
@@ -35,15 +35,6 @@ absolute_path x none =
     let bytes = none_of (has_bad_byte x) _ _ text.1 in
     let size = none_of (nat_lt 4096 (length x)) _ _ bytes.1 in
     not-false (is_absolute x) (none_of (not (is_absolute x)) _ _ size.1).0
-
-full_path : (x : List ℕ) → path_fault x ≡ None → has_empty_part x ≡ false
-unfolding path_fault
-full_path x none =
-    let text = none_of (not (is_utf8 x)) _ _ none in
-    let bytes = none_of (has_bad_byte x) _ _ text.1 in
-    let size = none_of (nat_lt 4096 (length x)) _ _ bytes.1 in
-    let relative = none_of (not (is_absolute x)) _ _ size.1 in
-    (none_of (has_empty_part x) _ _ relative.1).0
 
 -- ---- the way
 
@@ -113,7 +104,7 @@ module _ (n : Names) (x : Path) (path : path_fault x ≡ None) (named : n x ≢ 
       absolute = absolute_path x path
 
       parts : AreParts (parts_in x)
-      parts = word_parts x absolute (no_root g file) (full_path x path)
+      parts = word_parts x absolute (no_root g file) (empty_none x path)
 
       by : (ps : List (List ℕ)) → Parts ps → parts_in x ≡ ps → under root (parts_in x) ≡ x
       by _ (some_parts q qs) e = ap (under root) e ∙ (under_root q qs (subst AreParts e parts) ∙ (ap behind (sym e) ∙ sym (word_behind x absolute)))

@@ -14,6 +14,7 @@ use Rattle.lr_host.specs.Lists.{IsIn}
 use Rattle.lr_host.specs.Looks.{IsNoDir}
 use Rattle.lr_host.specs.Steps.{is_change}
 use Rattle.lr_host.specs.Told.{Each}
+use Rattle.lr_host.proofs.Lists.{of_flat}
 use Rattle.lr_chain.specs.declared.ready.Ready.{Ready}
 use Rattle.lr_copy.specs.declared.job.BytesStop.TheVariants as broke
 use Rattle.lr_plan.specs.declared.mark.Mark.{Mark}
@@ -33,7 +34,7 @@ use Rattle.lr_laws_rotations.specs.Apart.{HasNames, TargetsHaveNames}
 use Rattle.lr_laws_acts.specs.Fitting.{DontMeet}
 use Rattle.lr_laws_acts.specs.Planned.{IsReadyFor, AreReadyFor}
 use Rattle.lr_laws_rotations.proofs.Own.{own_paths}
-use Rattle.lr_laws_looks.proofs.Elements.{in_flat, in_each}
+use Rattle.lr_laws_looks.proofs.Elements.{in_each}
 use Rattle.lr_laws_plan.proofs.Making.{GivesNoFile, SawOther, other_back}
 use Rattle.lr_run.proofs.Members.{HasMembers, HaveMembers, part_own, meets_none}
 use Rattle.lr_run.proofs.Guarding.{IsOfOne}
@@ -49,8 +50,8 @@ of_ready (Some (path, mode)) x (inr none) = absurd none
 -- each is that of one of the logs
 pub made_by_one : (ts : List Target) (sets : List SetPlan) (dir : Path) → AreReadyFor ts (flat_map (λ (set : SetPlan). set.logs) sets) → IsIn dir (all_to_make_of sets) → IsOfOne ts dir
 made_by_one ts sets dir r i =
-    let s : (set : SetPlan) × IsIn set sets × IsIn dir (to_make_of set.logs) = in_flat (λ (set : SetPlan). to_make_of set.logs) sets dir i in
-    let l : (log : LogPlan) × IsIn log s.0.logs × IsIn dir (made_of log.ready.dir) = in_flat (λ (log : LogPlan). made_of log.ready.dir) s.0.logs dir s.2 in
+    let s : (set : SetPlan) × IsIn set sets × IsIn dir (to_make_of set.logs) = of_flat (λ (set : SetPlan). to_make_of set.logs) sets dir i in
+    let l : (log : LogPlan) × IsIn log s.0.logs × IsIn dir (made_of log.ready.dir) = of_flat (λ (log : LogPlan). made_of log.ready.dir) s.0.logs dir s.2 in
     in_each G s.0.logs l.0 (in_each (λ (set : SetPlan). AllByRecursion G set.logs) sets s.0 (each_ready G ts sets r of_log) s.1) l.1 l.2
   where
     G : LogPlan → Type 0

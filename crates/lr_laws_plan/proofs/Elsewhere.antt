@@ -19,7 +19,7 @@ use Rattle.lr_host.specs.Quiet.{is_disk_change, AreQuiet}
 use Rattle.lr_host.specs.Steps.{is_change}
 use Rattle.lr_host.specs.Told.{Each, Made}
 use Rattle.lr_host.specs.World.{Past}
-use Rattle.lr_host.proofs.Each.{each_as, each_reverse, filter_reverse}
+use Rattle.lr_host.proofs.Each.{each_as, each_reverse, filter_reverse, each_filter}
 use Rattle.lr_host.proofs.Quiet.{disk_of_changes, quiet_changes, quiet_still}
 use Rattle.lr_laws.specs.Renewing.{LeavesAlone}
 use Rattle.lr_looks.specs.Found.{FoundLog}
@@ -69,14 +69,6 @@ one_aside state x targets e h away (inr i) = state_aside state x e away.no_state
 
 -- ---- all changes
 
-each_passed : (P : Entry → Type 0) (f : Entry → Bool) (es : List Entry) → Each P es → Each P (filter f es)
-each_passed P f [] a = tt
-each_passed P f (e ∷ es) a = go (f e) (each_passed P f es a.1)
-  where
-    go : (b : Bool) → Each P (filter f es) → Each P (cond b (e ∷ filter f es) (filter f es))
-    go true rest = (a.0, rest)
-    go false rest = rest
-
 -- entries whose changes are of the state and of these logs leave all else alone
 pub elsewhere_left : (state : Path) (targets : List Target) (p q : Past) (es ts : List Entry) (x : Path) → Made p es q → IsJournal p → TargetsHaveNames targets → IsOfTheRest state targets x → filter is_disk_change (reverse es) ≡ filter is_disk_change ts → Each (IsOfRun state targets) (filter is_change ts) → IsLeftAlone p q x
 elsewhere_left state targets p q es ts x m j h away same a = left_alone p q es x m j
@@ -84,7 +76,7 @@ elsewhere_left state targets p q es ts x m j h away same a = left_alone p q es x
   where
     in_order : Each (LeavesAlone x) (filter is_disk_change (reverse es))
     in_order = subst (Each (LeavesAlone x)) (disk_of_changes ts ∙ sym same)
-        (each_passed (LeavesAlone x) is_disk_change (filter is_change ts) (each_as (IsOfRun state targets) (LeavesAlone x) (filter is_change ts) (λ e i. one_aside state x targets e h away i) a))
+        (each_filter (LeavesAlone x) is_disk_change (filter is_change ts) (each_as (IsOfRun state targets) (LeavesAlone x) (filter is_change ts) (λ e i. one_aside state x targets e h away i) a))
 
 -- ---- a run that looks first
 

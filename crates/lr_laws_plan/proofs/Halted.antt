@@ -13,7 +13,7 @@ use Rattle.lr_host.specs.Opening.{IsJournal}
 use Rattle.lr_host.specs.Quiet.{AreQuiet, ChangeNothing}
 use Rattle.lr_host.specs.Told.{Each, Made, Maybe}
 use Rattle.lr_host.specs.World.{Past}
-use Rattle.lr_host.proofs.Quiet.{quiet_still, sees_quiet, still_both, still_in_order, then_still}
+use Rattle.lr_host.proofs.Quiet.{quiet_still, sees_quiet, still_both, still_in_order, then_still, none_still}
 use Rattle.lr_laws.specs.Renewing.{LeavesAlone}
 use Rattle.lr_plan.specs.Asked.{Asked}
 use Rattle.lr_looks.specs.Shown.{ShowsSomeLooks}
@@ -31,9 +31,6 @@ use Rattle.lr_laws_plan.specs.Rest.{LeavesSets}
 use Rattle.lr_laws_plan.proofs.Left.{left_alone}
 use Rattle.lr_laws_plan.proofs.Rest.{still_member}
 use Rattle.lr_laws_plan.proofs.Truth.{file_quiet}
-
-none_still : (ts : List Entry) → ts ≡ [] → ChangeNothing ts
-none_still ts e = subst ChangeNothing (sym e) refl
 
 sees_still : (x : Path) (P : Option Seen → Type 0) (ts : List Entry) → Sees x P ts → ChangeNothing ts
 sees_still x P ts s = quiet_still ts (sees_quiet x ts s)

@@ -15,9 +15,9 @@ use Rattle.lr_host.proofs.Lists.{in_front, in_back}
 use Rattle.lr_host.proofs.Made.{made_on}
 use Rattle.lr_host.proofs.Places.{synced_names}
 use Rattle.lr_host.proofs.Quiet.{before_last, since_before, wrote_same}
+use Rattle.lr_host.proofs.Each.{each_last}
 use Rattle.lr_laws_plan.proofs.Long.{At, made_at}
 use Rattle.lr_laws_plan.proofs.Naming.{Spared, avoided, made_same}
-use Rattle.lr_laws_acts.proofs.Planning.{each_end}
 
 -- ---- one entry
 
@@ -83,4 +83,4 @@ never_other x p q es m s given none saw = saw.other (sees_dir (world a.mid) (nam
     before = since_before (λ y. y ≢ x) p a.mid q a.old a.new a.first a.second s
 
     first : Each (GivesNoFile x) a.old
-    first = each_end (GivesNoFile x) a.new a.old (subst (Each (GivesNoFile x)) (made_same p q es (a.new ++ a.old) m (made_on p a.mid q a.old a.new a.first a.second)) given)
+    first = each_last (GivesNoFile x) a.new a.old (subst (Each (GivesNoFile x)) (made_same p q es (a.new ++ a.old) m (made_on p a.mid q a.old a.new a.first a.second)) given)

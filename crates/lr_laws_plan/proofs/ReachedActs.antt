@@ -8,6 +8,7 @@ use Rattle.lr_due.specs.declared.answer.Due.{Due}
 use Rattle.lr_due.specs.declared.answer.Due.TheVariants as due
 use Rattle.lr_host.specs.declared.entry.Entry.{Entry}
 use Rattle.lr_host.specs.Lists.{IsIn}
+use Rattle.lr_host.proofs.Lists.{of_flat}
 use Rattle.lr_plan.specs.declared.looks.LogLook.{LogLook}
 use Rattle.lr_plan.specs.declared.looks.SetLooks.{SetLooks}
 use Rattle.lr_plan.specs.declared.mark.Mark.{Mark}
@@ -21,7 +22,6 @@ use Rattle.lr_plan.specs.Steps.{steps_of_set}
 use Rattle.lr_acts.specs.Making.{all_of_sets}
 use Rattle.lr_writing.specs.Synced.{made_of, to_make_of, all_to_make_of}
 use Rattle.lr_writing.proofs.Telling.{MakesAmong, EachAmong, plan_among}
-use Rattle.lr_laws_looks.proofs.Elements.{in_flat}
 use Rattle.lr_run.proofs.Folded.{Folds, acts_fold}
 use Rattle.lr_run.proofs.Simple.{EachStep, IsSimple, AreSimple, plan_simple}
 use Rattle.lr_laws_plan.specs.Ending.{NoneEnds}
@@ -54,8 +54,8 @@ module _ (state : Path) (clock : Clock) (mailer : Path) (decide : Rule → LogLo
 
   logs_aside : (rule : Rule) (looks : List LogLook) → ((look : LogLook) → IsIn look looks → IsAside state look.family.naming.dir) → (dir : Path) → IsIn dir (to_make_of (log_plans clock mailer rule (decide rule) looks)) → IsAside state dir
   logs_aside rule looks aside dir i =
-      let log = in_flat (λ (l : LogPlan). made_of l.ready.dir) (log_plans clock mailer rule (decide rule) looks) dir i in
-      let look = in_flat (λ (l : LogLook). where_due (decide rule l) (plans_of clock mailer rule l)) looks log.0 log.1 in
+      let log = of_flat (λ (l : LogPlan). made_of l.ready.dir) (log_plans clock mailer rule (decide rule) looks) dir i in
+      let look = of_flat (λ (l : LogLook). where_due (decide rule l) (plans_of clock mailer rule l)) looks log.0 log.1 in
       let same = in_free (hindrances clock rule look.0) (log_plan clock mailer rule look.0) log.0 (in_due (decide rule look.0) (plans_of clock mailer rule look.0) log.0 look.2) in
       look_aside rule look.0 (aside look.0 look.1) dir (subst (λ (l : LogPlan). IsIn dir (made_of l.ready.dir)) (sym same) log.2)
 
@@ -67,7 +67,7 @@ module _ (state : Path) (clock : Clock) (mailer : Path) (decide : Rule → LogLo
   plans_aside (r ∷ rs) (s ∷ ss) aside plan (inr i) = plans_aside rs ss (λ set look at j. aside set look (inr at) j) plan i
 
   dirs_aside : (rules : List Rule) (sets : List SetLooks) → AreAside state sets → (dir : Path) → IsIn dir (all_to_make_of (all_plans clock mailer decide rules sets)) → IsAside state dir
-  dirs_aside rules sets aside dir i = let p = in_flat (λ (set : SetPlan). to_make_of set.logs) (all_plans clock mailer decide rules sets) dir i in plans_aside rules sets aside p.0 p.1 dir p.2
+  dirs_aside rules sets aside dir i = let p = of_flat (λ (set : SetPlan). to_make_of set.logs) (all_plans clock mailer decide rules sets) dir i in plans_aside rules sets aside p.0 p.1 dir p.2
 
 -- ---- the acts
 

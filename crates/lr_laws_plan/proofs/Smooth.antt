@@ -1,9 +1,8 @@
 -- Where nothing is in the way of a run and no count of failures rose, nothing failed.
-use Rattle.std.proofs.Common.{◌≡◌, ◌≢◌, ◌⊎◌, inl, inr, ⊎_elim, ◌≤◌, ℕ, suc, zero, Bool, true, false, bytes_eq, refl, sym, ◌∙◌, ap, subst, arith, List, [], ◌∷◌, ◌++◌, map, reverse, append_assoc, length, Option, Some, None}
+use Rattle.std.proofs.Common.{◌≡◌, ◌≢◌, ◌⊎◌, inl, inr, ⊎_elim, ◌≤◌, ℕ, suc, zero, Bool, true, false, refl, sym, ◌∙◌, ap, subst, arith, List, [], ◌∷◌, ◌++◌, map, reverse, append_assoc, length, Option, Some, None}
 use Rattle.std.specs.Prelude.{filter}
 use Rattle.std.proofs.lemmas.List.{reverse-append, reverse-reverse}
 use Rattle.std.specs.List.{flat_map}
-use Rattle.std.proofs.lemmas.Slice.Eq.{bytes_eq-Decides}
 use Rattle.lr_rules.specs.declared.clock.Clock.{Clock}
 use Rattle.lr_rules.specs.declared.fault.Fault.{Fault}
 use Rattle.lr_rules.specs.declared.fault.Fault.TheVariants as fault
@@ -36,6 +35,7 @@ use Rattle.lr_host.proofs.Looked.{seen_none}
 use Rattle.lr_host.proofs.Made.{made_journal, made_on}
 use Rattle.lr_host.proofs.More.{file_more}
 use Rattle.lr_host.proofs.Quiet.{IsAny, Moment as Look, moment, made_quiet, quiet_both, quiet_more, quiet_same, quiet_still, since_any, since_as, since_before, still_both, still_reverse}
+use Rattle.lr_host.proofs.Closed.{same_or_not}
 use Rattle.lr_scripts.specs.declared.command.Command.{Command}
 use Rattle.lr_copy.specs.declared.job.Job.{Job}
 use Rattle.lr_laws_acts.specs.Jobs.{jobs_of}
@@ -109,13 +109,6 @@ quiet_avoids x (entry.Renames from to) i = let h : is_change (entry.Renames from
 quiet_avoids x (entry.Makes y mode) i = let h : is_change (entry.Makes y mode) ≡ false = i.1 in absurd (cc)
 quiet_avoids x (entry.MakesDir y mode) i = let h : is_change (entry.MakesDir y mode) ≡ false = i.1 in absurd (cc)
 quiet_avoids x _ i = tt
-
-same_path : (x y : Path) → (x ≡ y) ⊎ (x ≡ y → ⊥)
-same_path x y = go (bytes_eq x y) refl
-  where
-    go : (b : Bool) → bytes_eq x y ≡ b → (x ≡ y) ⊎ (x ≡ y → ⊥)
-    go true e = inl ((bytes_eq-Decides x y).0 e)
-    go false e = inr (λ same. let t : bytes_eq x y ≡ true = (bytes_eq-Decides x y).1 same in cc)
 
 -- ---- what is told as taken
 
@@ -292,7 +285,7 @@ module _ (state : Path) (asked : Asked) (clock : Clock) (rules : Rules) (own : L
       (sets_so (ClearsFirst x) tt (clears_on x) (λ phase about c. inr (λ none. none, tt)) plan.sets
       (each_ready (OfLog (ClearsFirst x) tt (clears_on x) (λ phase about c. inr (λ none. none, tt))) targets plan.sets ready (λ t log one r. clears_log x log (λ job is same. logs t one job (sym r.job_is ∙ is) same))))
       a.entries.first)
-      (course_clears x (state_steps state l.remembered.stale w.acted.dirs text) [] a.of_state a.entries.back (state_clears state l.remembered.stale w.acted.dirs text x own_stale (same_path (state_part state) x)) a.entries.second)
+      (course_clears x (state_steps state l.remembered.stale w.acted.dirs text) [] a.of_state a.entries.back (state_clears state l.remembered.stale w.acted.dirs text x own_stale (same_or_not (state_part state) x)) a.entries.second)
       h
 
   -- ---- who needed the path

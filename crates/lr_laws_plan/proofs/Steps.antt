@@ -8,7 +8,7 @@ use Rattle.lr_host.specs.declared.entry.Entry.{Entry}
 use Rattle.lr_host.specs.declared.entry.Entry.TheVariants as entry
 use Rattle.lr_host.specs.Lists.{IsIn}
 use Rattle.lr_host.specs.Told.{Each}
-use Rattle.lr_host.proofs.Each.{each_append}
+use Rattle.lr_host.proofs.Each.{each_append, each_maybe, each_one, each_none}
 use Rattle.lr_host.proofs.Lists.{in_append}
 use Rattle.lr_copy.specs.declared.job.BytesStop.TheVariants as broke
 use Rattle.lr_copy.proofs.EachOfBytes.{each_all, each_broke}
@@ -134,15 +134,6 @@ one_split x [] ys t = inr t
 one_split x (s ∷ xs) ys t = ⊎_elim (λ here. inl (inl here)) (λ there. ⊎_elim (λ a. inl (inr a)) (λ b. inr b) (one_split x xs ys there)) t
 
 -- ---- what one step leaves
-
-each_none : (P : Entry → Type 0) {ts : List Entry} → ts ≡ [] → Each P ts
-each_none P is = subst (Each P) (sym is) tt
-
-each_one : (P : Entry → Type 0) {e : Entry} {ts : List Entry} → ts ≡ e ∷ [] → P e → Each P ts
-each_one P is k = subst (Each P) (sym is) (k, tt)
-
-each_maybe : (P : Entry → Type 0) (e : Entry) {ts : List Entry} → (ts ≡ []) ⊎ (ts ≡ e ∷ []) → P e → Each P ts
-each_maybe P e m k = ⊎_elim (λ none. each_none P none) (λ one. each_one P one k) m
 
 module _ (x : Path) where
   abbrev P : Entry → Type 0

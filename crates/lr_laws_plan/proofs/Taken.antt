@@ -11,10 +11,10 @@ use Rattle.lr_host.specs.World.{past, world, names}
 use Rattle.lr_host.proofs.Lists.{in_append}
 use Rattle.lr_host.proofs.Made.{made_on}
 use Rattle.lr_host.proofs.Quiet.{since_before}
+use Rattle.lr_host.proofs.Each.{each_last}
 use Rattle.lr_acts.specs.Taken.{SparesPath, WasTaken, at_last}
 use Rattle.lr_laws_family.proofs.Weaving.{each_in}
 use Rattle.lr_laws_plan.proofs.Naming.{Avoids, Spared, made_same, still_nothing, still_gone}
-use Rattle.lr_laws_acts.proofs.Planning.{each_end}
 
 pub never_taken : (x : Path) (j k : Journal) (es : List Entry) → Made (past j) es (past k) → Spared x (past j) (past k) → Each (Avoids x) es → (names (world (past j)) x ≡ thing.Nothing) ⊎ IsIn (Unlinks x) es → WasTaken x (Some j) (Some k) → ⊥
 never_taken x j k es m s a start (at_last {es = olds} {fs = news} p first named rest spared) = named (⊎_elim
@@ -29,4 +29,4 @@ never_taken x j k es m s a start (at_last {es = olds} {fs = news} p first named 
     before = since_before (λ y. y ≢ x) (past j) p (past k) olds news first rest s
 
     avoided : Each (Avoids x) olds
-    avoided = each_end (Avoids x) news olds (subst (Each (Avoids x)) same a)
+    avoided = each_last (Avoids x) news olds (subst (Each (Avoids x)) same a)

@@ -14,9 +14,10 @@ use Rattle.lr_host.specs.Fits.{Fits, IsFileAt, MaybeFileAt, IsDirectoryAt}
 use Rattle.lr_host.specs.Told.{Each, IsTools, Made, at_first, by_writer, by_tool, Left, not_told, is_told, CanCall, WhereTold}
 use Rattle.lr_host.specs.Steps.{is_naming, changes_of, FitAll}
 use Rattle.lr_host.proofs.Each.{filter_reverse, none_passed}
-use Rattle.lr_host.proofs.Left.{changes_split, later_fit, still_step}
+use Rattle.lr_host.proofs.Left.{later_fit, still_step, fit_split}
 use Rattle.lr_host.proofs.Looked.{file_no_dir}
 use Rattle.lr_host.proofs.More.{IsMoreAt, wrote_names}
+use Rattle.lr_host.proofs.Quiet.{IsAny}
 use Rattle.lr_laws_rotations.specs.Calls.{after_call, FitCalls, CanCalls}
 use Rattle.lr_laws_family.proofs.Fed.{IsTurn}
 
@@ -59,10 +60,6 @@ like_no thing.Other u l d o = absurd (o refl)
 -- at these paths the second names are of the first's kinds
 abbrev pub AreLike : (Path → Type 0) → Names → Names → Type 0
 AreLike X n n' = (y : Path) → X y → IsLike (n y) (n' y)
-
--- any path
-abbrev pub Anywhere : Path → Type 0
-Anywhere y = Unit {0}
 
 pub more_like : (n n' : Names) (y : Path) → IsMoreAt y n n' → IsLike (n y) (n' y)
 more_like n n' y (inl same) = subst (λ t. IsLike (n y) t) (sym same) (like_self (n y))
@@ -136,16 +133,16 @@ pub fit_like : (X : Path → Type 0) (n n' : Names) (es : List Entry) → Each (
 fit_like X n n' [] r l fit = tt
 fit_like X n n' (e ∷ es) r l fit = (can_like X n n' e r.0 l fit.0, fit_like X (after_call n e) (after_call n' e) es r.1 (after_like X n n' e r.0 l) fit.1)
 
-reads_input : (o : Option Path) → ReadsInput Anywhere o
+reads_input : (o : Option Path) → ReadsInput IsAny o
 reads_input None = tt
 reads_input (Some x) = tt
 
-reads_anywhere : (e : Entry) → Reads Anywhere e
+reads_anywhere : (e : Entry) → Reads IsAny e
 reads_anywhere (entry.Renames from to) = (tt, tt, tt)
 reads_anywhere (entry.Runs program args input ended) = reads_input input
 reads_anywhere _ = tt
 
-pub each_anywhere : (es : List Entry) → Each (Reads Anywhere) es
+pub each_anywhere : (es : List Entry) → Each (Reads IsAny) es
 each_anywhere [] = tt
 each_anywhere (e ∷ es) = (reads_anywhere e, each_anywhere es)
 
@@ -171,11 +168,6 @@ fit_both n (x ∷ xs) ys a b = (a.0, fit_both (after_call n x) xs ys a.1 b)
 pub afters_on : (n : Names) (xs ys : List Entry) → afters n (xs ++ ys) ≡ afters (afters n xs) ys
 afters_on n [] ys = refl
 afters_on n (x ∷ xs) ys = afters_on (after_call n x) xs ys
-
--- of renames and unlinks both ways to say it say the same
-fit_split : (n : Names) (es fs : List Entry) → FitAll n (fs ++ es) → FitAll (names_after n (changes_of es)) fs
-fit_split n es [] fit = tt
-fit_split n es (f ∷ fs) fit = (fit_split n es fs fit.0, subst (λ (m : Names). CanCall m f) (changes_split n es fs) fit.1)
 
 one_after : (n : Names) (e : Entry) → IsTurn e → names_after n (changes_of (e ∷ [])) ≡ after_call n e
 one_after n (entry.Renames from to) t = refl
@@ -213,7 +205,7 @@ one_like p _ _ e (by_tool {es = es} {q = q} {e = t} m i f) is y =
     let none : es ≡ [] = cc in
     subst (λ (s : Entry). IsLike (after_call (names (world p)) s y) (names (world (q ▸ t)) y)) same
     (like_on (after_call (names (world p)) t y) (after_call (names (world q)) t y) (names (world (q ▸ t)) y)
-    (after_like Anywhere (names (world p)) (names (world q)) t (reads_anywhere t) (λ z u. still_like p q es m (ap (filter is_naming) none) z) y tt) (step_like q t i f y))
+    (after_like IsAny (names (world p)) (names (world q)) t (reads_anywhere t) (λ z u. still_like p q es m (ap (filter is_naming) none) z) y tt) (step_like q t i f y))
 
 -- one condition for another
 pub calls_as : {xs ys : List Entry} {o : Option Journal} → CanCalls o xs → ((n : Names) → FitCalls n xs → FitCalls n ys) → CanCalls o ys
@@ -227,7 +219,7 @@ calls_as {xs} {ys} {o} can f = record { can = go o can.can }
 pub calls_made : (e : Entry) (es : List Entry) {P : List Entry → Type 0} {o m : Option Journal} → CanCalls o (e ∷ es) → Left P o m → ((ts : List Entry) → P ts → ts ≡ e ∷ []) → CanCalls m es
 calls_made e es can not_told f = record { can = tt }
 calls_made e es can (is_told {j = j} {k = k} {es = us} m h) f = record {
-  can = fit_like Anywhere (after_call (names (world (past j))) e) (names (world (past k))) es (each_anywhere es)
+  can = fit_like IsAny (after_call (names (world (past j))) e) (names (world (past k))) es (each_anywhere es)
       (λ y i. one_like (past j) (past k) us e m (sym (reverse-reverse us) ∙ ap reverse (f (reverse us) h)) y) can.can.1;
 }
 
@@ -235,7 +227,7 @@ calls_made e es can (is_told {j = j} {k = k} {es = us} m h) f = record {
 pub calls_still : (es : List Entry) {P : List Entry → Type 0} {o m : Option Journal} → CanCalls o es → Left P o m → ((ts : List Entry) → P ts → filter is_naming ts ≡ []) → CanCalls m es
 calls_still es can not_told f = record { can = tt }
 calls_still es can (is_told {j = j} {k = k} {es = us} m h) f = record {
-  can = fit_like Anywhere (names (world (past j))) (names (world (past k))) es (each_anywhere es) (λ y i. still_like (past j) (past k) us m (none (f (reverse us) h)) y) can.can;
+  can = fit_like IsAny (names (world (past j))) (names (world (past k))) es (each_anywhere es) (λ y i. still_like (past j) (past k) us m (none (f (reverse us) h)) y) can.can;
 }
   where
     none : filter is_naming (reverse us) ≡ [] → filter is_naming us ≡ []

@@ -12,7 +12,7 @@ use Rattle.lr_rules.specs.declared.rule.Naming.{Naming}
 use Rattle.lr_rules.specs.declared.rules.Rules.{Rules}
 use Rattle.lr_rules.specs.Names.{IsOwnName, aside_path}
 use Rattle.lr_rules.specs.Path.{parent_of}
-use Rattle.lr_laws_rotations.proofs.Waiting.{parent_same, beside_other}
+use Rattle.lr_rules.proofs.Beside.{parent_same, beside_other}
 use Rattle.lr_host.specs.declared.thing.Thing.{Thing}
 use Rattle.lr_host.specs.declared.thing.Thing.TheVariants as thing
 use Rattle.lr_host.specs.declared.entry.Entry.{Entry}
@@ -25,7 +25,7 @@ use Rattle.lr_host.specs.Quiet.{AreQuiet, ChangeNothing}
 use Rattle.lr_host.specs.Steps.{FitAll}
 use Rattle.lr_host.specs.Told.{Each, Made, Left, not_told, is_told, CanCall, WhereTold}
 use Rattle.lr_host.specs.World.{Past, past, world, Names, names, put}
-use Rattle.lr_host.proofs.Names.{put_here, put_other}
+use Rattle.lr_host.proofs.Names.{put_here, put_other, put_directory}
 use Rattle.lr_host.proofs.Lists.{from_reverse}
 use Rattle.lr_host.proofs.Looked.{seen_none}
 use Rattle.lr_host.proofs.Made.{made_journal}
@@ -307,14 +307,6 @@ module _ (t : Target) (h : HasNames t) (shifted : Names) (can_turn : CanCall shi
 -- the paths of a copy
 pub log_paths : (rules : Rules) (clock : Clock) (looks : List Entry) (t : Target) → IsLogSeen rules clock looks t → (job : Job) → t.job ≡ Some job → ArePaths job
 log_paths rules clock looks t l job is = let h = any_names rules clock looks t l in job_paths t job l.family (target_member t h) (l.job job is).0 h l.given.rule l.given.naming_is
-
--- a directory stands where one is made, and where one stood
-put_directory : (n : Names) (x y : Path) → IsDirectoryAt n y → IsDirectoryAt (put n x thing.Directory) y
-put_directory n x y is = go (bytes_eq x y)
-  where
-    go : (b : Bool) → cond b thing.Directory (n y) ≡ thing.Directory
-    go true = refl
-    go false = is
 
 -- a directory stays where calls fit that rename and unlink alone
 directory_lasts : (n : Names) (es : List Entry) (d : Path) → Each IsTurn es → FitCalls n es → IsDirectoryAt n d → IsDirectoryAt (afters n es) d

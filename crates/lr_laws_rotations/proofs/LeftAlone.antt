@@ -3,6 +3,7 @@ use Rattle.std.proofs.Common.{◌≡◌, Bool, true, false, cond, refl, sym, ◌
 use Rattle.std.specs.Prelude.{filter}
 use Rattle.std.proofs.lemmas.List.Elements.{filter-append}
 use Rattle.lr_rules.specs.declared.path.Path.{Path}
+use Rattle.lr_rules.proofs.Bools.{not_both}
 use Rattle.lr_host.specs.declared.thing.Thing.TheVariants as thing
 use Rattle.lr_host.specs.declared.entry.Entry.{Entry}
 use Rattle.lr_host.specs.declared.entry.Entry.TheVariants as entry
@@ -17,16 +18,16 @@ use Rattle.lr_host.proofs.Names.{put_other}
 use Rattle.lr_host.specs.Quiet.{AreQuiet}
 use Rattle.lr_host.proofs.Quiet.{looked_names, no_disk_change, quiet_changes}
 use Rattle.lr_laws.proofs.Writing.{attached_before, wrote_member}
-use Rattle.lr_laws_rotations.proofs.Weaving.{IsApart, keyed, clash}
+use Rattle.lr_laws_rotations.proofs.Weaving.{IsApart, keyed}
 
 -- an entry apart leaves the names of the set alone
 apart_names : (s : LogSet) (q : Past) (e : Entry) (y : Path) → IsTools e → is_change e ≡ true → IsApart s e → in_reach s y ≡ true → names (world (q ▸ e)) y ≡ names (world q) y
 apart_names s q (Renames from to) y i c out h =
-    put_other (put (names (world q)) from thing.Nothing) to y (names (world q) from) (λ same. clash (in_reach s y) h (ap (in_reach s) same ∙ out.1))
-    ∙ put_other (names (world q)) from y thing.Nothing (λ same. clash (in_reach s y) h (ap (in_reach s) same ∙ out.0))
-apart_names s q (Unlinks x) y i c out h = put_other (names (world q)) x y thing.Nothing (λ same. clash (in_reach s y) h (ap (in_reach s) same ∙ out))
-apart_names s q (entry.MakesDir x mode) y i c out h = put_other (names (world q)) x y thing.Directory (λ same. clash (in_reach s y) h (ap (in_reach s) same ∙ out))
-apart_names s q (entry.Makes x mode) y i c out h = put_other (names (world q)) x y (thing.File (world q).drawn) (λ same. clash (in_reach s y) h (ap (in_reach s) same ∙ out))
+    put_other (put (names (world q)) from thing.Nothing) to y (names (world q) from) (λ same. not_both (in_reach s y) h (ap (in_reach s) same ∙ out.1))
+    ∙ put_other (names (world q)) from y thing.Nothing (λ same. not_both (in_reach s y) h (ap (in_reach s) same ∙ out.0))
+apart_names s q (Unlinks x) y i c out h = put_other (names (world q)) x y thing.Nothing (λ same. not_both (in_reach s y) h (ap (in_reach s) same ∙ out))
+apart_names s q (entry.MakesDir x mode) y i c out h = put_other (names (world q)) x y thing.Directory (λ same. not_both (in_reach s y) h (ap (in_reach s) same ∙ out))
+apart_names s q (entry.Makes x mode) y i c out h = put_other (names (world q)) x y (thing.File (world q).drawn) (λ same. not_both (in_reach s y) h (ap (in_reach s) same ∙ out))
 apart_names s q (entry.Appends x bytes) y i c out h = refl
 apart_names s q (entry.Truncates x) y i c out h = refl
 apart_names s q (entry.Starts state now rules) y i c out h = absurd out

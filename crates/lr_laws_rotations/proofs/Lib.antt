@@ -48,7 +48,6 @@ pub mod Still
 pub mod Stretches
 pub mod Turning
 mod TwoLogs
-pub mod Waiting
 pub mod Way
 pub mod Weaving
 pub mod Whole

@@ -9,11 +9,11 @@ use Rattle.lr_rules.specs.declared.path.Path.{Path}
 use Rattle.lr_rules.specs.declared.rule.Make.TheVariants.{No}
 use Rattle.lr_rules.proofs.Endings.{low_ascii}
 use Rattle.lr_rules.specs.Path.{path_fault, joined}
+use Rattle.lr_stamps.proofs.Members.{joined_same}
 use Rattle.lr_host.specs.declared.entry.Entry.{Entry}
 use Rattle.lr_host.specs.declared.entry.Entry.TheVariants.{Renames, Unlinks}
 use Rattle.lr_family.specs.Named.{framed, member_name}
 use Rattle.lr_family.specs.Spots.{path_at}
-use Rattle.lr_family.proofs.Unique.{joined_same}
 use Rattle.lr_laws_rotations.proofs.Places.{IsFamily}
 use Rattle.lr_chain.specs.declared.ready.Ready.{Ready}
 use Rattle.lr_chain.specs.Rotation.{places_of, rotation}

@@ -7,6 +7,7 @@ use Rattle.std.proofs.lemmas.Bool.{and_parts}
 use Rattle.lr_rules.specs.declared.path.Path.{Path}
 use Rattle.lr_rules.specs.declared.civil.Moment.{Moment}
 use Rattle.lr_rules.specs.Path.{parent_of, joined}
+use Rattle.lr_stamps.proofs.Members.{joined_same}
 use Rattle.lr_host.specs.declared.thing.Thing.TheVariants as thing
 use Rattle.lr_host.specs.declared.entry.Entry.{Entry}
 use Rattle.lr_host.specs.declared.entry.Entry.TheVariants as entry
@@ -18,7 +19,6 @@ use Rattle.lr_host.specs.Opening.{IsValid, opening_paths}
 use Rattle.lr_host.specs.Told.{Made, at_first, by_writer, by_tool}
 use Rattle.lr_host.specs.Quiet.{is_disk_change, from_here, further}
 use Rattle.lr_host.proofs.Lists.{in_from, in_to}
-use Rattle.lr_family.proofs.Unique.{joined_same}
 use Rattle.lr_chain.specs.Rotation.{places_of}
 use Rattle.lr_chain.specs.Standing.{AreGoing}
 use Rattle.lr_chain.proofs.Going.{going_are}

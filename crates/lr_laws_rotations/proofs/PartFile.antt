@@ -1,8 +1,7 @@
 -- The part file of a copy stands in the family's directory, and is neither the log nor a member.
-use Rattle.std.proofs.Common.{◌≡◌, ◌≢◌, ◌⊎◌, inl, inr, ℕ, suc, ◌+◌, ◌<◌, ◌≤◌, Bool, true, false, cond, ◌&&◌, refl, sym, ◌∙◌, ap, subst, arith, eqb-true, List, [], ◌∷◌, ◌++◌, length, append_assoc, reverse, Some}
-use Rattle.std.specs.Prelude.{nat_le, decimal, codes, ◌==◌}
+use Rattle.std.proofs.Common.{◌≡◌, ◌≢◌, ◌⊎◌, inl, inr, ℕ, suc, ◌+◌, ◌<◌, ◌≤◌, Bool, true, false, cond, refl, sym, ◌∙◌, ap, subst, arith, eqb-true, List, [], ◌∷◌, ◌++◌, length, append_assoc, reverse, Some}
+use Rattle.std.specs.Prelude.{decimal, codes, ◌==◌}
 use Rattle.std.specs.List.{list_any}
-use Rattle.std.proofs.lemmas.Bool.{le-leb}
 use Rattle.std.proofs.lemmas.Fmt.{length-decimal-le}
 use Rattle.std.proofs.lemmas.List.{length-append, reverse-append}
 use Rattle.std.proofs.lemmas.List.Elements.{All-head, All-tail}
@@ -18,6 +17,7 @@ use Rattle.lr_rules.specs.Names.{AreDigits, IsStampShape, number_pieces, IsMiddl
 use Rattle.lr_rules.specs.Path.{joined, parent_of, last_of, is_slash}
 use Rattle.lr_rules.proofs.PathLemmas.{plain_both, parent_joined, last_joined}
 use Rattle.lr_rules.specs.Bytes.{is_digit}
+use Rattle.lr_rules.proofs.Digits.{IsDigit, digit_is}
 use Rattle.lr_stamps.proofs.Members.{joined_same}
 use Rattle.lr_stamps.proofs.StampShapes.{numbered_shape}
 use Rattle.lr_family.specs.Named.{member_name}
@@ -65,12 +65,6 @@ marks_on (x ∷ xs) ys = go (is_digit x) (marks_on xs ys)
     go : (b : Bool) → marks (xs ++ ys) ≡ marks xs + marks ys → cond b (marks (xs ++ ys)) (suc (marks (xs ++ ys))) ≡ cond b (marks xs) (suc (marks xs)) + marks ys
     go true e = e
     go false e = omega (arith, e)
-
-abbrev IsDigit : ℕ → Type 0
-IsDigit d = (48 ≤ d) × (d ≤ 57)
-
-digit_is : (d : ℕ) → IsDigit d → is_digit d ≡ true
-digit_is d r = ap (λ b. b && nat_le d 57) (le-leb 48 d r.0) ∙ le-leb d 57 r.1
 
 no_marks : (ds : List ℕ) → AreDigits ds → marks ds ≡ 0
 no_marks [] h = refl

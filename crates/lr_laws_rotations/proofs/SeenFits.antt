@@ -18,7 +18,7 @@ use Rattle.lr_host.specs.Lists.{IsIn}
 use Rattle.lr_host.specs.Quiet.{AttachedOnlySince, ChangeNothing}
 use Rattle.lr_host.specs.Steps.{FitAll}
 use Rattle.lr_host.specs.Told.{Made}
-use Rattle.lr_host.specs.World.{Names, Past, world, names}
+use Rattle.lr_host.specs.World.{Names, Past, world, names, in_list}
 use Rattle.lr_host.proofs.Left.{fit_more}
 use Rattle.lr_host.proofs.Lists.{in_map, in_unmap, from_reverse}
 use Rattle.lr_host.proofs.Looked.{seen_dir, seen_none, is_nothing, nothing_no_dir}
@@ -41,27 +41,21 @@ use Rattle.lr_laws_rotations.proofs.Families.{family_fits}
 
 -- ---- names in between: those of later at some paths, those of before at all others
 
-is_one_of : List Path → Path → Bool
-is_one_of [] y = false
-is_one_of (x ∷ xs) y = bytes_eq x y || is_one_of xs y
-
-is_one : (xs : List Path) (y : Path) → IsIn y xs → is_one_of xs y ≡ true
-unfolding is_one_of
+is_one : (xs : List Path) (y : Path) → IsIn y xs → in_list xs y ≡ true
 is_one [] y h = absurd h
-is_one (x ∷ xs) y (inl e) = ap (λ b. b || is_one_of xs y) ((bytes_eq-Decides x y).1 e)
-is_one (x ∷ xs) y (inr h) = or_right (bytes_eq x y) (is_one_of xs y) (is_one xs y h)
+is_one (x ∷ xs) y (inl e) = ap (λ b. b || in_list xs y) ((bytes_eq-Decides x y).1 e)
+is_one (x ∷ xs) y (inr h) = or_right (bytes_eq x y) (in_list xs y) (is_one xs y h)
 
-is_in : (xs : List Path) (y : Path) → is_one_of xs y ≡ true → IsIn y xs
-unfolding is_one_of
+is_in : (xs : List Path) (y : Path) → in_list xs y ≡ true → IsIn y xs
 is_in [] y h = absurd (cc)
 is_in (x ∷ xs) y h = go (bytes_eq x y) refl (λ k. is_in xs y k) h
   where
-    go : (b : Bool) → bytes_eq x y ≡ b → (is_one_of xs y ≡ true → IsIn y xs) → (b || is_one_of xs y) ≡ true → IsIn y (x ∷ xs)
+    go : (b : Bool) → bytes_eq x y ≡ b → (in_list xs y ≡ true → IsIn y xs) → (b || in_list xs y) ≡ true → IsIn y (x ∷ xs)
     go true e further h = inl ((bytes_eq-Decides x y).0 e)
     go false e further h = inr (further h)
 
 between : List Path → Names → Names → Names
-between xs n n' y = cond (is_one_of xs y) (n' y) (n y)
+between xs n n' y = cond (in_list xs y) (n' y) (n y)
 
 between_in : (xs : List Path) (n n' : Names) (y : Path) → IsIn y xs → between xs n n' y ≡ n' y
 unfolding between
@@ -69,15 +63,15 @@ between_in xs n n' y h = ap (λ b. cond b (n' y) (n y)) (is_one xs y h)
 
 between_out : (xs : List Path) (n n' : Names) (y : Path) → (IsIn y xs → ⊥) → between xs n n' y ≡ n y
 unfolding between
-between_out xs n n' y out = go (is_one_of xs y) refl
+between_out xs n n' y out = go (in_list xs y) refl
   where
-    go : (b : Bool) → is_one_of xs y ≡ b → cond b (n' y) (n y) ≡ n y
+    go : (b : Bool) → in_list xs y ≡ b → cond b (n' y) (n y) ≡ n y
     go true e = absurd (out (is_in xs y e))
     go false e = refl
 
 between_either : (xs : List Path) (n n' : Names) (y : Path) → (between xs n n' y ≡ n' y) ⊎ (between xs n n' y ≡ n y)
 unfolding between
-between_either xs n n' y = go (is_one_of xs y)
+between_either xs n n' y = go (in_list xs y)
   where
     go : (b : Bool) → (cond b (n' y) (n y) ≡ n' y) ⊎ (cond b (n' y) (n y) ≡ n y)
     go true = inl refl

@@ -4,6 +4,7 @@ use Rattle.std.specs.Prelude.{All, Contains}
 use Rattle.lr_rules.specs.declared.path.Path.{Path}
 use Rattle.lr_rules.specs.declared.rule.Naming.{Naming}
 use Rattle.lr_rules.specs.Names.{IsMemberAt}
+use Rattle.lr_stamps.proofs.Members.{joined_same}
 use Rattle.lr_host.specs.declared.entry.Entry.{Entry}
 use Rattle.lr_host.specs.declared.entry.Entry.TheVariants as entry
 use Rattle.lr_host.specs.Lists.{IsIn}
@@ -15,7 +16,6 @@ use Rattle.lr_family.specs.Stands.{AreNewestFirst}
 use Rattle.lr_family.specs.Places.{AreNamed}
 use Rattle.lr_family.proofs.Names.{no_format}
 use Rattle.lr_family.proofs.Shown.{not_none}
-use Rattle.lr_family.proofs.Unique.{joined_same}
 use Rattle.lr_family.specs.Looks.{WasSeen}
 use Rattle.lr_chain.specs.Rotation.{places_of}
 use Rattle.lr_laws_rotations.proofs.Places as places

@@ -1,6 +1,7 @@
 -- Entries woven into others.
 use Rattle.std.proofs.Common.{◌≡◌, ◌⊎◌, inl, inr, ℕ, Bool, true, false, refl, sym, ◌∙◌, ap, subst, Option, Some, None, is_some, List, ◌∷◌, ◌<◌, ℤ, pos}
 use Rattle.lr_rules.specs.declared.path.Path.{Path}
+use Rattle.lr_rules.proofs.Bools.{not_both}
 use Rattle.lr_host.specs.declared.thing.Thing.TheVariants as thing
 use Rattle.lr_host.specs.declared.entry.Entry.{Entry}
 use Rattle.lr_host.specs.declared.entry.Entry.TheVariants as entry
@@ -44,15 +45,12 @@ apart_aside s _ out = tt
 abbrev pub AreAlike : LogSet → Names → Names → Type 0
 AreAlike s n n' = (y : Path) → in_reach s y ≡ true → n y ≡ n' y
 
-pub clash : (b : Bool) → b ≡ true → b ≡ false → ⊥
-clash b p q = cc
-
 pub apart_alike : (s : LogSet) (n : Names) (es : List Entry) (e : Entry) → IsApart s e → AreAlike s (names_after n (changes_of es)) (names_after n (changes_of (e ∷ es)))
 apart_alike s n es (Renames from to) out = λ y i.
-    sym (put_other (put (names_after n (changes_of es)) from thing.Nothing) to y (names_after n (changes_of es) from) (λ same. clash (in_reach s y) i (ap (in_reach s) same ∙ out.1))
-    ∙ put_other (names_after n (changes_of es)) from y thing.Nothing (λ same. clash (in_reach s y) i (ap (in_reach s) same ∙ out.0)))
-apart_alike s n es (Unlinks x) out = λ y i. sym (put_other (names_after n (changes_of es)) x y thing.Nothing (λ same. clash (in_reach s y) i (ap (in_reach s) same ∙ out)))
-apart_alike s n es (MakesDir x mode) out = λ y i. sym (put_other (names_after n (changes_of es)) x y thing.Directory (λ same. clash (in_reach s y) i (ap (in_reach s) same ∙ out)))
+    sym (put_other (put (names_after n (changes_of es)) from thing.Nothing) to y (names_after n (changes_of es) from) (λ same. not_both (in_reach s y) i (ap (in_reach s) same ∙ out.1))
+    ∙ put_other (names_after n (changes_of es)) from y thing.Nothing (λ same. not_both (in_reach s y) i (ap (in_reach s) same ∙ out.0)))
+apart_alike s n es (Unlinks x) out = λ y i. sym (put_other (names_after n (changes_of es)) x y thing.Nothing (λ same. not_both (in_reach s y) i (ap (in_reach s) same ∙ out)))
+apart_alike s n es (MakesDir x mode) out = λ y i. sym (put_other (names_after n (changes_of es)) x y thing.Directory (λ same. not_both (in_reach s y) i (ap (in_reach s) same ∙ out)))
 apart_alike s n es _ out = λ y i. refl
 
 pub keyed : (s : LogSet) (x : Path) (k : ℤ) → s.key x ≡ Some k → in_reach s x ≡ true
@@ -163,7 +161,7 @@ woven s p limit os _ (other {all = es} e (inl out) w) rot fit = more (woven s p 
     n = names (world p)
 
     none_to : (e : Entry) → IsApart s e → (to : Path) → e ≡ Renames s.log to → ⊥
-    none_to e out to is = let o = subst (IsApart s) is out in clash (in_reach s s.log) (logged s) o.0
+    none_to e out to is = let o = subst (IsApart s) is out in not_both (in_reach s s.log) (logged s) o.0
 
     more : IsWoven s p limit os es → IsWoven s p limit os (e ∷ es)
     more k = record {

@@ -5,6 +5,7 @@ use Rattle.std.proofs.lemmas.List.{take_at}
 use Rattle.std.specs.Str.{is_utf8}
 use Rattle.std.specs.List.{list_any}
 use Rattle.std.proofs.lemmas.Str.{IsUtf8-append, IsUtf8-from_is_utf8, is_utf8-from_IsUtf8}
+use Rattle.lr_rules.proofs.Bools.{same_bools}
 use Rattle.lr_lex.specs.Lines.{NumberedLine, line_at, lines, longer, line_of, after_line}
 use Rattle.lr_lex.specs.Items.{is_text, is_zero, is_end, body, ended, script_text}
 use Rattle.lr_lex.proofs.Ascii.{parts, one_text}
@@ -31,11 +32,6 @@ lines-text n at (b ∷ bs) = by_test (eqb b 10) refl (lines-text (n + 1) (at + 1
         → Closed (script_text (cond t (line_at n at [] ∷ lines (n + 1) (at + 1) bs) (longer n at b (lines n (at + 1) bs)))) (b ∷ bs)
     by_test true e c d = let is : b ≡ 10 = eqb-true b 10 e in subst (λ x. Closed (x ∷ script_text (lines (n + 1) (at + 1) bs)) (b ∷ bs)) is (one-more b (script_text (lines (n + 1) (at + 1) bs)) bs c)
     by_test false e c d = longer-text n at b (lines n (at + 1) bs) bs d
-
-same_bools : (a b : Bool) → (a ≡ true → b ≡ true) → (b ≡ true → a ≡ true) → a ≡ b
-same_bools true b f g = sym (f refl)
-same_bools false true f g = g refl
-same_bools false false f g = refl
 
 newline-utf8 : (bs : List ℕ) → is_utf8 bs ≡ is_utf8 (bs ++ 10 ∷ [])
 newline-utf8 bs =

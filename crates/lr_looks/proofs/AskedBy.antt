@@ -2,6 +2,7 @@
 use Rattle.std.proofs.Common.{◌≡◌, ◌<◌, ◌+◌, ℕ, zero, suc, List, [], ◌∷◌, ◌++◌, length, map, take, get_or, sym, ap, ◌∙◌, subst, arith, append_assoc}
 use Rattle.std.proofs.lemmas.List.{append-nil, map-append, take_more}
 use Rattle.lr_rules.specs.declared.rule.Rule.{Rule}
+use Rattle.lr_host.proofs.Counts.{none_more}
 use Rattle.lr_looks.specs.Asked.{Word, word_of, rule_words, words_from, asked_by}
 
 plus_none : (n : ℕ) → n ≡ n + 0
@@ -40,9 +41,6 @@ from_step k (r ∷ rules) zero rule lt e = append-nil (rule_words k r) ∙ (ap (
 from_step k (r ∷ rules) (suc at) rule lt e =
     ap (λ xs. rule_words k r ++ xs) (from_step (k + 1) rules at rule (omega (arith, lt)) e ∙ ap (λ n. words_from (k + 1) (take at rules) ++ rule_words n rule) (moved k at))
     ∙ sym (append_assoc (rule_words k r) (words_from (k + 1) (take at rules)) (rule_words (k + suc at) rule))
-
-none_more : (n : ℕ) → 0 + n ≡ n
-none_more n = omega arith
 
 pub asked_more : (rules : List Rule) (at : ℕ) (rule : Rule) → at < length rules → rule ≡ get_or rules at rule → asked_by (take (at + 1) rules) ≡ asked_by (take at rules) ++ rule_words at rule
 asked_more rules at rule lt e = subst (λ n. asked_by (take n rules) ≡ asked_by (take at rules) ++ rule_words at rule) (next at) (from_step 0 rules at rule lt e ∙ ap (λ n. asked_by (take at rules) ++ rule_words n rule) (none_more at))

@@ -24,7 +24,7 @@ use Rattle.lr_rules.specs.Limits.{is_format, or_none}
 use Rattle.lr_looks.specs.declared.found.Found.{Found}
 use Rattle.lr_looks.specs.declared.standing.Standing.{Standing}
 use Rattle.lr_host.specs.Counted.{WentBy}
-use Rattle.lr_host.proofs.Counts.{free_none, went_free, went_call}
+use Rattle.lr_host.proofs.Counts.{free_none, went_free, went_call, none_more}
 use Rattle.lr_looks.specs.Found.{FoundLog, found_in, all_found_in, Hold}
 use Rattle.lr_looks.specs.Families.{ShowFamilies, HadMemory, AllHadMemory, stop_fault, family_fault, family_faults, LookedLog, looked_at, looked_by, looked_of, LookedAtFamilies, LookedAtSomeFamilies, FamilySight, Stood, Stopped, sight_of, ShowsAside, ShowsNoAside, ShowsMembersIn, ShowsFamily, behind_listing, with_listing, not_listed}
 use Rattle.lr_looks.specs.Internal.{TakesListing, before, taken, LacksListing, IsListedAt, NoListing, lacks, unadded, FamilyPart, AddsLooked, AddsFamily, AddsFamilies, LooksBySets}
@@ -179,9 +179,6 @@ families_on known mid after fs gs a b c p q ts us l k = record {
   faults_are = grown a b c _ _ _ l.faults_are k.faults_are (faults_on l.sights k.sights);
   looked_are = ap (λ (ls : List LookedLog). ls ++ q) l.looked_are ∙ (ap (λ (ls : List LookedLog). looked_of fs l.sights ++ ls) k.looked_are ∙ sym (looked_on fs gs l.sights k.sights (as_many_sights known mid fs l.sights ts l.shown)));
 }
-
-none_more : (n : ℕ) → 0 + n ≡ n
-none_more n = omega arith
 
 take_past : (xs ys : List FoundLog) (n : ℕ) → take (length xs + n) (xs ++ ys) ≡ xs ++ take n ys
 take_past [] ys n = ap (λ k. take k ys) (none_more n)

@@ -2,12 +2,11 @@
 use Rattle.std.proofs.Common.{◌≡◌, true, List, [], ◌∷◌, length, All, arith, rules}
 use Rattle.std.specs.List.{list_all}
 use Rattle.std.proofs.lemmas.Bool.{and_parts}
-use Rattle.std.proofs.lemmas.Bool.Decides.{nat_tests}
 use Rattle.std.proofs.lemmas.List.Elements.{All-cons}
-use Rattle.lr_rules.specs.declared.rule.Count.{Count}
 use Rattle.lr_rules.specs.declared.rule.Count.TheVariants as count
 use Rattle.lr_rules.specs.declared.rule.Rule.{Rule}
 use Rattle.lr_rules.specs.Limits.{is_log_word, is_criterion, is_count, meets_limits, IsCount}
+use Rattle.lr_rules.proofs.Counts.{count_small}
 use Rattle.lr_plan.specs.declared.looks.LogLook.{LogLook}
 use Rattle.lr_plan.specs.declared.looks.SetLooks.{SetLooks}
 use Rattle.lr_plan.specs.Planned.{CanPlan, CanPlanSet, CanPlanAll}
@@ -25,15 +24,11 @@ asks_all (x ∷ xs) limits =
     All-cons CanAsk x xs both.0 (asks_all xs both.1)
 
 -- a rule within its limits has a count that a rotation can have
-small : (c : Count) → is_count c ≡ true → IsCount c
-small (count.Keep n) h = grind (arith, nat_tests)
-small count.Always h = tt
-
 small_count : (rule : Rule) → meets_limits rule ≡ true → IsCount rule.count
 small_count rule h =
     let behind_words = (and_parts (list_all is_log_word rule.words) _ h).1 in
     let behind_criterion = (and_parts (is_criterion rule.criterion) _ behind_words).1 in
-    small rule.count (and_parts (is_count rule.count) _ behind_criterion).0
+    count_small rule.count (and_parts (is_count rule.count) _ behind_criterion).0
 
 -- its logs can be planned for
 pub can_plan_set : (rule : Rule) (looks : List LogLook) → meets_limits rule ≡ true → All CanPlan looks → CanPlanSet rule looks

@@ -1,6 +1,6 @@
 -- A log and the naming that a rule within its limits gives it make a family.
 use Rattle.std.proofs.Common.{◌≡◌, ◌≤◌, ◌+◌, ◌-◌, ℕ, zero, suc, Bool, true, false, not, cond, ◌&&◌, List, [], ◌∷◌, ◌++◌, length, take, drop, min, None, Option, Some, refl, ap, ◌∙◌, arith, nat_lt}
-use Rattle.std.specs.Prelude.{decimal, filter, flat_map, nat_le}
+use Rattle.std.specs.Prelude.{decimal, filter, nat_le}
 use Rattle.std.specs.List.{list_any, list_all, slice_split, onto_first}
 use Rattle.std.proofs.lemmas.List.Concat.{flat_map-append}
 use Rattle.std.proofs.lemmas.List.{length-take, length-append}
@@ -19,6 +19,7 @@ use Rattle.lr_rules.proofs.PathLemmas.{last_joined, last_plain, plain_both}
 use Rattle.lr_family.specs.Kin.{IsKin, is_barred}
 use Rattle.lr_host.specs.declared.thing.Seen.{Seen}
 use Rattle.lr_rules.specs.Match.{is_wildcard}
+use Rattle.lr_rules.proofs.FromWord.{slashed}
 use Rattle.lr_glob.specs.declared.found.Found.{Found as Match}
 use Rattle.lr_looks.specs.declared.found.Found.{Found}
 use Rattle.lr_looks.specs.Asked.{word_of}
@@ -96,10 +97,6 @@ format_fine r h =
     (and_parts (or_none is_address r.mail) _ d).1
 
 -- ---- the directory
-
--- a part behind one slash
-abbrev slashed : List (List ℕ) → List ℕ
-slashed parts = flat_map (λ name. 47 ∷ name) parts
 
 onto_more : (b : ℕ) (ps : List (List ℕ)) (n : ℕ) → length (slashed ps) ≡ n + 1 → length (slashed (onto_first b ps)) ≡ suc n + 1
 onto_more b [] n h = absurd (omega (arith, h))

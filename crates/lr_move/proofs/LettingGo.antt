@@ -15,9 +15,10 @@ use Rattle.lr_host.specs.Told.{Each, Made, at_first, by_tool, Then, Maybe, Left,
 use Rattle.lr_host.specs.World.{Past, ◌▸◌, past}
 use Rattle.lr_host.proofs.Made.{made_on, made_journal}
 use Rattle.lr_host.proofs.Quiet.{since_before}
+use Rattle.lr_host.proofs.Each.{each_last}
 use Rattle.lr_copy.specs.declared.job.Job.{Job}
 use Rattle.lr_copy.specs.Fits.{ArePaths}
-use Rattle.lr_laws.proofs.Lists.{IsOnWay, on_way, each_last}
+use Rattle.lr_laws.proofs.Lists.{IsOnWay, on_way}
 use Rattle.lr_laws.proofs.Parts.{named_once}
 use Rattle.lr_laws_family.specs.Whole.{Named, WritersSpareCopy, IsCopyWhole}
 use Rattle.lr_laws_family.proofs.Moments.{IsLast, is_last}

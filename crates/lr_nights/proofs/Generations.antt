@@ -2,7 +2,6 @@
 use Rattle.std.proofs.Common.{◌≡◌, inl, inr, ⊎_elim, ℕ, Bool, true, false, cond, ◌||◌, ◌&&◌, List, [], ◌∷◌, refl, sym, ◌∙◌, ap, subst, Option, Some, None, ℤ, bytes_eq}
 use Rattle.std.specs.Prelude.{◌↔◌, is_some}
 use Rattle.std.specs.List.{list_any}
-use Rattle.std.proofs.lemmas.Bool.Decides.{Decides-eqb}
 use Rattle.std.proofs.lemmas.Slice.Eq.{bytes_eq-Decides}
 use Rattle.std.proofs.lemmas.Bool.{or_cases, or_left, or_right, and_parts, and_from}
 use Rattle.lr_rules.specs.declared.path.Path.{Path}
@@ -16,6 +15,7 @@ use Rattle.lr_host.specs.World.{World, Names, Past, Opens, ◌▸◌, world, nam
 use Rattle.lr_host.specs.Released.{IsUnnamed}
 use Rattle.lr_host.specs.Sets.{LogSet, in_set}
 use Rattle.lr_host.specs.Later.{stood, WasMember, IsGeneration}
+use Rattle.lr_host.proofs.Looked.{is_file_true, true_is_file}
 use Rattle.lr_family.specs.declared.family.Family.{Family}
 use Rattle.lr_disk.specs.Pairs.{keys}
 use Rattle.lr_disk.specs.Names.{named_in}
@@ -25,15 +25,6 @@ use Rattle.lr_nights.specs.Walk.{may_rename}
 use Rattle.lr_nights.proofs.Lists.{any_in, any_from}
 
 -- ---- what is named
-
-pub file_true : (t : Thing) (g : ℕ) → is_file t g ≡ true → t ≡ thing.File g
-file_true (thing.File f) g h = ap (λ (i : ℕ). thing.File i) ((Decides-eqb f g).0 h)
-file_true thing.Nothing g h = absurd (cc)
-file_true thing.Directory g h = absurd (cc)
-file_true thing.Other g h = absurd (cc)
-
-pub true_file : (t : Thing) (g : ℕ) → t ≡ thing.File g → is_file t g ≡ true
-true_file t g e = ap (λ (u : Thing). is_file u g) e ∙ (Decides-eqb g g).1 refl
 
 -- a file that a path names stands in a pair
 pub named_pair : (ns : List (Path × Thing)) (x : Path) (g : ℕ) → named_in ns x ≡ thing.File g → IsIn (x, thing.File g) ns
@@ -73,20 +64,20 @@ from_pair ns n are q h = sym (are.named q.0) ∙ pair_named ns q are.once h
 -- no pair has the file exactly where no path names it
 pub unnamed_is : (ns : List (Path × Thing)) (n : Names) → AreNames ns n → (g : ℕ) → (has_name ns g ≡ false) ↔ IsUnnamed n g
 unnamed_is ns n are g = (
-  (λ none x h. let some : has_name ns g ≡ true = any_from (λ (q : Path × Thing). is_file q.1 g) ns (x, thing.File g) (in_pairs ns n are x g h) (true_file (thing.File g) g refl) in let no : false ≡ true = sym none ∙ some in absurd (cc)),
+  (λ none x h. let some : has_name ns g ≡ true = any_from (λ (q : Path × Thing). is_file q.1 g) ns (x, thing.File g) (in_pairs ns n are x g h) (true_is_file (thing.File g) g refl) in let no : false ≡ true = sym none ∙ some in absurd (cc)),
   (λ none. go (has_name ns g) refl none),
 )
   where
     go : (b : Bool) → has_name ns g ≡ b → IsUnnamed n g → has_name ns g ≡ false
     go false e none = e
-    go true e none = let r = any_in (λ (q : Path × Thing). is_file q.1 g) ns e in absurd (none r.0.0 (from_pair ns n are r.0 r.1 ∙ file_true r.0.1 g r.2))
+    go true e none = let r = any_in (λ (q : Path × Thing). is_file q.1 g) ns e in absurd (none r.0.0 (from_pair ns n are r.0 r.1 ∙ is_file_true r.0.1 g r.2))
 
 -- ---- at the opening
 
 -- a file of the set at the opening is a generation
 found : (s : LogSet) (o : Opening) (x : Path) (g : ℕ) → in_set s x ≡ true → opening_names o x ≡ thing.File g → IsGeneration s (Opens o) g
 found s o x g h e = ⊎_elim
-    (λ log. let same : s.log ≡ x = (bytes_eq-Decides s.log x).0 log in inl (true_file (opening_names o s.log) g (ap (opening_names o) same ∙ e)))
+    (λ log. let same : s.log ≡ x = (bytes_eq-Decides s.log x).0 log in inl (true_is_file (opening_names o s.log) g (ap (opening_names o) same ∙ e)))
     (λ some. inr (member (s.key x) refl some))
     (or_cases (bytes_eq s.log x) (is_some (s.key x)) h)
   where
@@ -96,7 +87,7 @@ found s o x g h e = ⊎_elim
 
 -- and each generation is such a file
 lost : (s : LogSet) (o : Opening) (g : ℕ) → IsGeneration s (Opens o) g → (x : Path) × (in_set s x ≡ true) × (opening_names o x ≡ thing.File g)
-lost s o g (inl h) = (s.log, or_left (bytes_eq s.log s.log) (is_some (s.key s.log)) ((bytes_eq-Decides s.log s.log).1 refl), file_true (opening_names o s.log) g h)
+lost s o g (inl h) = (s.log, or_left (bytes_eq s.log s.log) (is_some (s.key s.log)) ((bytes_eq-Decides s.log s.log).1 refl), is_file_true (opening_names o s.log) g h)
 lost s o g (inr m) = (m.at, or_right (bytes_eq s.log m.at) (is_some (s.key m.at)) (ap is_some m.member), m.named)
 
 pub first_generations : (sets : List LogSet) (o : Opening) (ns : List (Path × Thing)) → AreNames ns (opening_names o) → (g : ℕ) → (is_of_logs sets ns g ≡ true) ↔ IsGenerationOfOne sets (Opens o) g
@@ -105,10 +96,10 @@ first_generations sets o ns are g = (
       let r = any_in (λ (n : Path × Thing). in_one sets n.0 && is_file n.1 g) ns h in
       let b = and_parts (in_one sets r.0.0) (is_file r.0.1 g) r.2 in
       let s = any_in (λ (s : LogSet). in_set s r.0.0) sets b.0 in
-      record { set = s.0; one = s.1; generation = found s.0 o r.0.0 g s.2 (from_pair ns (opening_names o) are r.0 r.1 ∙ file_true r.0.1 g b.1) }),
+      record { set = s.0; one = s.1; generation = found s.0 o r.0.0 g s.2 (from_pair ns (opening_names o) are r.0 r.1 ∙ is_file_true r.0.1 g b.1) }),
   (λ i.
       let r = lost i.set o g i.generation in
-      any_from (λ (n : Path × Thing). in_one sets n.0 && is_file n.1 g) ns (r.0, thing.File g) (in_pairs ns (opening_names o) are r.0 g r.2) (and_from (in_one sets r.0) (is_file (thing.File g) g) (any_from (λ (s : LogSet). in_set s r.0) sets i.set i.one r.1) (true_file (thing.File g) g refl))),
+      any_from (λ (n : Path × Thing). in_one sets n.0 && is_file n.1 g) ns (r.0, thing.File g) (in_pairs ns (opening_names o) are r.0 g r.2) (and_from (in_one sets r.0) (is_file (thing.File g) g) (any_from (λ (s : LogSet). in_set s r.0) sets i.set i.one r.1) (true_is_file (thing.File g) g refl))),
 )
 
 -- ---- behind an entry

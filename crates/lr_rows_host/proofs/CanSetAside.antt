@@ -1,5 +1,5 @@
 -- What the calls ask for that set a log aside.
-use Rattle.std.proofs.Common.{◌≡◌, ◌≢◌, ℕ, Bool, true, false, cond, refl, sym, ◌∙◌, ap, subst, List, [], ◌∷◌, ◌++◌, map, Option, Some, None, bytes_eq}
+use Rattle.std.proofs.Common.{◌≡◌, ◌≢◌, ℕ, refl, sym, ◌∙◌, ap, subst, List, [], ◌∷◌, ◌++◌, map, Option, Some, None}
 use Rattle.lr_rules.specs.declared.path.Path.{Path}
 use Rattle.lr_rules.specs.Path.{parent_of}
 use Rattle.lr_host.specs.declared.thing.Thing.TheVariants as thing
@@ -9,7 +9,7 @@ use Rattle.lr_host.specs.declared.journal.Journal.{Journal}
 use Rattle.lr_host.specs.World.{Names, names, world, past, put}
 use Rattle.lr_host.specs.Fits.{IsFileAt, IsDirectoryAt}
 use Rattle.lr_host.specs.Steps.{CanAll}
-use Rattle.lr_host.proofs.Names.{put_here, put_other}
+use Rattle.lr_host.proofs.Names.{put_here, put_other, put_directory}
 use Rattle.lr_host.proofs.Stays.{dir_put, file_put, no_dir}
 use Rattle.lr_chain.specs.declared.ready.Move.{Move}
 use Rattle.lr_chain.specs.declared.ready.Ready.{Ready}
@@ -61,18 +61,10 @@ one_move j ready dir tmp log step no_dir one log_is can =
 
 -- ---- behind the making of the directory
 
--- a directory stays one
-put_dir : (n : Names) (x y : Path) → IsDirectoryAt n y → IsDirectoryAt (put n x thing.Directory) y
-put_dir n x y d = go (bytes_eq x y)
-  where
-    go : (b : Bool) → cond b thing.Directory (n y) ≡ thing.Directory
-    go true = refl
-    go false = d
-
 pub can_behind_making : (j : Journal) (dir : Path) (mode : Option ℕ) (log tmp : Path) → IsDirectoryAt (names (world (past j))) (parent_of dir) → IsFileAt (names (world (past j))) log → IsPlace (names (world (past j))) tmp → log ≢ tmp → dir ≢ log → dir ≢ tmp
     → CanAll (Some j) (MakesDir dir mode ∷ SyncsDir dir ∷ Renames log tmp ∷ [])
 can_behind_making j dir mode log tmp inside log_file log_place apart dir_log dir_tmp = record {
-  can = (((tt, inside), put_here n dir dir thing.Directory refl), (file_put n dir log thing.Directory dir_log log_file, λ e. log_place.no_directory (sym same ∙ e), λ e. log_place.no_other (sym same ∙ e), put_dir n dir (parent_of tmp) log_place.inside, apart));
+  can = (((tt, inside), put_here n dir dir thing.Directory refl), (file_put n dir log thing.Directory dir_log log_file, λ e. log_place.no_directory (sym same ∙ e), λ e. log_place.no_other (sym same ∙ e), put_directory n dir (parent_of tmp) log_place.inside, apart));
 }
   where
     n : Names

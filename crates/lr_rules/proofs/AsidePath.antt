@@ -5,7 +5,7 @@ use Rattle.std.proofs.lemmas.Str.{IsUtf8-from_ascii}
 use Rattle.lr_rules.specs.Path.{path_fault}
 use Rattle.lr_rules.proofs.Endings.{IsEnding, ended_path, low_ascii}
 
-aside_ending : IsEnding (codes ".tmp")
+pub aside_ending : IsEnding (codes ".tmp")
 aside_ending = record { long = omega arith; text = IsUtf8-from_ascii (codes ".tmp") (low_ascii (codes ".tmp") refl); plain = refl; good = refl }
 
 pub aside_fault : (log : List ℕ) → path_fault log ≡ None → length log ≤ 2048 → path_fault (log ++ codes ".tmp") ≡ None

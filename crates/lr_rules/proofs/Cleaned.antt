@@ -11,7 +11,7 @@ use Rattle.lr_rules.specs.declared.path.PathFault.TheVariants as fault
 use Rattle.lr_rules.specs.Path.{path_fault, is_slash, is_empty, is_absolute, has_bad_byte, has_empty_part, has_dot_part, is_kept, behind_slash, behind_slashes, kept_parts, or_root, cleaned}
 
 -- parts without a slash
-abbrev ArePlain : List (List ℕ) → Type 0
+abbrev pub ArePlain : List (List ℕ) → Type 0
 ArePlain [] = Unit {0}
 ArePlain (p ∷ ps) = (list_any is_slash p ≡ false) × ArePlain ps
 
@@ -35,7 +35,7 @@ slashes-append : (ps qs : List (List ℕ)) → behind_slashes (ps ++ qs) ≡ beh
 slashes-append [] qs = refl
 slashes-append (p ∷ ps) qs = ap (λ xs. behind_slash p ++ xs) (slashes-append ps qs) ∙ sym (append_assoc (behind_slash p) (behind_slashes ps) (behind_slashes qs))
 
-all_plain : (bs : List ℕ) → list_any is_slash bs ≡ false → All (λ b. is_slash b ≡ false) bs
+pub all_plain : (bs : List ℕ) → list_any is_slash bs ≡ false → All (λ b. is_slash b ≡ false) bs
 all_plain [] h = All-nil (λ b. is_slash b ≡ false)
 all_plain (b ∷ bs) h = let o = or_parts (is_slash b) (list_any is_slash bs) h in All-cons (λ b. is_slash b ≡ false) b bs o.0 (all_plain bs o.1)
 

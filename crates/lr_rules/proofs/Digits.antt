@@ -1,16 +1,17 @@
 -- Numbers as they are written: runs of digits, among which no slash stands.
-use Rattle.std.proofs.Common.{◌≡◌, ℕ, ◌+◌, ◌%◌, ◌≤◌, ◌<◌, ◌^◌, Bool, true, false, List, [], ◌∷◌, ◌++◌, refl, subst, arith, length-append, nat_eq, eqb-true}
-use Rattle.std.specs.Prelude.{decimal}
+use Rattle.std.proofs.Common.{◌≡◌, ℕ, ◌+◌, ◌%◌, ◌≤◌, ◌<◌, ◌^◌, Bool, true, false, List, [], ◌∷◌, ◌++◌, refl, subst, arith, length-append, nat_eq, eqb-true, ◌-◌, ◌&&◌, ◌∙◌, ap}
+use Rattle.std.specs.Prelude.{decimal, nat_le}
 use Rattle.std.specs.List.{list_any}
 use Rattle.std.specs.Char.{digit_value}
 use Rattle.std.specs.Str.Parse.{AllDigits}
-use Rattle.std.proofs.lemmas.Bool.{or_from}
+use Rattle.std.proofs.lemmas.Bool.{or_from, le-leb}
 use Rattle.std.proofs.lemmas.Fmt.{decimal_by_steps, decimal_is_IsNumeral}
 use Rattle.std.proofs.lemmas.List.Elements.{All-cons, All-append}
 use Rattle.lr_rules.specs.Names.{IsRun, AreDigits}
 use Rattle.lr_rules.specs.Path.{is_slash}
+use Rattle.lr_rules.specs.Bytes.{is_digit}
 
-abbrev IsDigit : ℕ → Type 0
+abbrev pub IsDigit : ℕ → Type 0
 IsDigit d = (48 ≤ d) × (d ≤ 57)
 
 pub one_digit : (d : ℕ) → d < 10 → AreDigits ((48 + d) ∷ [])
@@ -36,3 +37,6 @@ digits_plain (d ∷ ds) all = or_from (is_slash d) (list_any is_slash ds) (other
 
 pub decimal_plain : (n : ℕ) → n < 2 ^ 64 → list_any is_slash (decimal n) ≡ false
 decimal_plain n lt = digits_plain (decimal n) (decimal_is_IsNumeral n lt).0.1
+
+pub digit_is : (d : ℕ) → IsDigit d → is_digit d ≡ true
+digit_is d r = ap (λ b. b && nat_le d 57) (le-leb 48 d r.0) ∙ le-leb d 57 r.1

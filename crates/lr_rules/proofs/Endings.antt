@@ -12,7 +12,7 @@ use Rattle.std.proofs.lemmas.Str.{IsUtf8-from_is_utf8, is_utf8-from_IsUtf8, IsUt
 use Rattle.lr_rules.specs.declared.path.PathFault.{PathFault}
 use Rattle.lr_rules.specs.declared.path.PathFault.TheVariants as fault
 use Rattle.lr_rules.specs.Path.{path_fault, has_bad_byte, has_empty_part, has_dot_part, is_absolute, is_bad_byte, is_slash, is_empty, is_dots, parent_of, IsRefusal}
-use Rattle.lr_rules.proofs.PathLemmas.{none_of, plain_both, cut_of, absolute_has_slash, last_start_is}
+use Rattle.lr_rules.proofs.PathLemmas.{none_of, plain_both, cut_of, absolute_has_slash, last_start_is, absolute}
 
 -- What may stand behind a path: a text of at least three bytes, without a slash, a newline and a zero byte.
 pub record IsEnding (ending : List ℕ) : Type 0 where
@@ -36,15 +36,6 @@ long_no_dots [] h = absurd (omega arith)
 long_no_dots (a ∷ []) h = absurd (omega arith)
 long_no_dots (a ∷ b ∷ []) h = absurd (omega arith)
 long_no_dots (a ∷ b ∷ c ∷ xs) h = refl
-
-none_absolute : (bs : List ℕ) → path_fault bs ≡ None → is_absolute bs ≡ true
-unfolding path_fault
-none_absolute bs none =
-    let text = none_of (not (is_utf8 bs)) _ _ none in
-    let bytes = none_of (has_bad_byte bs) _ _ text.1 in
-    let size = none_of (nat_lt 4096 (length bs)) _ _ bytes.1 in
-    let start = none_of (not (is_absolute bs)) _ _ size.1 in
-    not-false (is_absolute bs) start.0
 
 no_fault : (a b c d e f : Bool) → a ≡ false → b ≡ false → c ≡ false → d ≡ false → e ≡ false → f ≡ false
     → cond a (Some fault.NotUtf8) (cond b (Some fault.BadByte) (cond c (Some fault.TooLong) (cond d (Some fault.Relative) (cond e (Some fault.EmptyPart) (cond f (Some fault.DotPart) None))))) ≡ None
@@ -150,7 +141,7 @@ same_parent front n m p q =
 
 pub ended_parent : (ending bs : List ℕ) → list_any is_slash ending ≡ false → path_fault bs ≡ None → parent_of (bs ++ ending) ≡ parent_of bs
 ended_parent ending bs plain none =
-    let c = cut_of bs (absolute_has_slash bs (none_absolute bs none)) in
+    let c = cut_of bs (absolute_has_slash bs (absolute bs none)) in
     ap (λ (x : List ℕ). parent_of (x ++ ending)) c.is
     ∙ (ap parent_of (append_assoc c.front (47 ∷ c.last) ending)
     ∙ (same_parent c.front (c.last ++ ending) c.last (plain_both c.last ending c.plain plain) c.plain ∙ ap parent_of (sym c.is)))

@@ -6,7 +6,7 @@ use Rattle.lr_rules.specs.Names.{is_step, word_parts, path_by, path_from}
 use Rattle.lr_rules.specs.Path.{is_absolute, is_slash, is_kept, behind_slashes, kept_parts, or_root, cleaned}
 
 -- a part behind one slash
-abbrev slashed : List (List ℕ) → List ℕ
+abbrev pub slashed : List (List ℕ) → List ℕ
 slashed parts = flat_map (λ name. 47 ∷ name) parts
 
 step_is : (part : List ℕ) → is_step part ≡ is_kept part

@@ -10,7 +10,7 @@ use Rattle.std.proofs.lemmas.Str.{IsUtf8-from_is_utf8, is_utf8-from_IsUtf8, IsUt
 use Rattle.lr_rules.specs.declared.path.PathFault.{PathFault}
 use Rattle.lr_rules.specs.declared.path.PathFault.TheVariants as fault
 use Rattle.lr_rules.specs.Path.{path_fault, has_bad_byte, has_empty_part, has_dot_part, is_absolute, is_bad_byte, is_slash, is_empty, is_dots, joined}
-use Rattle.lr_rules.proofs.PathLemmas.{at_slash, no_text}
+use Rattle.lr_rules.proofs.PathLemmas.{at_slash, no_text, drop_front}
 use Rattle.lr_rules.proofs.ParentPath.{is_path, split_both}
 
 -- ---- behind a front of which nothing is wrong
@@ -22,14 +22,10 @@ slash_utf8 = IsUtf8-from_ascii (47 ∷ []) ascii
     ascii zero = lit< tt
     ascii (suc i) = lit< tt
 
-past_front : (front n : List ℕ) → drop (suc (length front)) (front ++ 47 ∷ n) ≡ n
-past_front [] n = refl
-past_front (x ∷ xs) n = past_front xs n
-
 behind_front : (front n : List ℕ) → drop (length front + 1) (front ++ 47 ∷ n) ≡ n
 behind_front front n =
     let e : length front + 1 ≡ suc (length front) = omega arith in
-    ap (λ k. drop k (front ++ 47 ∷ n)) e ∙ past_front front n
+    ap (λ k. drop k (front ++ 47 ∷ n)) e ∙ drop_front front n
 
 name_utf8 : (front n : List ℕ) → is_utf8 (front ++ 47 ∷ n) ≡ true → is_utf8 n ≡ true
 name_utf8 front n h =
@@ -129,3 +125,6 @@ pub fault_no_text : (dir n : List ℕ) → path_fault dir ≡ None → (IsUtf8 n
 fault_no_text dir n none refused =
     let t = tests_of dir n none in
     no_text (joined dir n) (λ h. refused (IsUtf8-from_is_utf8 n (sym t.text ∙ is_utf8-from_IsUtf8 (joined dir n) h)))
+
+pub joined_long : (dir name : List ℕ) → nat_eq (length dir) 1 ≡ false → joined dir name ≡ dir ++ 47 ∷ name
+joined_long dir name more = ap (λ b. cond b [] dir ++ 47 ∷ name) more

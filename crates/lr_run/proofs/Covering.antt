@@ -9,6 +9,7 @@ use Rattle.lr_rules.specs.declared.rule.Make.{Make}
 use Rattle.lr_rules.specs.declared.rule.Naming.{Naming}
 use Rattle.lr_rules.specs.declared.rules.Rules.{Rules}
 use Rattle.lr_rules.specs.Path.{parent_of}
+use Rattle.lr_rules.proofs.Beside.{parent_same}
 use Rattle.lr_host.specs.declared.entry.Entry.{Entry}
 use Rattle.lr_host.specs.declared.entry.Entry.TheVariants as entry
 use Rattle.lr_host.specs.Lists.{IsIn}
@@ -28,7 +29,6 @@ use Rattle.lr_laws_rotations.specs.Own.{MakesItsDir, IsOfFamily}
 use Rattle.lr_laws_rotations.specs.Seen.{IsLogSeen}
 use Rattle.lr_laws_rotations.specs.Target.{Target, IsReadyBy}
 use Rattle.lr_laws_rotations.proofs.LogSeen.{any_names}
-use Rattle.lr_laws_rotations.proofs.Waiting.{parent_same}
 use Rattle.lr_laws_rotations.proofs.Own.{target_member, family_change, any_change}
 use Rattle.lr_laws_rotations.proofs.PartFile.{member_parent, part_parent}
 use Rattle.lr_looks.specs.Reserved.{reserved_by}

@@ -15,13 +15,14 @@ use Rattle.lr_host.specs.Counted.{AreCounted, AddsFaults, Went, WentBy}
 use Rattle.lr_plan.specs.Asked.{Asked}
 use Rattle.lr_plan.specs.declared.plan.Plan.{Plan}
 use Rattle.lr_host.proofs.Counts.{free_none, adds_free, adds_on, went_free, went_call}
+use Rattle.lr_host.proofs.Running.{IsOn}
 use Rattle.lr_family.specs.declared.directory.DirStop.{DirStop}
 use Rattle.lr_family.specs.declared.directory.DirStop.TheVariants as dir
 use Rattle.lr_family.specs.Directory.{dir_fault_of}
 use Rattle.lr_run.specs.Internal.{CameTo, WorksOn, SomeWork}
 use Rattle.lr_run.proofs.Entries.{works_so, lacking_so}
 use Rattle.lr_run.proofs.Evidence.{works_of}
-use Rattle.lr_run.proofs.Working.{IsWork, IsOn, does_work, goes_on}
+use Rattle.lr_run.proofs.Working.{IsWork, does_work, goes_on}
 
 -- the run is on where the work ends
 pub end_there : {T E : Type 0} (r : Result T E) (state : Path) (rules : List Rule) (clock : Clock) (asked : Asked) (plan : Option Plan) (a b : List Fault) (o n : Option Journal) → OnOk r (CameTo (WorksOn state rules clock asked plan a b) state clock o n) → OnErr r (Left (SomeWork state rules clock asked) o n)

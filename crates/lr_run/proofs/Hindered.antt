@@ -27,7 +27,7 @@ use Rattle.lr_host.specs.Told.{Each, Made, Left, Then}
 use Rattle.lr_host.specs.World.{Past, past, world, names}
 use Rattle.lr_host.proofs.Each.{each_append}
 use Rattle.lr_host.proofs.Left.{left_as, left_first}
-use Rattle.lr_host.proofs.Lists.{in_append, in_back, in_to}
+use Rattle.lr_host.proofs.Lists.{in_append, in_back, in_to, of_flat}
 use Rattle.lr_host.proofs.Quiet.{quiet_still, still_in_order}
 use Rattle.lr_due.specs.declared.answer.Due.{Due}
 use Rattle.lr_due.specs.declared.answer.Due.TheVariants as due
@@ -67,7 +67,7 @@ use Rattle.lr_looks.specs.Reserved.{reserved_by}
 use Rattle.lr_laws_looks.specs.Targets.{groups_of, all_targets}
 use Rattle.lr_laws_looks.proofs.Apart.{OffLooked, kept_off, looked_pairs, targets_apart}
 use Rattle.lr_laws_looks.proofs.Coming.{Comes, comes_from, was_looked, in_looked}
-use Rattle.lr_laws_looks.proofs.Elements.{in_flat, pairs_two}
+use Rattle.lr_laws_looks.proofs.Elements.{pairs_two}
 use Rattle.lr_laws_looks.proofs.Kept.{kept_has_none}
 use Rattle.lr_laws_looks.proofs.SeenListed.{WasShown, all_shown}
 use Rattle.lr_laws_looks.proofs.Quiet.{whole_quiet}
@@ -190,7 +190,7 @@ hindered_by clock decide (rule ∷ rules) (set ∷ sets) path i = ⊎_elim own (
 
     own : IsIn (fault.Taken path) (log_faults clock rule (decide rule) set.logs) → IsHindered clock (rule ∷ rules) (set ∷ sets) path
     own a =
-        let r = in_flat (λ (look : LogLook). where_due (decide rule look) (due_faults clock rule look)) set.logs (fault.Taken path) a in
+        let r = of_flat (λ (look : LogLook). where_due (decide rule look) (due_faults clock rule look)) set.logs (fault.Taken path) a in
         record { place = 0; rule = rule; set = set; look = r.0; at_set = refl; among = r.1; fault_in = by_members r.0 (in_due (decide rule r.0) (due_faults clock rule r.0) (fault.Taken path) r.2) }
 
     further : IsHindered clock rules sets path → IsHindered clock (rule ∷ rules) (set ∷ sets) path

@@ -8,6 +8,7 @@ use Rattle.lr_rules.specs.declared.path.Path.{Path}
 use Rattle.lr_rules.specs.declared.rule.Naming.{Naming}
 use Rattle.lr_rules.specs.declared.rules.Rules.{Rules}
 use Rattle.lr_rules.specs.Names.{IsOwnName, Meet}
+use Rattle.lr_rules.proofs.Beside.{beside_other}
 use Rattle.lr_host.specs.declared.entry.Entry.{Entry}
 use Rattle.lr_host.specs.Lists.{IsIn}
 use Rattle.lr_family.specs.Parts.{part_of, IsMember, IsMembersPart}
@@ -22,7 +23,6 @@ use Rattle.lr_laws_rotations.proofs.LogSeen.{any_names}
 use Rattle.lr_laws_rotations.proofs.Own.{named_own, target_member}
 use Rattle.lr_laws_rotations.proofs.PartFile.{part_no_member}
 use Rattle.lr_laws_rotations.proofs.Plan.{plan_is_one}
-use Rattle.lr_laws_rotations.proofs.Waiting.{beside_other}
 use Rattle.lr_laws_rotations.proofs.Way.{aside_is, first_own, aside_own, source_apart}
 use Rattle.lr_plan.specs.declared.plan.SetPlan.{SetPlan}
 use Rattle.lr_laws_acts.specs.Fitting.{NoneMeets}

@@ -16,6 +16,7 @@ use Rattle.lr_rules.specs.declared.rule.Naming.{Naming}
 use Rattle.lr_rules.specs.Path.{parent_of}
 use Rattle.lr_rules.specs.Names.{aside_path, IsOwnName, set_aside}
 use Rattle.lr_rules.specs.StatePath.{state_part}
+use Rattle.lr_rules.proofs.Bools.{not_both}
 use Rattle.lr_host.specs.declared.journal.Journal.{Journal}
 use Rattle.lr_host.specs.declared.entry.Entry.{Entry}
 use Rattle.lr_host.specs.declared.entry.Entry.TheVariants.{Starts, Ends, Unlinks}
@@ -129,9 +130,6 @@ module _ (s : LogSet) (p q : Past) (es : List Entry) (made : Made p es q) (j : I
 
 -- ---- the logs of a plan at the path where the set's log waits
 
-clash : (b : Bool) → b ≡ true → b ≡ false → ⊥
-clash b x y = cc
-
 -- the set reaches the path where its log waits
 waits_reached : (s : LogSet) → s.naming.aside ≡ true → in_reach s (aside_path s.log) ≡ true
 waits_reached s asked = or_left (is_unplaced s (aside_path s.log)) (is_some (s.key (aside_path s.log)))
@@ -154,11 +152,11 @@ module _ (s : LogSet) (asked : s.naming.aside ≡ true) (t : Target) (k : IsKnow
     where
       go : (b : Bool) → bytes_eq t.log s.log ≡ b → (t.log ≡ s.log) ⊎ (t.log ≢ s.log)
       go true e = inl ((bytes_eq-Decides t.log s.log).0 e)
-      go false e = inr (λ same. clash (bytes_eq t.log s.log) ((bytes_eq-Decides t.log s.log).1 same) e)
+      go false e = inr (λ same. not_both (bytes_eq t.log s.log) ((bytes_eq-Decides t.log s.log).1 same) e)
 
   -- a name of another log's family is outside of the set
   other_name : (y : Path) → t.log ≢ s.log → IsOwnName t.log t.naming y → y ≢ waits
-  other_name y other own same = clash (in_reach s y) (ap (in_reach s) same ∙ waits_reached s asked) (apart_outside s t.log t.naming y (k.apart other) (inl own))
+  other_name y other own same = not_both (in_reach s y) (ap (in_reach s) same ∙ waits_reached s asked) (apart_outside s t.log t.naming y (k.apart other) (inl own))
 
   member_other : (y : Path) → IsMember t.naming y → y ≢ waits
   member_other y member = ⊎_elim own (λ other. other_name y other (member_own t.log t.naming y member)) same_or_not

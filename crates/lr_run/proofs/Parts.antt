@@ -1,5 +1,5 @@
 -- A run, put together of its parts.
-use Rattle.std.proofs.Common.{◌≡◌, ◌⊎◌, Bool, true, false, List, [], ◌∷◌, ◌++◌, reverse, Option, Some, None, Result, Ok, Err, refl, sym, ap, ◌∙◌, subst, append_assoc}
+use Rattle.std.proofs.Common.{◌≡◌, ◌⊎◌, Bool, false, List, [], ◌∷◌, ◌++◌, reverse, Option, Some, None, Result, Ok, Err, refl, sym, ap, ◌∙◌, subst, append_assoc}
 use Rattle.std.specs.Prelude.{OnOk, IfErr}
 use Rattle.std.proofs.lemmas.List.{append-nil}
 use Rattle.std.proofs.lemmas.Option.{none-some, same_Some}
@@ -38,10 +38,6 @@ use Rattle.lr_run.specs.Saw.{Saw, by_dir}
 use Rattle.lr_run.specs.Work.{Work, entries_of}
 use Rattle.lr_run.proofs.Coming.{begins, both_told, tells_later}
 use Rattle.lr_run.proofs.Knowing.{KnownText, known_text}
-
--- the begin answered so
-pub began : (state : Path) (clock : Clock) (rules : Rules) (b : Bool) {o n : Option Journal} → b ≡ true → Left (DidWhere {E = CallFault} (Ok b) (Starts state clock.now rules)) o n → Left (Are (Starts state clock.now rules ∷ [])) o n
-began state clock rules b e l = left_as l (λ ts h. subst (λ (x : Bool). DidWhere {E = CallFault} (Ok x) (Starts state clock.now rules) ts) e h)
 
 pub locked : (state : Path) (asked : Asked) (clock : Clock) (rules : Rules) (b : Bool) {o n : Option Journal} → b ≡ false → Left (DidWhere {E = CallFault} (Ok b) (Starts state clock.now rules)) o n → Left (RunStopped state asked clock rules stop.Held) o n
 locked state asked clock rules b e l = left_as l (λ ts h. subst (λ (x : Bool). DidWhere {E = CallFault} (Ok x) (Starts state clock.now rules) ts) e h)

@@ -19,7 +19,7 @@ use Rattle.lr_host.specs.Quiet.{IsQuiet, AreQuiet, is_disk_change}
 use Rattle.lr_host.specs.Steps.{is_change}
 use Rattle.lr_host.specs.Told.{Each, IsTools, Left, not_told, is_told, Maybe}
 use Rattle.lr_host.specs.World.{past}
-use Rattle.lr_host.proofs.Each.{each_append, each_as, each_first}
+use Rattle.lr_host.proofs.Each.{each_append, each_as, each_first, each_last}
 use Rattle.lr_laws.specs.Renewing.{LeavesAlone, IsWithinDirs, MayRenew, left_alone, renewed}
 use Rattle.lr_laws.specs.StateWhole.{KeepsWhole}
 use Rattle.lr_laws.proofs.Whole.{whole_at}
@@ -37,7 +37,7 @@ use Rattle.lr_laws_rotations.specs.Target.{Target}
 use Rattle.lr_laws_acts.specs.Parts.{ArePlanned}
 use Rattle.lr_laws_acts.specs.Planned.{HaveLogs}
 use Rattle.lr_laws_acts.proofs.Parting.{done_some, cut_some}
-use Rattle.lr_laws_acts.proofs.Planning.{ready_planned, each_end}
+use Rattle.lr_laws_acts.proofs.Planning.{ready_planned}
 use Rattle.lr_laws_looks.specs.Targets.{groups_of, all_targets}
 use Rattle.lr_laws_looks.proofs.Apart.{targets_apart}
 use Rattle.lr_laws_looks.proofs.Free.{targets_free}
@@ -210,7 +210,7 @@ module _ (state : Path) (rules : Rules) (clock : Clock) (asked : Asked) where
   -- a first part of the acts
   pub broke_aside : (ts : List Entry) → AreMade ts → BrokeOff state rules.sets clock asked ts → Each (LeavesAlone state) ts
   broke_aside ts made b = subst (Each (LeavesAlone state)) (sym parts)
-      (behind_aside ts b.looked b.looked.acts (each_end IsTools (b.looked.reads ++ b.looked.looks) b.looked.acts (subst (Each IsTools) parts (made_by_tools ts made)))
+      (behind_aside ts b.looked b.looked.acts (each_last IsTools (b.looked.reads ++ b.looked.looks) b.looked.acts (subst (Each IsTools) parts (made_by_tools ts made)))
       (cut_some (targets ts b.looked) (map steps_of_set (plan_in state rules.sets ts b.looked clock asked).sets) b.marks b.of_acts b.looked.acts (planned ts b.looked) b.part))
     where
       parts : ts ≡ (b.looked.reads ++ b.looked.looks) ++ b.looked.acts
@@ -234,10 +234,10 @@ module _ (state : Path) (rules : Rules) (clock : Clock) (asked : Asked) where
     tools_of = subst (Each IsTools) in_three (made_by_tools ts made)
 
     acts_tools : Each IsTools acts
-    acts_tools = each_end IsTools (seen ts l) acts (each_first IsTools (seen ts l ++ acts) w.acted.entries.entries.back tools_of)
+    acts_tools = each_last IsTools (seen ts l) acts (each_first IsTools (seen ts l ++ acts) w.acted.entries.entries.back tools_of)
 
     back_tools : Each IsTools w.acted.entries.entries.back
-    back_tools = each_end IsTools (seen ts l ++ acts) w.acted.entries.entries.back tools_of
+    back_tools = each_last IsTools (seen ts l ++ acts) w.acted.entries.entries.back tools_of
 
     acts_aside : Each (LeavesAlone state) (seen ts l ++ acts)
     acts_aside = behind_aside ts l acts acts_tools of_logs

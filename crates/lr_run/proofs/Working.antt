@@ -1,18 +1,16 @@
 -- Between its begin and its end a run leaves looks, listings, reads, changes, syncs and programs alone, so it goes on.
-use Rattle.std.proofs.Common.{◌≡◌, ◌≤◌, ◌⊎◌, inl, inr, ⊎_elim, ℕ, true, List, [], ◌∷◌, length, reverse, Option, refl, sym, ap, ◌∙◌, subst}
-use Rattle.std.proofs.lemmas.List.{reverse-reverse}
+use Rattle.std.proofs.Common.{◌≡◌, ◌≤◌, ◌⊎◌, inl, inr, ⊎_elim, ℕ, List, [], ◌∷◌, length, reverse, Option, sym, subst}
 use Rattle.lr_rules.specs.declared.path.Path.{Path}
-use Rattle.lr_rules.specs.declared.clock.Clock.{Clock}
-use Rattle.lr_rules.specs.declared.rules.Rules.{Rules}
 use Rattle.lr_rules.specs.declared.fault.Fault.{Fault}
 use Rattle.lr_rules.specs.declared.fault.Phase.{Phase}
 use Rattle.lr_host.specs.declared.entry.Entry.{Entry}
 use Rattle.lr_host.specs.declared.entry.Entry.TheVariants as entry
 use Rattle.lr_host.specs.declared.journal.Journal.{Journal}
-use Rattle.lr_host.specs.World.{Past, ◌▸◌, past, world}
+use Rattle.lr_host.specs.World.{Past, ◌▸◌, past}
 use Rattle.lr_copy.proofs.EachOfBytes.{each_all, each_broke}
-use Rattle.lr_host.specs.Told.{Each, IsWriters, Are, Made, at_first, by_writer, by_tool, Left, not_told, is_told, WhereTold}
+use Rattle.lr_host.specs.Told.{Each, Made, at_first, by_writer, by_tool, Left, not_told, is_told, WhereTold}
 use Rattle.lr_host.proofs.Each.{each_append, each_in_order}
+use Rattle.lr_host.proofs.Running.{writes_on, IsOn}
 use Rattle.lr_scripts.specs.declared.command.Command.{Command}
 use Rattle.lr_plan.specs.declared.mark.Mark.{Mark}
 use Rattle.lr_plan.specs.declared.step.SetSteps.{SetSteps}
@@ -122,16 +120,6 @@ does_work _ i = i
 
 -- ---- the run goes on
 
-abbrev pub IsOn : Past → Type 0
-IsOn p = (world p).running ≡ true
-
-writes_on : (p : Past) (e : Entry) → IsWriters e → IsOn p → IsOn (p ▸ e)
-writes_on p (entry.Attach writer x at) i r = r
-writes_on p (entry.Feed writer bytes at) i r = r
-writes_on p (entry.Flush writer) i r = r
-writes_on p (entry.Detach writer) i r = r
-writes_on p _ i r = absurd i
-
 works_on : (p : Past) (e : Entry) → IsWork e → IsOn p → IsOn (p ▸ e)
 works_on p (entry.Look x seen) i r = r
 works_on p (entry.List dir listed) i r = r
@@ -155,15 +143,3 @@ made_on p _ _ (by_tool {es = es} {q = q} {e = e} m i f) a r = works_on q e a.0 (
 pub goes_on : {P : List Entry → Type 0} {o n : Option Journal} → Left P o n → ((ts : List Entry) → P ts → AreWork ts) → WhereTold o IsOn → WhereTold n IsOn
 goes_on not_told f r = tt
 goes_on (is_told {j = j} {k = k} {es = es} m h) f r = made_on (past j) (past k) es m (each_in_order IsWork es (f (reverse es) h)) r
-
-started : (p q : Past) (state : Path) (clock : Clock) (rules : Rules) (es : List Entry) → es ≡ entry.Starts state clock.now rules ∷ [] → Made p es q → IsOn q
-started p _ state clock rules _ e at_first = absurd (cc)
-started p _ state clock rules es e (by_writer {q = q} {e = d} m i f) = writes_on q d i (started p q state clock rules es e m)
-started p _ state clock rules _ e (by_tool {es = es} {q = q} {e = d} m i f) = subst (λ (x : Entry). IsOn (q ▸ x)) (sym same) refl
-  where
-    same : d ≡ entry.Starts state clock.now rules
-    same = cc
-
-pub is_on : (state : Path) (clock : Clock) (rules : Rules) {o n : Option Journal} → Left (Are (entry.Starts state clock.now rules ∷ [])) o n → WhereTold n IsOn
-is_on state clock rules not_told = tt
-is_on state clock rules (is_told {j = j} {k = k} {es = es} m h) = started (past j) (past k) state clock rules es (sym (reverse-reverse es) ∙ ap reverse h) m

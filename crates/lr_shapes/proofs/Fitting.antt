@@ -8,6 +8,7 @@ use Rattle.lr_rules.specs.declared.rule.Field.TheVariants as field
 use Rattle.lr_rules.specs.declared.rule.Piece.{Piece}
 use Rattle.lr_rules.specs.declared.rule.Piece.TheVariants as piece
 use Rattle.lr_rules.specs.Names.{AreDigits, IsRun, IsFieldShape, IsStampShape}
+use Rattle.lr_rules.proofs.Digits.{IsDigit}
 use Rattle.lr_shapes.specs.declared.token.Token.{Token}
 use Rattle.lr_shapes.specs.declared.token.Token.TheVariants.{Byte, Digit, Digits}
 use Rattle.lr_shapes.specs.Tokens.{RunThen, FitsShape}
@@ -83,9 +84,6 @@ fits_plain (x ∷ xs) [] f = absurd f
 fits_plain (x ∷ xs) (c ∷ w) f = let e : w ≡ xs = fits_plain xs w f.1 in let s : x ≡ c = f.0 in cc
 
 -- ---- digits
-
-abbrev IsDigit : ℕ → Type 0
-IsDigit d = (48 ≤ d) × (d ≤ 57)
 
 is_one : (d : ℕ) → is_ascii_digit d ≡ true → IsDigit d
 is_one d e = (grind (arith, nat_tests), grind (arith, nat_tests))

@@ -7,13 +7,11 @@ use Rattle.lr_rules.specs.declared.rule.Format.{Format}
 use Rattle.lr_rules.specs.declared.rule.Naming.{Naming}
 use Rattle.lr_rules.specs.Path.{joined}
 use Rattle.lr_rules.specs.Dated.{IsNumberedStamp, IsDatedAt}
+use Rattle.lr_rules.proofs.Heads.{tails}
 use Rattle.lr_stamps.specs.Dated.{IsNamedBy}
 
-cons_same : (x y : ℕ) (xs ys : List ℕ) → x ∷ xs ≡ y ∷ ys → xs ≡ ys
-cons_same x y xs ys e = cc
-
 pub joined_same : (dir xs ys : List ℕ) → joined dir xs ≡ joined dir ys → xs ≡ ys
-joined_same dir xs ys e = cons_same 47 47 xs ys (append_cancel_left (cond (nat_eq (length dir) 1) [] dir) (47 ∷ xs) (47 ∷ ys) e)
+joined_same dir xs ys e = tails 47 47 xs ys (append_cancel_left (cond (nat_eq (length dir) 1) [] dir) (47 ∷ xs) (47 ∷ ys) e)
 
 pub middle_same : (base ext xs ys : List ℕ) → base ++ xs ++ ext ≡ base ++ ys ++ ext → xs ≡ ys
 middle_same base ext xs ys e = append_cancel_left base xs ys (append_cancel_right (base ++ xs) (base ++ ys) ext e)

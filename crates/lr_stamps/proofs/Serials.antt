@@ -16,13 +16,10 @@ use Rattle.lr_rules.specs.Stamps.{stamp_text, is_in}
 use Rattle.lr_stamps.specs.Asked.{are_bytes, FieldsDiffer}
 use Rattle.lr_rules.specs.Moments.{IsStamp, seconds_by}
 use Rattle.lr_rules.specs.Dated.{serial_text, IsSerial, IsNumberedStamp}
-use Rattle.lr_rules.proofs.Digits.{decimal_run}
+use Rattle.lr_rules.proofs.Digits.{decimal_run, IsDigit}
 use Rattle.lr_rules.proofs.Heads.{heads, tails}
 use Rattle.lr_stamps.specs.Serials.{is_dot, IsCounted}
 use Rattle.lr_stamps.proofs.Readings.{one_reading}
-
-abbrev IsDigit : ℕ → Type 0
-IsDigit d = (48 ≤ d) × (d ≤ 57)
 
 -- ---- no dot among digits
 

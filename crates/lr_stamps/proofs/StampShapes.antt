@@ -15,11 +15,8 @@ use Rattle.lr_rules.specs.Names.{AreDigits, IsFieldShape, IsStampShape, number_p
 use Rattle.lr_rules.specs.StampParts.{part}
 use Rattle.lr_rules.specs.Stamps.{two, field_text, bound, stamp_text, same_field, is_in}
 use Rattle.lr_rules.specs.Dated.{serial_text, IsSerial, IsNumberedStamp, IsDatedAt}
-use Rattle.lr_rules.proofs.Digits.{one_digit, decimal_run}
+use Rattle.lr_rules.proofs.Digits.{one_digit, decimal_run, IsDigit}
 use Rattle.lr_stamps.proofs.Fields.{itself}
-
-abbrev IsDigit : ℕ → Type 0
-IsDigit d = (48 ≤ d) × (d ≤ 57)
 
 two_digits : (n : ℕ) → n < 100 → AreDigits (two n)
 two_digits n lt = All-cons IsDigit (48 + n / 10) ((48 + n % 10) ∷ []) (omega arith, omega arith) (one_digit (n % 10) (omega arith))

@@ -1,5 +1,5 @@
 -- Tables of a run, entry by entry.
-use Rattle.std.proofs.Common.{◌≡◌, ◌∙◌, ap, sym, subst, refl, ℕ, ◌<◌, length, nat_lt, Bool, true, false, not, ◌&&◌, ◌||◌, cond, List, [], ◌∷◌, ◌++◌, map, filter, Option, Some, None, is_some, true≢false, arith, ◌+◌, take, get_or}
+use Rattle.std.proofs.Common.{◌≡◌, ◌∙◌, ap, sym, subst, refl, ℕ, ◌<◌, length, nat_lt, Bool, true, false, not, ◌&&◌, ◌||◌, cond, List, [], ◌∷◌, ◌++◌, map, filter, Some, None, is_some, true≢false, arith, ◌+◌, take, get_or}
 use Rattle.std.specs.List.{list_any}
 use Rattle.std.specs.Str.{bytes_eq, is_utf8}
 use Rattle.std.proofs.lemmas.Bool.{and_parts, and_from, not-true, lt-ltb, ltb-false, le-leb}
@@ -8,17 +8,13 @@ use Rattle.std.proofs.lemmas.List.Folds.{list_any-append}
 use Rattle.std.proofs.lemmas.Slice.Eq.{bytes_eq-Decides}
 use Rattle.lr_rules.specs.declared.civil.Civil.{Civil}
 use Rattle.lr_rules.specs.declared.path.Path.{Path}
-use Rattle.lr_rules.specs.declared.path.PathFault.{PathFault}
 use Rattle.lr_rules.specs.Path.{path_fault, has_bad_byte, is_absolute}
+use Rattle.lr_rules.proofs.PathLemmas.{none_of}
 use Rattle.lr_state.specs.Table.{Entry, moment_of, put, is_name, is_table}
 use Rattle.lr_state.proofs.Views.{put-new, bytes_swapped}
 use Rattle.lr_state.specs.After.{is_among, stamped, stays, with_new, after}
 
 -- ---- a path is a name of a log
-
-none_of : (b : Bool) (f : PathFault) (rest : Option PathFault) → cond b (Some f) rest ≡ None → (b ≡ false) × (rest ≡ None)
-none_of true f rest e = absurd (cc)
-none_of false f rest e = (refl, e)
 
 not_not : (b : Bool) → not b ≡ false → b ≡ true
 not_not true e = refl

@@ -1,20 +1,17 @@
 -- Which words name a directory from another on.
-use Rattle.std.proofs.Common.{◌≡◌, ℕ, ◌==◌, Bool, true, false, cond, not, ◌&&◌, ◌||◌, List, [], ◌∷◌, ◌++◌, filter, flat_map, refl, ap, sym, ◌∙◌, arith}
-use Rattle.std.specs.List.{slice_split, onto_first, list_any, All}
-use Rattle.std.proofs.lemmas.Bool.{or_parts, or_from, and_right}
+use Rattle.std.proofs.Common.{◌≡◌, ℕ, ◌==◌, Bool, true, false, cond, not, ◌&&◌, ◌||◌, List, [], ◌∷◌, ◌++◌, filter, refl, ap, sym, ◌∙◌, arith}
+use Rattle.std.specs.List.{slice_split, onto_first, list_any}
+use Rattle.std.proofs.lemmas.Bool.{or_from, and_right}
 use Rattle.std.proofs.lemmas.Bool.Decides.{nat_tests}
 use Rattle.std.proofs.lemmas.List.{append-nil}
-use Rattle.std.proofs.lemmas.List.Elements.{All-nil, All-cons}
 use Rattle.std.proofs.lemmas.List.Folds.{list_any-append}
 use Rattle.std.proofs.lemmas.List.Splits.{slice_split_none, slice_split_at}
 use Rattle.lr_rules.specs.Limits.{is_path_text}
 use Rattle.lr_rules.specs.Names.{is_step, word_parts, path_by, path_from}
 use Rattle.lr_rules.specs.Path.{is_bad_byte, is_slash, is_empty, is_dots, is_absolute, has_bad_byte, has_empty_part, has_dot_part}
+use Rattle.lr_rules.proofs.Cleaned.{all_plain, ArePlain}
+use Rattle.lr_rules.proofs.FromWord.{slashed}
 use Rattle.lr_words.specs.Words.{is_climb, has_climb}
-
--- each part behind a slash
-abbrev joined : List (List ℕ) → List ℕ
-joined ps = flat_map (λ name. 47 ∷ name) ps
 
 from_root : (word : List ℕ) → path_from (47 ∷ []) word ≡ path_by (word_parts word)
 from_root word = by (is_absolute word)
@@ -32,9 +29,9 @@ or_assoc : (a b c : Bool) → (a || (b || c)) ≡ ((a || b) || c)
 or_assoc true b c = refl
 or_assoc false b c = refl
 
-bad_joined : (ps : List (List ℕ)) → has_bad_byte (joined ps) ≡ list_any has_bad_byte ps
+bad_joined : (ps : List (List ℕ)) → has_bad_byte (slashed ps) ≡ list_any has_bad_byte ps
 bad_joined [] = refl
-bad_joined (p ∷ ps) = list_any-append is_bad_byte p (joined ps) ∙ ap (λ b. has_bad_byte p || b) (bad_joined ps)
+bad_joined (p ∷ ps) = list_any-append is_bad_byte p (slashed ps) ∙ ap (λ b. has_bad_byte p || b) (bad_joined ps)
 
 -- a list of parts has one at least
 data Parts : List (List ℕ) → Type 0 where
@@ -114,10 +111,6 @@ abbrev Good : List (List ℕ) → Type 0
 Good [] = Unit {0}
 Good (p ∷ ps) = (list_any is_slash p ≡ false) × (is_empty p ≡ false) × Good ps
 
-abbrev ArePlain : List (List ℕ) → Type 0
-ArePlain [] = Unit {0}
-ArePlain (p ∷ ps) = (list_any is_slash p ≡ false) × ArePlain ps
-
 split_plain : (bs : List ℕ) → ArePlain (slice_split is_slash bs)
 split_plain [] = (refl, tt)
 split_plain (b ∷ bs) = by (is_slash b) refl (slice_split is_slash bs) (split_parts bs) (split_plain bs)
@@ -138,13 +131,9 @@ good_steps (p ∷ ps) plain = by (is_step p) refl (good_steps ps plain.1)
     by true is good = (plain.0, step_full p is, good)
     by false is good = good
 
-all_plain : (bs : List ℕ) → list_any is_slash bs ≡ false → All (λ b. is_slash b ≡ false) bs
-all_plain [] h = All-nil (λ b. is_slash b ≡ false)
-all_plain (b ∷ bs) h = let o = or_parts (is_slash b) (list_any is_slash bs) h in All-cons (λ b. is_slash b ≡ false) b bs o.0 (all_plain bs o.1)
-
-split_joined : (p : List ℕ) (ps : List (List ℕ)) → list_any is_slash p ≡ false → Good ps → slice_split is_slash (p ++ joined ps) ≡ p ∷ ps
+split_joined : (p : List ℕ) (ps : List (List ℕ)) → list_any is_slash p ≡ false → Good ps → slice_split is_slash (p ++ slashed ps) ≡ p ∷ ps
 split_joined p [] plain good = ap (slice_split is_slash) (append-nil p) ∙ slice_split_none is_slash p (all_plain p plain)
-split_joined p (q ∷ qs) plain good = slice_split_at is_slash p 47 (q ++ joined qs) (all_plain p plain) refl ∙ ap (λ xs. p ∷ xs) (split_joined q qs good.0 good.2)
+split_joined p (q ∷ qs) plain good = slice_split_at is_slash p 47 (q ++ slashed qs) (all_plain p plain) refl ∙ ap (λ xs. p ∷ xs) (split_joined q qs good.0 good.2)
 
 none_empty : (ps : List (List ℕ)) → Good ps → list_any is_empty ps ≡ false
 none_empty [] good = refl
@@ -157,10 +146,10 @@ path_is_text ([] ∷ ps) good = absurd (cc)
 path_is_text ((b ∷ bs) ∷ ps) good =
     let p : List ℕ = b ∷ bs in
     let split = split_joined (b ∷ bs) ps good.0 good.2 in
-    let empty : has_empty_part (joined ((b ∷ bs) ∷ ps)) ≡ false = ap (list_any is_empty) split ∙ none_empty ((b ∷ bs) ∷ ps) good in
-    let dots : has_dot_part (joined ((b ∷ bs) ∷ ps)) ≡ list_any is_dots ((b ∷ bs) ∷ ps) = ap (list_any is_dots) split in
-    ap (λ x. not x && (true && (not (has_empty_part (joined ((b ∷ bs) ∷ ps))) && not (has_dot_part (joined ((b ∷ bs) ∷ ps)))))) (bad_joined ((b ∷ bs) ∷ ps))
-    ∙ ap (λ x. not (list_any has_bad_byte ((b ∷ bs) ∷ ps)) && (not x && not (has_dot_part (joined ((b ∷ bs) ∷ ps))))) empty
+    let empty : has_empty_part (slashed ((b ∷ bs) ∷ ps)) ≡ false = ap (list_any is_empty) split ∙ none_empty ((b ∷ bs) ∷ ps) good in
+    let dots : has_dot_part (slashed ((b ∷ bs) ∷ ps)) ≡ list_any is_dots ((b ∷ bs) ∷ ps) = ap (list_any is_dots) split in
+    ap (λ x. not x && (true && (not (has_empty_part (slashed ((b ∷ bs) ∷ ps))) && not (has_dot_part (slashed ((b ∷ bs) ∷ ps)))))) (bad_joined ((b ∷ bs) ∷ ps))
+    ∙ ap (λ x. not (list_any has_bad_byte ((b ∷ bs) ∷ ps)) && (not x && not (has_dot_part (slashed ((b ∷ bs) ∷ ps))))) empty
     ∙ ap (λ x. not (list_any has_bad_byte ((b ∷ bs) ∷ ps)) && not x) dots
 
 pub from_word : (word : List ℕ) → is_path_text (path_from (47 ∷ []) word) ≡ (not (has_bad_byte word) && not (has_climb word))

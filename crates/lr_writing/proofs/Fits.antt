@@ -1,11 +1,11 @@
 -- Each step of the writing fits, wherever those before it left the disk.
-use Rattle.std.proofs.Common.{◌≡◌, ◌≢◌, ⊎_elim, inl, refl, sym, ◌∙◌, ap, subst, arith, ℕ, ◌+◌, ◌-◌, nat_lt, cond, Bool, true, false, List, [], ◌∷◌, ◌++◌, map, length, take, reverse, Option, Some, None}
-use Rattle.std.specs.Prelude.{filter, codes}
-use Rattle.std.specs.List.{suffix_len, prefix_len}
-use Rattle.std.proofs.lemmas.List.{length-append, reverse-append, reverse-reverse, take-append-le}
+use Rattle.std.proofs.Common.{◌≡◌, ◌≢◌, ⊎_elim, inl, refl, sym, ◌∙◌, ap, subst, ℕ, ◌+◌, Bool, true, false, List, [], ◌∷◌, ◌++◌, map, reverse, Option, Some, None}
+use Rattle.std.specs.Prelude.{filter}
+use Rattle.std.proofs.lemmas.List.{reverse-reverse}
 use Rattle.lr_rules.specs.declared.path.Path.{Path}
-use Rattle.lr_rules.specs.Path.{parent_of, last_start_of, is_no_slash}
+use Rattle.lr_rules.specs.Path.{parent_of}
 use Rattle.lr_rules.specs.StatePath.{state_part}
+use Rattle.lr_rules.proofs.Beside.{part_apart, parent_same}
 use Rattle.lr_host.specs.declared.thing.Thing.{Thing}
 use Rattle.lr_host.specs.declared.thing.Thing.TheVariants as thing
 use Rattle.lr_host.specs.declared.entry.Entry.{Entry}
@@ -26,25 +26,8 @@ use Rattle.lr_plan.specs.Appending.{Appended, no_more, piece_more}
 use Rattle.lr_plan.specs.Asking.{CanMake}
 use Rattle.lr_plan.specs.Steps.{state_steps}
 use Rattle.lr_writing.specs.Fits.{AreDirectories, StateHasPlace, CanBegin}
-use Rattle.lr_writing.proofs.Named.{part_apart}
 
 -- ---- the part file stands in the state's directory
-
-tail_len : (path : List ℕ) → suffix_len is_no_slash (path ++ codes ".tmp") ≡ 4 + suffix_len is_no_slash path
-tail_len path = let e : suffix_len is_no_slash (path ++ codes ".tmp") ≡ 1 + (1 + (1 + (1 + suffix_len is_no_slash path))) = ap (prefix_len is_no_slash) (reverse-append path (codes ".tmp")) in omega (arith, e)
-
-start_same : (path : List ℕ) → last_start_of (path ++ codes ".tmp") ≡ last_start_of path
-start_same path =
-    let a : suffix_len is_no_slash (path ++ codes ".tmp") ≡ 4 + suffix_len is_no_slash path = tail_len path in
-    let b : length (path ++ codes ".tmp") ≡ length path + 4 = length-append path (codes ".tmp") in
-    omega (arith, a, b)
-
-pub parent_same : (path : List ℕ) → parent_of (path ++ codes ".tmp") ≡ parent_of path
-parent_same path = ap (λ s. cond (nat_lt 1 s) (take (s - 1) (path ++ codes ".tmp")) (take s (path ++ codes ".tmp"))) (start_same path) ∙ go (nat_lt 1 (last_start_of path))
-  where
-    go : (b : Bool) → cond b (take (last_start_of path - 1) (path ++ codes ".tmp")) (take (last_start_of path) (path ++ codes ".tmp")) ≡ cond b (take (last_start_of path - 1) path) (take (last_start_of path) path)
-    go true = take-append-le (last_start_of path - 1) path (codes ".tmp") (omega arith)
-    go false = take-append-le (last_start_of path) path (codes ".tmp") (omega arith)
 
 -- ---- what entries do to facts of names
 

@@ -1,11 +1,10 @@
 -- The entries of the writing, step by step.
-use Rattle.std.proofs.Common.{◌≡◌, ◌≢◌, ⊎_elim, inl, inr, refl, sym, ◌∙◌, ap, subst, arith, ℕ, ◌+◌, Bool, true, false, List, [], ◌∷◌, ◌++◌, map, length, append_assoc, append-nil, Some}
-use Rattle.std.specs.Prelude.{codes}
-use Rattle.std.proofs.lemmas.List.{length-append}
+use Rattle.std.proofs.Common.{◌≡◌, ◌≢◌, ⊎_elim, inl, inr, refl, sym, ◌∙◌, ap, subst, ℕ, ◌+◌, Bool, true, false, List, [], ◌∷◌, ◌++◌, map, append_assoc, append-nil, Some}
 use Rattle.lr_rules.specs.declared.path.Path.{Path}
 use Rattle.lr_rules.specs.Path.{parent_of}
 use Rattle.lr_rules.specs.declared.fault.Fault.{Fault}
 use Rattle.lr_rules.specs.StatePath.{state_part}
+use Rattle.lr_rules.proofs.Beside.{part_apart}
 use Rattle.lr_host.specs.declared.entry.Entry.{Entry}
 use Rattle.lr_host.specs.declared.entry.Entry.TheVariants as entry
 use Rattle.lr_host.specs.Told.{Each, Maybe}
@@ -93,12 +92,6 @@ course_spares : (x : Path) (ss : List Step) (ms : List Mark) (fs : List Fault) (
 course_spares x [] ms fs ts aside c = subst (Each (Spares x)) (sym c.2) tt
 course_spares x (s ∷ ss) ms fs ts aside c = ⊎_elim (λ stop. failed_spares x s stop.fault ts aside.0 stop.failed)
     (λ g. subst (Each (Spares x)) (sym g.entries.joined) (spared_on x g.entries.front g.entries.back (made_spares x s g.entries.front aside.0 g.entries.first) (course_spares x ss g.later fs g.entries.back aside.1 g.entries.second))) c
-
-pub part_apart : (state : Path) → state_part state ≢ state
-part_apart state e =
-    let long : length (state ++ codes ".tmp") ≡ length state + 4 = length-append state (codes ".tmp") in
-    let same : length (state ++ codes ".tmp") ≡ length state = ap length e in
-    absurd (omega (arith, long, same))
 
 part_aside : (state : Path) (stale : Bool) (text : List ℕ) → AreAside state (part_steps (state_part state) stale text)
 part_aside state true text = (part_apart state, (part_apart state, (part_apart state, (tt, tt))))

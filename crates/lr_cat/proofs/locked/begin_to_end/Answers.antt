@@ -3,10 +3,10 @@ use Rattle.lr_host.proofs.Left.{left_as}
 use Rattle.lr_cat.specs.InternalCats.{EndsWork}
 use Rattle.lr_cat.specs.Saw.{Works}
 use Rattle.lr_cat.specs.Stops.{CameTo}
-use Rattle.lr_cat.proofs.Sighted.{is_on}
-use Rattle.lr_cat.proofs.Working.{begin_failed, begin_held, begin_short, begun_so, begun_stops, did_begin}
+use Rattle.lr_cat.proofs.Working.{begin_failed, begin_held, begin_short, begun_so, begun_stops}
 use Rattle.lr_rules.specs.declared.fault.CallKind.TheVariants as call
 use Rattle.lr_rules.specs.declared.fault.Fault.TheVariants as fault
+use Rattle.lr_host.proofs.Running.{is_on, did_begin}
 use Rattle.lr_cat.proofs.locked.begin_to_end.Goals as goal
 
 pub put_to_end-requires-clause-on : goal.put_to_end-requires-clause-on

@@ -1,8 +1,8 @@
 use Rattle.std.proofs.Common.{[]}
-use Rattle.lr_laws_looks.proofs.Lasting.{disk_on}
 use Rattle.lr_host.proofs.Counts.{onward_on, went_onward}
 use Rattle.lr_host.proofs.Left.{left_first}
 use Rattle.lr_host.specs.Quiet.{AreQuiet}
+use Rattle.lr_host.proofs.Known.{left_journal}
 use Rattle.lr_cli.specs.Faults.{answer_of, plan_told}
 use Rattle.lr_cli.specs.Internal.{only_looked}
 use Rattle.lr_clock.proofs.Clocked.{own_seconds}
@@ -17,7 +17,7 @@ pub returns-in_default-clause-shape : goal.returns-in_default-clause-shape
 returns-in_default-clause-shape g c = only_looked (left_first AreQuiet _ tt)
 
 pub run_confs-requires : goal.run_confs-requires
-run_confs-requires g c = record { disk = disk_on c.in-Ok-clock_in.ensures.told c.requires.disk }
+run_confs-requires g c = record { disk = left_journal c.in-Ok-clock_in.ensures.told c.requires.disk }
 
 pub returns-in-Ok-clock_in-clause-told : goal.returns-in-Ok-clock_in-clause-told
 returns-in-Ok-clock_in-clause-told g c = clock_came c.args.request.now c.args.zone.now c.args.seconds c.in-Ok-clock_in.clock (plan_told c.run_confs.result) (answer_of c.run_confs.result) _ (own_seconds c.args.seconds c.ranges.seconds.sfits) c.in-Ok-clock_in.ensures.told c.run_confs.ensures.told

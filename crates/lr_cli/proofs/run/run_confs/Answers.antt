@@ -1,6 +1,6 @@
-use Rattle.lr_laws_looks.proofs.Lasting.{disk_on}
 use Rattle.std.proofs.Common.{Ok, Err}
 use Rattle.lr_host.proofs.Counts.{onward_on}
+use Rattle.lr_host.proofs.Known.{left_journal}
 use Rattle.lr_cli.proofs.Came.{confs_came, lacks_came}
 use Rattle.lr_cli.proofs.Reading.{reading_counted, both_went, confs_shape, lacking_shape}
 use Rattle.lr_cli.proofs.run.run_confs.Goals as goal
@@ -12,7 +12,7 @@ pub returns-in_default-clause-shape : goal.returns-in_default-clause-shape
 returns-in_default-clause-shape g c = lacking_shape c.args.clock.now c.as_slice.result.now c.in_default.ensures.lacking
 
 pub run-requires : goal.run-requires
-run-requires g c = record { disk = disk_on c.in-Ok.ensures.told c.requires.disk }
+run-requires g c = record { disk = left_journal c.in-Ok.ensures.told c.requires.disk }
 
 pub returns-in-Ok-run-clause-told : goal.returns-in-Ok-run-clause-told
 returns-in-Ok-run-clause-told g c = confs_came c.args.request.now c.args.clock.now c.in-Ok.reading c.into_vec.result.items c.into_vec.ensures (Ok c.in-Ok-run.ran) (rw c.as_slice.ensures at c.in-Ok.ensures.told) c.in-Ok-run.ensures.told

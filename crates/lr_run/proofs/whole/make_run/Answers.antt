@@ -2,16 +2,16 @@ use Rattle.std.proofs.Common.{true, false, Ok, Err, ap, ◌∙◌, subst}
 use Rattle.lr_host.specs.Fits.{IsDirectoryAt}
 use Rattle.lr_host.proofs.Counts.{went_behind}
 use Rattle.lr_host.proofs.Left.{can_as}
+use Rattle.lr_host.proofs.Known.{left_journal}
 use Rattle.lr_family.specs.declared.directory.DirStop.TheVariants as dir
 use Rattle.lr_family.proofs.Whole.{seen_as}
-use Rattle.lr_laws_looks.proofs.Lasting.{disk_on}
 use Rattle.lr_plan.specs.Asked.{asking}
 use Rattle.lr_run.proofs.Ending.{dir_went}
 use Rattle.lr_run.proofs.Parts.{behind_dir, stopped_behind, nothing_there, no_dir}
 use Rattle.lr_run.proofs.whole.make_run.Goals as goal
 
 pub begin_to_end-requires-clause-disk : goal.begin_to_end-requires-clause-disk
-begin_to_end-requires-clause-disk g c = disk_on (seen_as c.args.names.dir c.in-Ok-true.field-0 true c.in-Ok-true.field-0-test c.in-Ok-true.ensures.told) c.requires.disk
+begin_to_end-requires-clause-disk g c = left_journal (seen_as c.args.names.dir c.in-Ok-true.field-0 true c.in-Ok-true.field-0-test c.in-Ok-true.ensures.told) c.requires.disk
 
 pub begin_to_end-requires-clause-there : goal.begin_to_end-requires-clause-there
 begin_to_end-requires-clause-there g c = can_as (c.look_for_dir.ensures.list (c.in-Ok-true.is ∙ ap Ok c.in-Ok-true.field-0-test)) (λ n h. subst (IsDirectoryAt n) c.requires.dir h)

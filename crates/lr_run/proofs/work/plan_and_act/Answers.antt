@@ -1,6 +1,6 @@
 use Rattle.std.proofs.Common.{Some, ap, ◌∙◌}
 use Rattle.lr_host.proofs.Counts.{went_as}
-use Rattle.lr_laws_looks.proofs.Lasting.{disk_on}
+use Rattle.lr_host.proofs.Known.{left_journal}
 use Rattle.lr_plan.specs.Asked.{asking}
 use Rattle.lr_run.proofs.Placing.{fits_behind_acts}
 use Rattle.lr_run.proofs.Doing.{carried_out, too_big_told}
@@ -10,7 +10,7 @@ use Rattle.lr_run.proofs.work.plan_and_act.Goals as goal
 pub carry_out-requires-clause-fits : goal.carry_out-requires-clause-fits
 carry_out-requires-clause-fits g c =
     let r = ready_of c.args.settings.now.state c.args.clock.now c.args.remembered _ _ c.in_ok-plan.plan _ c.in_ok-ready.field-0 c.in-Some.ready c.args.progress.now c.make_ready.new.progress c.as_slice-kept.ensures c.in_ok-plan.ensures c.in-Some.is c.in_ok-ready.ensures in
-    ready_fit _ c.args.rules.now c.args.looks.now c.args.settings.now.state c.args.remembered c.args.clock.now (asking c.args.settings.now.force c.args.settings.now.mailer) c.in-Some.ready c.args.progress.now c.make_ready.new.progress _ _ (disk_on c.requires.seen.known.read c.requires.seen.known.disk) r c.requires.seen.looked
+    ready_fit _ c.args.rules.now c.args.looks.now c.args.settings.now.state c.args.remembered c.args.clock.now (asking c.args.settings.now.force c.args.settings.now.mailer) c.in-Some.ready c.args.progress.now c.make_ready.new.progress _ _ (left_journal c.requires.seen.known.read c.requires.seen.known.disk) r c.requires.seen.looked
 
 pub carry_out-requires-clause-fits_state : goal.carry_out-requires-clause-fits_state
 carry_out-requires-clause-fits_state g c =

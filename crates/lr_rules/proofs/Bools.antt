@@ -1,0 +1,10 @@
+-- Lemmas on tests.
+use Rattle.std.proofs.Common.{◌≡◌, Bool, true, false, refl, sym}
+
+pub not_both : (b : Bool) → b ≡ true → b ≡ false → ⊥
+not_both b e f = cc
+
+pub same_bools : (a b : Bool) → (a ≡ true → b ≡ true) → (b ≡ true → a ≡ true) → a ≡ b
+same_bools true b f g = sym (f refl)
+same_bools false true f g = g refl
+same_bools false false f g = refl
