@@ -1,23 +1,23 @@
 -- What a call leaves between its begin and its end: looks, listings and reads.
-use Rattle.std.proofs.Common.{◌≢◌, List, [], ◌∷◌, ◌++◌, Bool, Option, Result, refl, sym, subst}
+use Rattle.std.proofs.Common.{◌≢◌, List, [], ◌∷◌, ◌++◌, Bool, Option, Result, sym, subst}
 use Rattle.lr_rules.specs.declared.path.Path.{Path}
 use Rattle.lr_rules.specs.declared.rule.Naming.{Naming}
 use Rattle.lr_rules.specs.declared.fault.Fault.{Fault}
 use Rattle.lr_host.specs.declared.entry.Entry.{Entry}
 use Rattle.lr_host.specs.declared.entry.Entry.TheVariants as entry
 use Rattle.lr_host.specs.declared.journal.Journal.{Journal}
-use Rattle.lr_host.specs.Quiet.{IsQuiet, AreQuiet, ChangeNothing}
+use Rattle.lr_host.specs.Quiet.{ChangeNothing}
 use Rattle.lr_host.specs.Reading.{IsReadOf}
 use Rattle.lr_host.specs.Told.{Each, Left, not_told, is_told, Made, at_first, by_writer, by_tool, Then, WhereTold}
 use Rattle.lr_host.specs.World.{Past, ◌▸◌, past}
 use Rattle.lr_host.proofs.Each.{each_append, each_as, each_in_order}
 use Rattle.lr_host.proofs.Quiet.{quiet_still}
-use Rattle.lr_family.proofs.OnlyLooks.{looking_both}
 use Rattle.lr_cat.specs.declared.texts.TextStop.{TextStop}
 use Rattle.lr_cat.specs.declared.texts.TextStop.TheVariants as stop
 use Rattle.lr_cat.specs.Saw.{FamilySaw, ShowsFamilySaw, SeesNone, not_stood, not_found, Works, not_seen, broke_off, read_all, aside_of, files_of}
 use Rattle.lr_host.specs.Looking.{IsSight, AreSights, AreLooking}
 use Rattle.lr_host.proofs.Running.{IsOn, writes_on}
+use Rattle.lr_host.proofs.Looking.{looking_both, sights_quiet}
 use Rattle.lr_cat.specs.Texts.{FileText, ReadsTexts, ReadsTextPart, TextBreaksOff, ReadsAllOf}
 use Rattle.lr_cat.proofs.Putting.{whole_only}
 use Rattle.lr_cat.proofs.Standing.{both_looks, looks_sights, none_looks, stand_looks, stop_looks}
@@ -65,15 +65,6 @@ works_sights n log how texts ts (broke_off saw f is h) = sights_both ts (λ us s
 works_sights n log how texts ts (read_all saw is h) = sights_both ts (λ us s. saw_sights n log saw us s) (λ us r. all_sights (files_of saw) texts us r) h
 
 -- ---- what they leave
-
-sight_quiet : (e : Entry) → IsSight e → IsQuiet e
-sight_quiet (entry.Look x seen) i = (tt, refl)
-sight_quiet (entry.List dir listed) i = (tt, refl)
-sight_quiet (entry.Reads x from piece) i = (tt, refl)
-sight_quiet _ i = absurd i
-
-pub sights_quiet : (ts : List Entry) → AreSights ts → AreQuiet ts
-sights_quiet ts a = each_as IsSight IsQuiet ts sight_quiet a
 
 pub sights_still : (ts : List Entry) → AreSights ts → ChangeNothing ts
 sights_still ts a = quiet_still ts (sights_quiet ts a)

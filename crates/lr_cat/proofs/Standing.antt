@@ -27,7 +27,7 @@ use Rattle.lr_family.specs.declared.stand.StandStop.{StandStop}
 use Rattle.lr_family.specs.declared.stand.StandStop.TheVariants as stands
 use Rattle.lr_family.specs.Among.{ShowsMembers}
 use Rattle.lr_family.specs.Standing.{ShowsStand, ShowsStop}
-use Rattle.lr_family.proofs.OnlyLooks.{looking_both, looking_sees, looking_shown_parts}
+use Rattle.lr_family.proofs.OnlyLooks.{looking_shown_parts}
 use Rattle.lr_family.proofs.Shown.{members_seen}
 use Rattle.lr_laws_looks.proofs.Quiet.{looking_listing, looking_members, looking_none_in, looking_not}
 use Rattle.lr_cat.specs.declared.seeing.FileStop.{FileStop}
@@ -37,6 +37,7 @@ use Rattle.lr_cat.specs.declared.stop.CatStop.{CatStop}
 use Rattle.lr_cat.specs.InternalSaw.{FindsNoFile, SeesAll, SeesNot, file_fault, found_if, stand_stop}
 use Rattle.lr_cat.specs.Saw.{Finds, FindsBoth, FindsNone, FindsNot, SeesNone, not_stood, not_looked, no_file, not_found, aside_of, files_behind}
 use Rattle.lr_host.specs.Looking.{IsSight, AreSights, IsLooking, AreLooking}
+use Rattle.lr_host.proofs.Looking.{looking_both, looking_sees}
 use Rattle.lr_family.specs.Looks.{WasSeen}
 use Rattle.lr_cat.specs.Texts.{CanReadAll, HasCause}
 

@@ -8,7 +8,6 @@ use Rattle.lr_rules.specs.declared.fault.CallKind.TheVariants as call
 use Rattle.lr_host.specs.declared.entry.Entry.{Entry}
 use Rattle.lr_host.specs.declared.entry.Entry.TheVariants.{Look, MakesDir}
 use Rattle.lr_host.specs.declared.journal.Journal.{Journal}
-use Rattle.lr_host.specs.declared.thing.Kind.{Kind}
 use Rattle.lr_host.specs.declared.thing.Kind.TheVariants as kind
 use Rattle.lr_host.specs.declared.thing.Seen.{Seen}
 use Rattle.lr_host.specs.declared.thing.Thing.TheVariants as thing
@@ -129,14 +128,6 @@ look_failed a b = left_then a b (λ xs ys p q. ap (λ zs. zs ++ ys) p ∙ q)
 
 pub look_saw : (dir : Path) (seen : Option Seen) {P : Option Seen → Type 0} {o m n : Option Journal} → P seen → Left (λ ts. ts ≡ []) o m → Left (λ ts. ts ≡ Look dir seen ∷ []) m n → Left (Sees dir P) o n
 look_saw dir seen is a b = left_then a b (λ xs ys p q. record { seen = seen; is = is; look = ap (λ zs. zs ++ ys) p ∙ q })
-
-pub shown_dir : (seen : Option Seen) → is_dir seen ≡ true → IsDir seen
-shown_dir None h = absurd (cc)
-shown_dir (Some seen) h = of_kind seen.kind h
-  where
-    of_kind : (k : Kind) → is_dir_kind k ≡ true → k ≡ kind.Dir
-    of_kind kind.Dir h = refl
-    of_kind _ h = absurd (cc)
 
 -- What had the path when the making found it taken has one at the look: meanwhile writers made files alone.
 not_gone : {P : List Entry → Type 0} (dir : Path) {o m n : Option Journal} → WhereTold m (λ p. names (world p) dir ≢ thing.Nothing) → Left (λ ts. ts ≡ []) o m → Left (λ ts. ts ≡ Look dir None ∷ []) m n → Left P o n

@@ -1,11 +1,10 @@
 -- What asking for the text of a zone leaves.
-use Rattle.std.proofs.Common.{◌≡◌, ◌≤◌, ◌<◌, ℕ, List, [], ◌∷◌, length, refl, sym, ap, ◌∙◌, subst, Option, Some, Result, Ok, Err, IfOk, IfErr}
+use Rattle.std.proofs.Common.{◌≡◌, ◌≤◌, ◌<◌, ℕ, List, length, refl, sym, ap, ◌∙◌, subst, Option, Some, Result, Ok, Err, IfOk, IfErr}
 use Rattle.lr_rules.specs.declared.path.Path.{Path}
 use Rattle.lr_host.specs.declared.thing.Seen.{Seen}
 use Rattle.lr_host.specs.declared.thing.Kind.{Kind}
 use Rattle.lr_host.specs.declared.thing.Kind.TheVariants as kind
 use Rattle.lr_host.specs.declared.entry.Entry.{Entry}
-use Rattle.lr_host.specs.declared.entry.Entry.TheVariants as entry
 use Rattle.lr_host.specs.declared.journal.Journal.{Journal}
 use Rattle.lr_host.specs.Told.{Left, Then}
 use Rattle.lr_host.specs.Reading.{ReadsAll}
@@ -20,10 +19,6 @@ use Rattle.lr_clock.specs.declared.clock.ClockStop.TheVariants as clock_stop
 use Rattle.lr_clock.specs.declared.zone.ZoneFileStop.{ZoneFileStop}
 use Rattle.lr_clock.specs.declared.zone.ZoneFileStop.TheVariants as stop
 use Rattle.lr_clock.specs.Zone.{IsNotFile, GivesBytes, ReadStopped, FileStopped, ShowsZone, ZoneStopped, not_file, too_big, look_failed, read_failed, LacksZoneMemory, at_first, at_file, file_stop}
-
--- one look, and what it saw
-pub sees : (x : Path) (P : Option Seen → Type 0) (seen : Option Seen) {o n : Option Journal} → Left (λ ts. ts ≡ entry.Look x seen ∷ []) o n → P seen → Left (Sees x P) o n
-sees x P seen l p = left_as l (λ ts e. record { seen = seen; is = p; look = e })
 
 -- a directory or another thing is no regular file
 pub no_file : (k : Kind) → (k ≡ kind.File → ⊥) → (seen : Seen) → seen.kind ≡ k → IsNotFile (Some seen)

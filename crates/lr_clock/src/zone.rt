@@ -37,7 +37,7 @@ pub enum ZoneFileStop {
     Memory,
 }
 
-#[tactic(auto, using(crate::proofs::Zoned::sees, lr_host::proofs::Known::seen_can_read))]
+#[tactic(auto, using(lr_host::proofs::Looking::sees, lr_host::proofs::Known::seen_can_read))]
 // Whether a regular file stands at the path. Links are followed.
 fn is_file<H: Host>(host: &mut H, path: &Path) -> Result<bool, CallFault>
     ensures file { result ≡ Ok true → Left (Sees path.now IsFile) (H.told host.old) (H.told host.new) }

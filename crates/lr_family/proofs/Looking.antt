@@ -20,10 +20,6 @@ use Rattle.lr_host.specs.Looks.{Sees, IsNoFile, IsFileOrGone}
 use Rattle.lr_family.specs.Looks.{MemberSight, spot_look, seen_member, member_of, AreSeen, ShowsSpots, ShowsTo, ShowsSome}
 use Rattle.lr_family.specs.Stops.{standing_stop, OneStopped, SomeStopped}
 
--- a look, and what it saw
-pub sees : (x : Path) (P : Option Seen → Type 0) (seen : Option Seen) {o n : Option Journal} → Left (λ ts. ts ≡ entry.Look x seen ∷ []) o n → P seen → Left (Sees x P) o n
-sees x P seen l p = left_as l (λ ts e. record { seen = seen; is = p; look = e })
-
 -- the same, where it is known what was seen
 pub saw : (x : Path) (seen other : Option Seen) {o n : Option Journal} → Left (λ ts. ts ≡ entry.Look x seen ∷ []) o n → seen ≡ other → Left (Are (entry.Look x other ∷ [])) o n
 saw x seen other l same = left_as l (λ ts e. e ∙ ap (λ s. entry.Look x s ∷ []) same)

@@ -2,7 +2,6 @@
 use Rattle.std.proofs.Common.{◌≡◌, ℕ, Bool, true, false, cond, List, [], ◌∷◌, ◌++◌, length, drop, refl, sym, ap, ◌∙◌, Option, Some, None, Result, Ok, Err}
 use Rattle.std.specs.Prelude.{IfOk, IfErr}
 use Rattle.lr_rules.specs.declared.path.Path.{Path}
-use Rattle.lr_host.specs.declared.thing.Kind.{Kind}
 use Rattle.lr_host.specs.declared.thing.Kind.TheVariants as kind
 use Rattle.lr_host.specs.declared.thing.Seen.{Seen}
 use Rattle.lr_host.specs.declared.entry.Entry.{Entry}
@@ -10,28 +9,16 @@ use Rattle.lr_host.specs.declared.entry.Entry.TheVariants as entry
 use Rattle.lr_host.specs.declared.journal.Journal.{Journal}
 use Rattle.lr_host.specs.Told.{Left, Are, Can}
 use Rattle.lr_host.specs.World.{world, names}
-use Rattle.lr_host.specs.Looks.{Sees, IsDir, is_dir, is_dir_kind}
+use Rattle.lr_host.specs.Looks.{Sees, IsDir, is_dir}
 use Rattle.lr_host.proofs.Left.{left_as, left_then}
 use Rattle.lr_host.proofs.Known.{entry_says}
 use Rattle.lr_host.proofs.Looked.{seen_dir}
+use Rattle.lr_host.proofs.Looking.{dir_kind, is_a_dir}
 use Rattle.lr_glob.specs.declared.visit.VisitStop.{VisitStop}
 use Rattle.lr_glob.specs.declared.visit.VisitStop.TheVariants as visit
 use Rattle.lr_glob.specs.Listing.{Lists, IsFailed}
 use Rattle.lr_glob.specs.Visits.{Visited}
 use Rattle.lr_glob.specs.Stops.{NotVisited}
-
--- a look, and what it saw
-pub sees : (x : Path) (P : Option Seen → Type 0) (seen : Option Seen) {o n : Option Journal} → Left (λ ts. ts ≡ entry.Look x seen ∷ []) o n → P seen → Left (Sees x P) o n
-sees x P seen l p = left_as l (λ ts e. record { seen = seen; is = p; look = e })
-
-dir_kind : (k : Kind) → is_dir_kind k ≡ true → k ≡ kind.Dir
-dir_kind kind.Dir h = refl
-dir_kind kind.File h = absurd (cc)
-dir_kind kind.Other h = absurd (cc)
-
-is_a_dir : (seen : Option Seen) → is_dir seen ≡ true → IsDir seen
-is_a_dir None h = absurd (cc)
-is_a_dir (Some seen) h = dir_kind seen.kind h
 
 -- what was seen as a directory may be listed
 pub can_list : (x : Path) (look : Option Seen) {o n : Option Journal} → Left (λ ts. ts ≡ entry.Look x look ∷ []) o n → is_dir look ≡ true → Can n (entry.List x [])

@@ -18,10 +18,6 @@ use Rattle.lr_include.specs.declared.visit.Visit.{Visit}
 use Rattle.lr_include.specs.declared.visit.Visit.TheVariants as visit
 use Rattle.lr_include.specs.Visits.{IsKeptFile, IsExposedFile, ShowsDir, ShowsFile, ShowsVisit, look_failed, nothing, exposed, directory, file, PartFile, PartVisit}
 
--- a look, and what it saw
-pub sees : (x : Path) (P : Option Seen → Type 0) (seen : Option Seen) {o n : Option Journal} → Left (λ ts. ts ≡ entry.Look x seen ∷ []) o n → P seen → Left (Sees x P) o n
-sees x P seen l p = left_as l (λ ts e. record { seen = seen; is = p; look = e })
-
 -- what was seen as a directory may be listed
 pub can_list : (x : Path) (seen : Seen) {o n : Option Journal} → Left (λ ts. ts ≡ entry.Look x (Some seen) ∷ []) o n → seen.kind ≡ kind.Dir → Can n (entry.List x [])
 can_list x seen l k = entry_says l (λ w f. seen_dir (world w) (names (world w) x) seen f k)

@@ -19,6 +19,7 @@ use Rattle.lr_host.specs.Lists.{IsIn}
 use Rattle.lr_host.specs.Looks.{Sees, IsNoDir}
 use Rattle.lr_host.proofs.Each.{none_pass}
 use Rattle.lr_host.specs.Told.{Maybe}
+use Rattle.lr_host.proofs.Fronts.{saw_same}
 use Rattle.lr_scripts.specs.declared.command.Command.{Command}
 use Rattle.lr_scripts.specs.Programs.{runs}
 use Rattle.lr_copy.specs.declared.job.BytesStop.{BytesStop}
@@ -39,7 +40,7 @@ use Rattle.lr_run.proofs.Folded.{last_so}
 use Rattle.lr_run.proofs.Simple.{IsSimple, AreSimple, simple_split}
 use Rattle.lr_laws_fixed.proofs.Called.{one_uncalled, no_call}
 use Rattle.lr_laws_fixed.proofs.Keys.{Key, Made, WasRead, denied, shown, all_shown, Agree, agree_first, agree_second}
-use Rattle.lr_laws_fixed.proofs.Peeled.{saw_same, dir_or_not}
+use Rattle.lr_laws_fixed.proofs.Peeled.{dir_or_not}
 
 -- ---- the entries that show how a step ended
 

@@ -20,12 +20,13 @@ use Rattle.lr_family.specs.Among.{ShowsIn, ShowsNoneIn}
 use Rattle.lr_family.specs.Listed.{ShowsListing, NotListed}
 use Rattle.lr_host.specs.Counted.{calls_in}
 use Rattle.lr_host.proofs.Counts.{calls_on}
+use Rattle.lr_host.proofs.Fronts.{front_same, saw_same}
 use Rattle.lr_looks.specs.Families.{HadMemory, AllHadMemory, FamilySight, Stood, Stopped, WasListed, WasNotListed, ShowsAside, ShowsNoAside, ShowsMembersIn, ShowsFamily, behind_listing, with_listing, not_listed, ShowFamilies, family_fault, family_faults}
 use Rattle.lr_looks.specs.Found.{FoundLog, HaveBounds}
 use Rattle.lr_laws_fixed.proofs.Listings.{OneListing, one_listing, listing_or_none, AreSame, KnownAlike, more_alike}
 use Rattle.lr_laws_fixed.proofs.Members.{stands_same, stops_same, stands_or_stops}
 use Rattle.lr_laws_fixed.proofs.Parts.{parts_same, behind_never}
-use Rattle.lr_laws_fixed.proofs.Peeled.{front_same, then_same, first_same, joined_same, saw_same, one_look}
+use Rattle.lr_laws_fixed.proofs.Peeled.{then_same, first_same, joined_same, one_look}
 
 -- the two are one, and so are their entries and what comes behind
 abbrev One : FamilySight → FamilySight → List Entry → List Entry → List Entry → List Entry → Type 0

@@ -8,12 +8,13 @@ use Rattle.lr_rules.proofs.Heads.{heads, tails}
 use Rattle.lr_host.specs.declared.entry.Entry.{Entry}
 use Rattle.lr_host.specs.declared.entry.Entry.TheVariants as entry
 use Rattle.lr_host.specs.Looks.{is_dir}
+use Rattle.lr_host.proofs.Fronts.{front_same, names_same}
 use Rattle.lr_family.specs.declared.listing.Listing.{Listing}
 use Rattle.lr_family.specs.Listed.{ShowsListing, ShowsNoDir}
 use Rattle.lr_kept.proofs.Elements.{read_push_cases}
 use Rattle.lr_looks.specs.Families.{WasListed, WasNotListed}
 use Rattle.lr_laws_plan.proofs.FamiliesListOnce.{listed_last, listed_more}
-use Rattle.lr_laws_fixed.proofs.Peeled.{front_same, then_same, joined_same, names_same, OneLook, one_look, dir_or_not, dir_or_nothing, not_or_nothing}
+use Rattle.lr_laws_fixed.proofs.Peeled.{then_same, joined_same, OneLook, one_look, dir_or_not, dir_or_nothing, not_or_nothing}
 
 -- ---- one directory
 

@@ -14,6 +14,7 @@ use Rattle.lr_host.specs.declared.entry.Entry.TheVariants as entry
 use Rattle.lr_host.specs.Lists.{IsIn}
 use Rattle.lr_host.specs.Looks.{Sees, IsNoFile, IsFileOrGone}
 use Rattle.lr_host.proofs.Lists.{in_from, in_to}
+use Rattle.lr_host.proofs.Fronts.{front_same, saw_same}
 use Rattle.lr_family.specs.declared.place.Place.{Place}
 use Rattle.lr_family.specs.declared.spot.Spot.{Spot}
 use Rattle.lr_family.specs.declared.stand.Member.{Member}
@@ -26,7 +27,7 @@ use Rattle.lr_family.specs.Stands.{AreNewestFirst}
 use Rattle.lr_family.proofs.Newness.{by_newness_total}
 use Rattle.lr_family.proofs.Placed.{one_place}
 use Rattle.lr_family.proofs.Rising.{total, spots_more}
-use Rattle.lr_laws_fixed.proofs.Peeled.{front_same, saw_same, file_or_not}
+use Rattle.lr_laws_fixed.proofs.Peeled.{file_or_not}
 use Rattle.lr_laws_fixed.proofs.Rising.{same_strict}
 
 abbrev spots_of : List MemberSight → List Spot

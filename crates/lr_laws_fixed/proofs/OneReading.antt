@@ -19,16 +19,13 @@ use Rattle.lr_include.specs.Visits.{IsKeptFile, IsExposedFile, ReadsPart, ShowsT
 use Rattle.lr_include.specs.declared.task.Task.{Task}
 use Rattle.lr_include.specs.declared.task.Task.TheVariants as task
 use Rattle.lr_host.specs.Counted.{calls_in}
+use Rattle.lr_host.proofs.Fronts.{front_same, saw_same, names_same}
 use Rattle.lr_include.specs.Allowed.{failed_read, failed_visit, failed_in}
 use Rattle.lr_include.specs.Stages.{Stage, settled_stage, visited, at_visits, is_shallow, room_for, ShowsNext, ShowsVisits, begun, visits_mean, Reads}
 use Rattle.lr_include.proofs.Calls.{calls_are_failed}
 use Rattle.lr_laws_looks.proofs.OneOrder.{one_order}
-use Rattle.lr_laws_fixed.proofs.Peeled.{front_same, saw_same}
 
 -- ---- entries, taken apart from the front
-
-listed_same : (x y : Path) (s t : List (List ℕ)) → entry.List x s ≡ entry.List y t → s ≡ t
-listed_same x y s t e = cc
 
 -- Of two parts at the front of the same entries: what they gave, the entries, and what comes behind.
 record AreOne (A : Type 0) (a b : A) (ts us vs ws : List Entry) : Type 0 where
@@ -85,7 +82,7 @@ names_both x a b ts us vs ws r s e =
     let other = s.1 in
     let split = front_same ts us (entry.List x one.listed ∷ []) (entry.List x other.listed ∷ []) vs ws one.list other.list e in
     let first = heads (entry.List x one.listed) (entry.List x other.listed) vs ws split in
-    let listed = listed_same x x one.listed other.listed first in
+    let listed = names_same x x one.listed other.listed first in
     let names = one_order one.listed a b (record { same = one.same; rising = r.0 }) (record { same = subst (λ (ns : List (List ℕ)). IsPermutation ns b) (sym listed) other.same; rising = s.0 }) in
     record { gave = ap visit.Holds names; left = one.list ∙ (ap (λ y. y ∷ []) first ∙ sym other.list); behind = tails (entry.List x one.listed) (entry.List x other.listed) vs ws split }
 

@@ -11,11 +11,11 @@ use Rattle.lr_rules.proofs.Heads.{heads, tails}
 use Rattle.lr_host.specs.declared.thing.Seen.{Seen}
 use Rattle.lr_host.specs.declared.entry.Entry.{Entry}
 use Rattle.lr_host.specs.Looks.{PathSight, look_of}
+use Rattle.lr_host.proofs.Fronts.{front_same, saw_same}
 use Rattle.lr_family.specs.declared.stand.StandStop.TheVariants as stop
 use Rattle.lr_family.specs.Among.{StopsBehind}
 use Rattle.lr_family.specs.Parts.{IsPartAmong, AreParts, part_in, PartsAmong, StopsBefore, ShowsNoParts}
 use Rattle.lr_family.proofs.Ordered.{same_rising}
-use Rattle.lr_laws_fixed.proofs.Peeled.{front_same, saw_same}
 
 -- ---- part files among names
 

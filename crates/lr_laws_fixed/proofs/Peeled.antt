@@ -1,5 +1,5 @@
 -- Two lists that begin the same entries, taken apart from the front.
-use Rattle.std.proofs.Common.{◌≡◌, ℕ, List, [], ◌∷◌, ◌++◌, Option, None, Some, sym, ap, ◌∙◌, subst, append_assoc}
+use Rattle.std.proofs.Common.{◌≡◌, List, [], ◌∷◌, ◌++◌, Option, None, Some, sym, ap, ◌∙◌, subst, append_assoc}
 use Rattle.std.proofs.lemmas.Option.{same_Some}
 use Rattle.lr_rules.specs.declared.path.Path.{Path}
 use Rattle.lr_rules.proofs.Heads.{heads, tails}
@@ -8,10 +8,7 @@ use Rattle.lr_host.specs.declared.entry.Entry.{Entry}
 use Rattle.lr_host.specs.declared.entry.Entry.TheVariants as entry
 use Rattle.lr_host.specs.Looks.{Sees, IsNothing, IsDir, IsNoDir, IsNoFile, IsFileOrGone}
 use Rattle.lr_host.specs.Told.{Then}
-
--- what stands at the front of the same entries, in its own words
-pub front_same : (ts us fs gs vs ws : List Entry) → ts ≡ fs → us ≡ gs → ts ++ vs ≡ us ++ ws → fs ++ vs ≡ gs ++ ws
-front_same ts us fs gs vs ws p q e = sym (ap (λ l. l ++ vs) p) ∙ (e ∙ ap (λ l. l ++ ws) q)
+use Rattle.lr_host.proofs.Fronts.{front_same, saw_same}
 
 -- the same of two parts on each side
 pub then_same : {P Q R S : List Entry → Type 0} (ts us vs ws : List Entry) → (t : Then P Q ts) → (u : Then R S us) → ts ++ vs ≡ us ++ ws → t.front ++ (t.back ++ vs) ≡ u.front ++ (u.back ++ ws)
@@ -24,14 +21,6 @@ first_same ts us vs ws t e = sym (append_assoc t.front t.back vs) ∙ (sym (ap (
 -- both parts the same, so the whole
 pub joined_same : {P Q R S : List Entry → Type 0} (ts us : List Entry) → (t : Then P Q ts) → (u : Then R S us) → t.front ≡ u.front → t.back ≡ u.back → ts ≡ us
 joined_same ts us t u p q = t.joined ∙ (ap (λ l. l ++ t.back) p ∙ (ap (λ l. u.front ++ l) q ∙ sym u.joined))
-
--- two looks that are one entry saw one thing
-pub saw_same : (x y : Path) (s t : Option Seen) → entry.Look x s ≡ entry.Look y t → s ≡ t
-saw_same x y s t e = cc
-
--- two listings that are one entry told the same names
-pub names_same : (x y : Path) (s t : List (List ℕ)) → entry.List x s ≡ entry.List y t → s ≡ t
-names_same x y s t e = cc
 
 -- What two looks that begin the same entries have in common.
 pub record OneLook (seen more : Option Seen) (ts us vs ws : List Entry) : Type 0 where

@@ -26,6 +26,7 @@ use Rattle.lr_due.specs.declared.zone.ZoneText.{ZoneText}
 use Rattle.lr_due.specs.declared.zone.ZoneText.TheVariants.{Bytes}
 use Rattle.lr_due.specs.Zone.{IsClockIn}
 use Rattle.lr_host.specs.Counted.{call_in, calls_in}
+use Rattle.lr_host.proofs.Fronts.{front_same}
 use Rattle.lr_plan.specs.Asked.{Asked, asking}
 use Rattle.lr_plan.specs.declared.plan.Plan.{Plan}
 use Rattle.lr_run.specs.Answers.{RunLeaves}
@@ -40,7 +41,7 @@ use Rattle.lr_cli.specs.Asked.{AskFor}
 use Rattle.lr_clock.specs.Zone.{IsNotFile, ShowsZone, GivesBytes, LacksText, not_file, too_big, look_failed, read_failed}
 use Rattle.lr_run.proofs.Called.{none_before, none_behind}
 use Rattle.lr_laws_fixed.proofs.Called.{one_called, one_uncalled, no_call}
-use Rattle.lr_laws_fixed.proofs.Peeled.{front_same, then_same, joined_same, one_look}
+use Rattle.lr_laws_fixed.proofs.Peeled.{then_same, joined_same, one_look}
 use Rattle.lr_laws_fixed.proofs.Clocks.{one_clock}
 use Rattle.lr_laws_fixed.proofs.Run.{runs_one}
 use Rattle.lr_laws_fixed.proofs.OneReading.{readings_one}

@@ -10,12 +10,12 @@ use Rattle.lr_rules.proofs.Heads.{heads, tails}
 use Rattle.lr_host.specs.declared.entry.Entry.{Entry}
 use Rattle.lr_host.specs.declared.entry.Entry.TheVariants as entry
 use Rattle.lr_host.specs.Counted.{call_in}
+use Rattle.lr_host.proofs.Fronts.{front_same, saw_same}
 use Rattle.lr_state.specs.declared.look.LookStop.{LookStop}
 use Rattle.lr_state.specs.Known.{Known, IsKnownBy, IsKnownBehind, IsKnownOf, IsKnown, text_read}
 use Rattle.lr_state.specs.ReadPieces.{Reading, Whole, Broken, AreSome, IsLast, IsReading, bytes_of, reads_from}
 use Rattle.lr_state.specs.Sights.{StateSight, Failed, Nothing, Saw, StateSights, ShowsState, found, state_look, text_entries, behind_part, part_entries, behind_state, state_entries}
 use Rattle.lr_state.proofs.One.{one_answer}
-use Rattle.lr_laws_fixed.proofs.Peeled.{front_same, saw_same}
 
 -- it isn't a failed call by which nothing is known
 abbrev pub NoCall : Known → Type 0

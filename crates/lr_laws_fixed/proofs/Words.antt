@@ -8,10 +8,11 @@ use Rattle.lr_glob.specs.Words.{Comes}
 use Rattle.lr_laws_looks.proofs.OneWord.{comes_one}
 use Rattle.lr_host.specs.Counted.{calls_in}
 use Rattle.lr_host.proofs.Counts.{calls_on}
+use Rattle.lr_host.proofs.Fronts.{front_same}
 use Rattle.lr_looks.specs.Asked.{Word}
 use Rattle.lr_looks.specs.Sights.{WordSight, found_by, sight_faults, all_sight_faults, ShowsWord, ShowWords, WordHadMemory, WordsHadMemory}
 use Rattle.lr_laws_fixed.proofs.LiteralPaths.{HavePaths}
-use Rattle.lr_laws_fixed.proofs.Peeled.{front_same, then_same, joined_same}
+use Rattle.lr_laws_fixed.proofs.Peeled.{then_same, joined_same}
 
 -- What two sights of a word have in common: the sight, its entries, and what comes behind.
 abbrev SameSight : WordSight → WordSight → List Entry → List Entry → List Entry → List Entry → Type 0

@@ -17,9 +17,10 @@ use Rattle.lr_host.proofs.Lists.{from_reverse}
 use Rattle.lr_host.proofs.Looked.{nothing_no_file, seen_file, seen_dir}
 use Rattle.lr_host.proofs.More.{attach_names, dir_before}
 use Rattle.lr_host.proofs.Quiet.{IsAny, Moment, moment, quiet_more, quiet_still, since_any, still_in_order, looked_names}
+use Rattle.lr_host.proofs.Looking.{looks_quiet}
 use Rattle.lr_glob.specs.declared.found.Found.{Found}
 use Rattle.lr_glob.specs.Words.{Comes}
-use Rattle.lr_glob.proofs.OnlyLooks.{comes_looks, looks_quiet}
+use Rattle.lr_glob.proofs.OnlyLooks.{comes_looks}
 use Rattle.lr_glob.proofs.Seeking.{found_were_seen}
 use Rattle.lr_laws_looks.specs.Finds.{IsAttachedBetween, StoodOrCame}
 

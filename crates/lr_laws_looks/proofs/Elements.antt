@@ -25,8 +25,6 @@ unmap_at f [] (suc k) y h = absurd (cc)
 unmap_at f (x ∷ xs) zero y h = (x, refl, cc)
 unmap_at f (x ∷ xs) (suc k) y h = unmap_at f xs k y h
 
--- ---- lists of lists
-
 -- ---- what holds of each
 
 pub each_in : {A : Type 0} (P : A → Type 0) (xs : List A) → ((x : A) → IsIn x xs → P x) → AllByRecursion P xs

@@ -24,9 +24,9 @@ use Rattle.lr_host.specs.World.{Past, world, names}
 use Rattle.lr_host.specs.Opening.{IsJournal}
 use Rattle.lr_host.proofs.Lists.{in_to}
 use Rattle.lr_host.proofs.Made.{made_journal}
+use Rattle.lr_host.proofs.Looking.{looks_quiet}
 use Rattle.lr_family.specs.declared.family.Family.{Family}
 use Rattle.lr_family.specs.Parts.{IsMember}
-use Rattle.lr_family.proofs.OnlyLooks.{looks_quiet}
 use Rattle.lr_glob.specs.Words.{Comes}
 use Rattle.lr_glob.proofs.Seeking.{wildcards_seek, literals_give}
 use Rattle.lr_kept.specs.declared.choice.Choice.{Choice}

@@ -10,6 +10,7 @@ use Rattle.lr_host.specs.declared.thing.Seen.{Seen}
 use Rattle.lr_host.specs.declared.entry.Entry.{Entry}
 use Rattle.lr_host.specs.declared.entry.Entry.TheVariants as entry
 use Rattle.lr_host.specs.Looks.{Sees, is_dir, PathSight, look_of}
+use Rattle.lr_host.proofs.Fronts.{front_same, saw_same, names_same}
 use Rattle.lr_glob.specs.declared.found.Found.{Found}
 use Rattle.lr_glob.specs.declared.found.GlobStop.{GlobStop}
 use Rattle.lr_glob.specs.Gathers.{Gathers}
@@ -21,15 +22,6 @@ use Rattle.lr_glob.specs.Words.{SearchThen, WordGave, Comes}
 use Rattle.lr_laws_looks.proofs.OneOrder.{one_order}
 
 -- ---- entries, taken apart from the front
-
-saw_same : (x y : Path) (s t : Option Seen) → entry.Look x s ≡ entry.Look y t → s ≡ t
-saw_same x y s t e = cc
-
-names_same : (x y : Path) (s t : List (List ℕ)) → entry.List x s ≡ entry.List y t → s ≡ t
-names_same x y s t e = cc
-
-front_same : (ts us fs gs vs ws : List Entry) → ts ≡ fs → us ≡ gs → ts ++ vs ≡ us ++ ws → fs ++ vs ≡ gs ++ ws
-front_same ts us fs gs vs ws p q e = sym (ap (λ l. l ++ vs) p) ∙ (e ∙ ap (λ l. l ++ ws) q)
 
 -- Of two parts at the front of the same entries: what they came to, the entries, and what comes behind.
 pub record AreOne (A : Type 0) (a b : A) (ts us vs ws : List Entry) : Type 0 where

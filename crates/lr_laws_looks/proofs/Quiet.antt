@@ -23,8 +23,9 @@ use Rattle.lr_family.specs.Among.{ShowsMembers, ShowsIn, ShowsNoneIn}
 use Rattle.lr_family.specs.Listed.{ShowsListing, NotListedAt, NotListed}
 use Rattle.lr_family.specs.Looks.{ShowsTo}
 use Rattle.lr_family.specs.Stops.{SomeStopped}
-use Rattle.lr_family.proofs.OnlyLooks.{looking_both, looking_none, looking_sees, looking_sights, looking_shown_parts, looking_no_parts, looks_quiet}
+use Rattle.lr_family.proofs.OnlyLooks.{looking_sights, looking_shown_parts, looking_no_parts}
 use Rattle.lr_host.specs.Looking.{AreLooking}
+use Rattle.lr_host.proofs.Looking.{looks_quiet, looking_both, looking_none, looking_sees}
 use Rattle.lr_glob.proofs.OnlyLooks.{comes_looks, stopped_looks}
 use Rattle.lr_plan.specs.declared.looks.SetLooks.{SetLooks}
 use Rattle.lr_looks.specs.Asked.{Word, asked_by}

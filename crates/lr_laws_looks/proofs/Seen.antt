@@ -18,12 +18,12 @@ use Rattle.lr_rules.specs.Path.{path_fault, parent_of}
 use Rattle.lr_due.specs.declared.answer.Due.{Due}
 use Rattle.lr_host.specs.declared.entry.Entry.{Entry}
 use Rattle.lr_host.specs.declared.entry.Entry.TheVariants as entry
-use Rattle.lr_host.specs.declared.thing.Kind.{Kind}
 use Rattle.lr_host.specs.declared.thing.Kind.TheVariants as kind
 use Rattle.lr_host.specs.declared.thing.Seen.{Seen}
 use Rattle.lr_host.specs.Lists.{IsIn}
-use Rattle.lr_host.specs.Looks.{Sees, IsFile, is_dir_kind, is_dir}
+use Rattle.lr_host.specs.Looks.{Sees, IsFile, is_dir}
 use Rattle.lr_host.proofs.Lists.{in_to, in_front, in_back}
+use Rattle.lr_host.proofs.Looking.{dir_kind}
 use Rattle.lr_family.specs.Kin.{IsKin}
 use Rattle.lr_family.specs.Parts.{part_of}
 use Rattle.lr_family.specs.Stands.{AreNewestFirst}
@@ -174,11 +174,6 @@ none_shown n ts gone = record {
   files = λ at m lt. absurd (omega (arith, lt));
   others = λ x is none. no_dir gone;
 }
-
-dir_kind : (k : Kind) → is_dir_kind k ≡ true → k ≡ kind.Dir
-dir_kind kind.Dir is = refl
-dir_kind kind.File is = absurd (cc)
-dir_kind kind.Other is = absurd (cc)
 
 -- the parent was seen where it is there
 parent_seen : (dir : Path) (parent : Bool) (ts : List Entry) → SawParent dir parent ts → parent ≡ true → SawDir (parent_of dir) ts

@@ -25,6 +25,7 @@ use Rattle.lr_host.proofs.More.{IsMore, file_more, directory_more, not_more}
 use Rattle.lr_host.proofs.Quiet.{IsAny, moment, quiet_more, quiet_still, since_any, still_in_order}
 use Rattle.lr_match.proofs.Ends.{ends_tell}
 use Rattle.lr_host.specs.Listing.{is_file_kind}
+use Rattle.lr_host.proofs.Looking.{looks_quiet}
 use Rattle.lr_glob.specs.declared.found.Found.{Found}
 use Rattle.lr_glob.specs.Gathers.{Gathers}
 use Rattle.lr_glob.specs.Parts.{JoinOf, PickOf, parts_in}
@@ -34,7 +35,7 @@ use Rattle.lr_glob.specs.Visits.{Visit, visit_names, visit_entries}
 use Rattle.lr_glob.specs.Words.{WordGave, Comes, SearchThen}
 use Rattle.lr_glob.proofs.Apart.{dir_of}
 use Rattle.lr_glob.proofs.Literals.{one_name, parts_utf8}
-use Rattle.lr_glob.proofs.OnlyLooks.{comes_looks, looks_quiet}
+use Rattle.lr_glob.proofs.OnlyLooks.{comes_looks}
 use Rattle.lr_glob.proofs.Seeking.{all_are}
 use Rattle.lr_laws_looks.specs.Finds.{FindsFile}
 use Rattle.lr_laws_looks.proofs.OneWord.{LeadsBy, leads_by}

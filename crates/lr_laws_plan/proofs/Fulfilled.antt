@@ -14,7 +14,7 @@ use Rattle.lr_host.specs.declared.thing.Thing.TheVariants as thing
 use Rattle.lr_host.specs.Lists.{IsIn}
 use Rattle.lr_host.specs.Looks.{Sees, IsDir}
 use Rattle.lr_host.specs.Opening.{IsJournal}
-use Rattle.lr_host.specs.Quiet.{IsQuiet, AreQuiet, AttachedOnlySince}
+use Rattle.lr_host.specs.Quiet.{AreQuiet, AttachedOnlySince}
 use Rattle.lr_host.specs.Told.{Made}
 use Rattle.lr_host.specs.World.{Past, world, names}
 use Rattle.lr_host.proofs.Lists.{in_front, in_back}
@@ -40,6 +40,7 @@ use Rattle.lr_writing.proofs.Named.{named_whole}
 use Rattle.lr_writing.specs.Synced.{all_changed_of}
 use Rattle.lr_writing.proofs.SyncedLaws.{all_synced}
 use Rattle.lr_host.specs.Looking.{IsSight, AreSights}
+use Rattle.lr_host.proofs.Looking.{sights_quiet}
 use Rattle.lr_run.specs.Runs.{dirs_in, logs_in}
 use Rattle.lr_run.specs.Saw.{text_by}
 use Rattle.lr_run.specs.Work.{Work, ShowsWork, CarriesOut, act_faults, run_entries, steps_in, state_steps_of}
@@ -55,20 +56,11 @@ use Rattle.lr_laws_plan.proofs.FulfilledPlanned.{anew_planned, acts_planned, dir
 
 -- ---- looks, listings and reads
 
-sight_quiet : (e : Entry) → IsSight e → IsQuiet e
-sight_quiet (entry.Look path seen) i = (tt, refl)
-sight_quiet (entry.List dir names) i = (tt, refl)
-sight_quiet (entry.Reads path from piece) i = (tt, refl)
-sight_quiet _ i = absurd i
-
 sight_none : (e : Entry) → IsSight e → is_act e ≡ false
 sight_none (entry.Look path seen) i = refl
 sight_none (entry.List dir names) i = refl
 sight_none (entry.Reads path from piece) i = refl
 sight_none _ i = absurd i
-
-sights_quiet : (ts : List Entry) → AreSights ts → AreQuiet ts
-sights_quiet ts a = each_as IsSight IsQuiet ts sight_quiet a
 
 sights_none : (ts : List Entry) → AreSights ts → filter is_act ts ≡ []
 sights_none ts a = none_pass is_act ts (each_as IsSight (λ e. is_act e ≡ false) ts sight_none a)

@@ -196,8 +196,6 @@ hindered_by clock decide (rule ∷ rules) (set ∷ sets) path i = ⊎_elim own (
     further : IsHindered clock rules sets path → IsHindered clock (rule ∷ rules) (set ∷ sets) path
     further h = record { place = suc h.place; rule = h.rule; set = h.set; look = h.look; at_set = h.at_set; among = h.among; fault_in = h.fault_in }
 
--- ---- logs that were looked at whole are one, or apart
-
 -- ---- what the acts spare
 
 -- an entry that changes nothing unlinks nothing

@@ -27,8 +27,6 @@ use Rattle.lr_plan.specs.Asking.{CanMake}
 use Rattle.lr_plan.specs.Steps.{state_steps}
 use Rattle.lr_writing.specs.Fits.{AreDirectories, StateHasPlace, CanBegin}
 
--- ---- the part file stands in the state's directory
-
 -- ---- what entries do to facts of names
 
 can_by : (Q : Names → Type 0) (e : Entry) (o : Option Journal) → ((n : Names) → Q n → CanCall n e) → WhereTold o (λ p. Q (names (world p))) → CanAll o (e ∷ [])

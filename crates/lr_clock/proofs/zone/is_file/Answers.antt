@@ -2,8 +2,9 @@ use Rattle.std.proofs.Common.{sym, subst}
 use Rattle.lr_host.specs.declared.thing.Kind.TheVariants as kind
 use Rattle.lr_host.specs.Looks.{IsFile}
 use Rattle.lr_host.proofs.Known.{seen_can_read}
+use Rattle.lr_host.proofs.Looking.{sees}
 use Rattle.lr_clock.specs.Zone.{IsNotFile}
-use Rattle.lr_clock.proofs.Zoned.{sees, no_file, not_dir, not_other}
+use Rattle.lr_clock.proofs.Zoned.{no_file, not_dir, not_other}
 use Rattle.lr_clock.proofs.zone.is_file.Goals as goal
 
 pub returns-in_default-look-clause-other : goal.returns-in_default-look-clause-other

@@ -1,5 +1,5 @@
 use Rattle.lr_host.specs.Looks.{IsNothing, IsDir, IsNoDir}
-use Rattle.lr_family.proofs.Looking.{sees}
+use Rattle.lr_host.proofs.Looking.{sees}
 use Rattle.lr_family.proofs.Whole.{can_list, is_dir_seen, file_no_dir, other_no_dir}
 use Rattle.lr_family.proofs.directory.look_for_dir.Goals as goal
 

@@ -1,6 +1,7 @@
 use Rattle.std.proofs.Common.{None, Some}
 use Rattle.lr_host.specs.Looks.{IsNoFile}
-use Rattle.lr_family.proofs.Looking.{sees, saw, dir_no_file, other_no_file}
+use Rattle.lr_host.proofs.Looking.{sees}
+use Rattle.lr_family.proofs.Looking.{saw, dir_no_file, other_no_file}
 use Rattle.lr_family.proofs.look.look_at.Goals as goal
 
 pub returns-in_default-look-clause-told : goal.returns-in_default-look-clause-told

@@ -1,4 +1,5 @@
-use Rattle.lr_glob.proofs.OnlyLooks.{comes_looks, stopped_looks, looks_quiet}
+use Rattle.lr_host.proofs.Looking.{looks_quiet}
+use Rattle.lr_glob.proofs.OnlyLooks.{comes_looks, stopped_looks}
 use Rattle.lr_glob.proofs.laws.words_only_look.Goals as goal
 
 pub returns : goal.returns

@@ -1,6 +1,6 @@
 use Rattle.std.proofs.Common.{◌≡◌, ◌++◌}
+use Rattle.lr_host.proofs.Looking.{sees}
 use Rattle.lr_glob.specs.Sights.{file_at}
-use Rattle.lr_glob.proofs.Visits.{sees}
 use Rattle.lr_glob.proofs.Looking.{look_failed, look_lost}
 use Rattle.lr_glob.proofs.sights.look_at.Goals as goal
 

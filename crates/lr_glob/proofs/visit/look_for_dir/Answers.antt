@@ -1,6 +1,7 @@
 use Rattle.std.proofs.Common.{◌≡◌, sym, ◌∙◌}
 use Rattle.lr_host.specs.Looks.{is_dir}
-use Rattle.lr_glob.proofs.Visits.{sees, can_list}
+use Rattle.lr_host.proofs.Looking.{sees}
+use Rattle.lr_glob.proofs.Visits.{can_list}
 use Rattle.lr_glob.proofs.visit.look_for_dir.Goals as goal
 
 pub returns-in-Ok-clause-told : goal.returns-in-Ok-clause-told

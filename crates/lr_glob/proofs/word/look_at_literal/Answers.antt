@@ -1,4 +1,4 @@
-use Rattle.lr_glob.proofs.Visits.{sees}
+use Rattle.lr_host.proofs.Looking.{sees}
 use Rattle.lr_glob.proofs.Giving.{literal_failed, literal_lost}
 use Rattle.lr_glob.proofs.word.look_at_literal.Goals as goal
 

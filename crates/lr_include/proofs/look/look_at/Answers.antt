@@ -1,8 +1,9 @@
 use Rattle.std.proofs.Common.{sym, subst}
 use Rattle.lr_host.proofs.Known.{seen_can_read}
 use Rattle.lr_host.specs.Looks.{IsDir, IsNothingOrOther}
+use Rattle.lr_host.proofs.Looking.{sees}
 use Rattle.lr_include.specs.Visits.{IsKeptFile, IsExposedFile}
-use Rattle.lr_include.proofs.Visited.{sees, can_list}
+use Rattle.lr_include.proofs.Visited.{can_list}
 use Rattle.lr_include.proofs.look.look_at.Goals as goal
 
 pub returns-in_default-look-clause-told : goal.returns-in_default-look-clause-told
