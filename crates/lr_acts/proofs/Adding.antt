@@ -95,7 +95,7 @@ pub no_fault : (x : Progress) → x.faults.items ≡ x.faults.items ++ []
 no_fault x = sym (append-nil x.faults.items)
 
 -- one fault with its cause
-counted_one : (f : Fault) (a b : Counts) (o n : Option Journal) → FaultCause f a b o n → NoneFell a b → AreCounted (f ∷ []) a b
+pub counted_one : (f : Fault) (a b : Counts) (o n : Option Journal) → FaultCause f a b o n → NoneFell a b → AreCounted (f ∷ []) a b
 counted_one (fault.Call kind path) a b o n h le = counted_call kind path a b h le
 counted_one (fault.Script phase on end) a b o n h le = counted_script phase on end a b h le
 counted_one fault.Clock a b o n h le = absurd h

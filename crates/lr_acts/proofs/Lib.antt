@@ -1,4 +1,4 @@
-mod Adding
+pub mod Adding
 mod Copies
 mod Counting
 mod Dirs

@@ -1,5 +1,5 @@
 -- A program that was refused, and programs among steps.
-use Rattle.std.proofs.Common.{⊎_elim, inl, inr, ap, ℕ, List, [], ◌∷◌, ◌++◌, Result, Ok, Err, OnErr}
+use Rattle.std.proofs.Common.{⊎_elim, inl, inr, ap, ℕ, List, [], ◌∷◌, ◌++◌, Err}
 use Rattle.lr_rules.specs.declared.fault.CallKind.{CallKind}
 use Rattle.lr_rules.specs.declared.fault.Fault.TheVariants as fault
 use Rattle.lr_rules.specs.declared.fault.Phase.{Phase}
@@ -30,8 +30,3 @@ program_first (x ∷ xs) ys p = ⊎_elim (λ here. inl here) (λ there. inr (pro
 pub program_later : (xs ys : List Step) → HasProgram ys → HasProgram (xs ++ ys)
 program_later [] ys p = p
 program_later (x ∷ xs) ys p = inr (program_later xs ys p)
-
--- what holds in any case holds at an error
-pub at_error : {T E : Type 0} (r : Result T E) (P : Type 0) → P → OnErr r P
-at_error (Ok x) P p = tt
-at_error (Err e) P p = p

@@ -138,11 +138,11 @@ last_spares : (x : Path) (xs ys : List Step) → LastTaken x (xs ++ ys) → OneT
 last_spares x [] ys l c = absurd c
 last_spares x (s ∷ xs) ys l c = ⊎_elim (λ here. none_later x xs ys (l.0 here)) (λ there. last_spares x xs ys l.1 there) c
 
-one_first : (x : Path) (xs ys : List Step) → OneTakes x xs → OneTakes x (xs ++ ys)
+pub one_first : (x : Path) (xs ys : List Step) → OneTakes x xs → OneTakes x (xs ++ ys)
 one_first x [] ys c = absurd c
 one_first x (s ∷ xs) ys c = ⊎_elim (λ here. inl here) (λ there. inr (one_first x xs ys there)) c
 
-one_later : (x : Path) (xs ys : List Step) → OneTakes x ys → OneTakes x (xs ++ ys)
+pub one_later : (x : Path) (xs ys : List Step) → OneTakes x ys → OneTakes x (xs ++ ys)
 one_later x [] ys c = c
 one_later x (s ∷ xs) ys c = inr (one_later x xs ys c)
 

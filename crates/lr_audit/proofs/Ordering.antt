@@ -1,32 +1,18 @@
 -- Directories, each once and in order of bytes.
-use Rattle.std.proofs.Common.{◌≡◌, ℕ, Bool, true, List, refl, sym, ap, ◌∙◌, subst, bytes_eq}
+use Rattle.std.proofs.Common.{◌≡◌, ℕ, true, List, sym, ap, subst}
 use Rattle.std.specs.Prelude.{◌↔◌, Contains, Any}
-use Rattle.std.specs.Cmp.{IsEquivalence}
 use Rattle.std.specs.Cmp.Lexicographic.{slice_cmp}
 use Rattle.std.specs.List.{dedup}
 use Rattle.std.specs.List.Sorted.{IsPermutation, IsSortedByKey, IsStrictlySortedBy}
-use Rattle.std.specs.Ordering.{nat_cmp, eq_by_cmp}
-use Rattle.std.proofs.lemmas.Cmp.{nat_list_cmp_total, eq_by_cmp_equiv}
+use Rattle.std.specs.Ordering.{nat_cmp}
+use Rattle.std.proofs.lemmas.Cmp.{nat_list_cmp_total}
 use Rattle.std.proofs.lemmas.List.Kept.{IsStrictlySortedBy-dedup, Contains-from_dedup, Contains-dedup}
 use Rattle.std.proofs.lemmas.List.Sorted.{Contains-permutation, IsPermutation-sym}
-use Rattle.std.proofs.lemmas.Map.Text.{is_eq-slice_cmp}
 use Rattle.std.proofs.lemmas.Slice.Eq.{bytes_eq-Decides}
 use Rattle.lr_rules.specs.declared.path.Path.{Path}
 use Rattle.lr_family.specs.Parts.{by_bytes}
+use Rattle.lr_family.proofs.PartNames.{equivalence, same_as, is_same}
 use Rattle.lr_audit.specs.Dirs.{AreDirs}
-
-abbrev pub is_same : Path → Path → Bool
-is_same a b = bytes_eq a b
-
-same_as : (a b : Path) → is_same a b ≡ eq_by_cmp by_bytes a b
-same_as a b = sym (is_eq-slice_cmp a b)
-
-equivalence : IsEquivalence is_same
-equivalence = let e = eq_by_cmp_equiv nat_list_cmp_total in record {
-  refl = λ x. same_as x x ∙ e.refl x;
-  symm = λ x y. same_as x y ∙ (e.symm x y ∙ sym (same_as y x));
-  congr = λ x y z p. same_as x z ∙ (e.congr x y z (sym (same_as x y) ∙ p) ∙ sym (same_as y z));
-}
 
 pub dirs_once : (asked ordered dirs : List Path) → IsPermutation asked ordered → IsSortedByKey (λ path. path) (slice_cmp nat_cmp) ordered → dirs ≡ dedup is_same ordered → AreDirs asked dirs
 dirs_once asked ordered dirs same up e = record {

@@ -36,6 +36,7 @@ use Rattle.lr_laws.proofs.StandsIn.{stands_in}
 use Rattle.lr_family.specs.Listed.{ShowsListing, NotListedAt, ShowsNoDir}
 use Rattle.lr_laws_looks.specs.Finds.{StoodOrCame}
 use Rattle.lr_laws_looks.proofs.Came.{quiet_prefix, stood_or_came}
+use Rattle.lr_laws_looks.proofs.Families.{file_seen}
 use Rattle.lr_audit.specs.Files.{are_path_bytes, paths_in, FileSight, file_path, file_by, fault_by, look_by, sight_file, sight_fault, file_looks, LookedAtEach, ShowsDir, listed, not_listed, no_directory, DirSight, IsShown, ShowsDirs}
 use Rattle.lr_audit.specs.Truth.{IsTakenAway, AreTrueFiles}
 
@@ -70,13 +71,6 @@ of_path : (dir : Path) (names : List (List ℕ)) (x : Path) → IsIn x (paths_in
 of_path dir names x i = in_unmap (joined dir) x names (of_filter (map (joined dir) names) x i)
 
 -- ---- what a look saw
-
-file_seen : (w : World) (t : Thing) (g : ℕ) (o : Option Seen) → t ≡ thing.File g → Sees w t o → IsFile o
-file_seen w t g o is s = go o (subst (λ (u : Thing). Sees w u o) is s)
-  where
-    go : (o : Option Seen) → Sees w (thing.File g) o → IsFile o
-    go None s = s
-    go (Some seen) s = s.0
 
 dir_seen : (w : World) (t : Thing) (o : Option Seen) → t ≡ thing.Directory → Sees w t o → IsDir o
 dir_seen w t o is s = go o (subst (λ (u : Thing). Sees w u o) is s)

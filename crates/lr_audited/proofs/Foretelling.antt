@@ -60,6 +60,7 @@ use Rattle.lr_laws_rotations.proofs.Own.{member_own, named_own, target_member, p
 use Rattle.lr_laws_rotations.proofs.PartFile.{job_part, job_no_member}
 use Rattle.lr_laws_rotations.proofs.Way.{first_own}
 use Rattle.lr_laws_acts.specs.Fitting.{NoneMeets, DontMeet}
+use Rattle.lr_laws_acts.proofs.Fits.{NamesOf}
 use Rattle.lr_laws_looks.specs.Planned.{target_in, targets_of_sets}
 use Rattle.lr_laws_looks.specs.Targets.{target_of, where_free, targets_of, groups_of, all_targets}
 use Rattle.lr_laws_looks.proofs.Apart.{targets_dont_meet}
@@ -72,7 +73,7 @@ use Rattle.lr_audited.specs.Removed.{aside_going, newest_going, left_over, lefto
 use Rattle.lr_audited.specs.Unlinked.{Origins, own_names, unlinked, set_steps, set_parts, going_paths, files_unlinked}
 use Rattle.lr_audited.proofs.Retiring.{log_from, Retires, numbered_retires, numbered_left, dated_retires}
 use Rattle.lr_audited.proofs.Tracing.{run, run_both, unlinked_both, AllTouch, touch_both, touch_as, left_alone, unlinked_program, unlinked_by_program, touch_program}
-use Rattle.lr_audited.proofs.Unlinking.{Own, IsAsBefore, rotation_touches, retirement_touches, rotation_unlinks, retirement_unlinks}
+use Rattle.lr_audited.proofs.Unlinking.{IsAsBefore, rotation_touches, retirement_touches, rotation_unlinks, retirement_unlinks}
 
 -- ---- the plan of one log
 
@@ -154,10 +155,10 @@ record Sorts (p : Path → Bool) (t : Target) : Type 0 where
 
 -- The log's plan changes the target's own names alone, and of what passes the test it unlinks what is told of it.
 record IsFine (p : Path → Bool) (clock : Clock) (t : Target) (log : LogPlan) : Type 0 where
-  rotates : AllTouch (Own t) (rotation_of log)
-  ends : AllTouch (Own t) (retirement_of log)
+  rotates : AllTouch (NamesOf t) (rotation_of log)
+  ends : AllTouch (NamesOf t) (retirement_of log)
   first : (came : Origins) → IsAsBefore t came → filter p (unlinked came (rotation_of log)) ≡ going_paths (leftovers_of log)
-  last : (came other : Origins) → IsAsBefore t came → ((x : Path) → Own t x → other x ≡ run came (rotation_of log) x) → filter p (unlinked other (retirement_of log)) ≡ going_paths (retired_of clock log)
+  last : (came other : Origins) → IsAsBefore t came → ((x : Path) → NamesOf t x → other x ≡ run came (rotation_of log) x) → filter p (unlinked other (retirement_of log)) ≡ going_paths (retired_of clock log)
 
 log_fine : (p : Path → Bool) (clock : Clock) (mailer : Path) (rule : Rule) (look : LogLook) → HasNames (target_of clock rule look) → Sorts p (target_of clock rule look) → hindrances clock rule look ≡ [] → IsFine p clock (target_of clock rule look) (log_plan clock mailer rule look)
 log_fine p clock mailer rule look h sorts free = record {
@@ -219,18 +220,18 @@ module _ (p : Path → Bool) (clock : Clock) (mailer : Path) where
 -- ---- logs that don't meet
 
 abbrev ShareNone : Target → Target → Type 0
-ShareNone t u = (x : Path) → Own t x → Own u x → ⊥
+ShareNone t u = (x : Path) → NamesOf t x → NamesOf u x → ⊥
 
 none_share : (t : Target) (ts : List Target) → NoneMeets t ts → (u : Target) → IsIn u ts → ShareNone t u
 none_share t [] h u i x a b = i
-none_share t (y ∷ ys) h u (inl e) x a b = h.0 (x, inl (subst (λ (z : Target). Own z x) (sym e) b, inl a))
+none_share t (y ∷ ys) h u (inl e) x a b = h.0 (x, inl (subst (λ (z : Target). NamesOf z x) (sym e) b, inl a))
 none_share t (y ∷ ys) h u (inr i) x a b = none_share t ys h.1 u i x a b
 
 two_share : (ts : List Target) → DontMeet ts → (t u : Target) → IsIn t ts → IsIn u ts → (t ≡ u) ⊎ ShareNone t u
 two_share [] d t u i j = absurd i
 two_share (y ∷ ys) d t u (inl e) (inl f) = inl (sym e ∙ f)
-two_share (y ∷ ys) d t u (inl e) (inr j) = inr (λ x a b. none_share y ys d.0 u j x (subst (λ (z : Target). Own z x) (sym e) a) b)
-two_share (y ∷ ys) d t u (inr i) (inl f) = inr (λ x a b. none_share y ys d.0 t i x (subst (λ (z : Target). Own z x) (sym f) b) a)
+two_share (y ∷ ys) d t u (inl e) (inr j) = inr (λ x a b. none_share y ys d.0 u j x (subst (λ (z : Target). NamesOf z x) (sym e) a) b)
+two_share (y ∷ ys) d t u (inr i) (inl f) = inr (λ x a b. none_share y ys d.0 t i x (subst (λ (z : Target). NamesOf z x) (sym f) b) a)
 two_share (y ∷ ys) d t u (inr i) (inr j) = two_share ys d.1 t u i j
 
 none_front : (t : Target) (ts us : List Target) → NoneMeets t (ts ++ us) → NoneMeets t ts
@@ -247,18 +248,18 @@ meet_back (t ∷ ts) us d = meet_back ts us d.1
 
 share_across : (ts us : List Target) → DontMeet (ts ++ us) → (t u : Target) → IsIn t ts → IsIn u us → ShareNone t u
 share_across [] us d t u i j x a b = i
-share_across (y ∷ ys) us d t u (inl e) j x a b = none_share y (ys ++ us) d.0 u (in_back u ys us j) x (subst (λ (z : Target). Own z x) (sym e) a) b
+share_across (y ∷ ys) us d t u (inl e) j x a b = none_share y (ys ++ us) d.0 u (in_back u ys us j) x (subst (λ (z : Target). NamesOf z x) (sym e) a) b
 share_across (y ∷ ys) us d t u (inr i) j x a b = share_across ys us d.1 t u i j x a b
 
 -- the path is a name of one of them
 abbrev OfOne : List Target → Path → Type 0
-OfOne ts x = (t : Target) × IsIn t ts × Own t x
+OfOne ts x = (t : Target) × IsIn t ts × NamesOf t x
 
 -- at all of their names stand the files that stood there as the steps began
 abbrev AreAsBefore : List Target → Origins → Type 0
 AreAsBefore ts came = (t : Target) → IsIn t ts → IsAsBefore t came
 
-as_before : (P : Path → Type 0) (steps : List Step) (came : Origins) (ts : List Target) → AllTouch P steps → ((t : Target) → IsIn t ts → (x : Path) → Own t x → P x → ⊥) → AreAsBefore ts came → AreAsBefore ts (run came steps)
+as_before : (P : Path → Type 0) (steps : List Step) (came : Origins) (ts : List Target) → AllTouch P steps → ((t : Target) → IsIn t ts → (x : Path) → NamesOf t x → P x → ⊥) → AreAsBefore ts came → AreAsBefore ts (run came steps)
 as_before P steps came ts touch apart before t i x own = left_alone P steps came x touch (apart t i x own) ∙ before t i x own
 
 -- ---- the steps of one definition
@@ -266,10 +267,10 @@ as_before P steps came ts touch apart before t i x own = left_alone P steps came
 module _ (p : Path → Bool) (clock : Clock) where
   -- ---- each log by itself
 
-  log_touches : (t : Target) (log : LogPlan) → IsFine p clock t log → AllTouch (Own t) (steps_of_log log)
-  log_touches t log f = touch_both (Own t) (program phase.Pre log.pre) (rotation_of log ++ (program phase.Post log.post ++ retirement_of log)) (touch_program (Own t) phase.Pre log.pre)
-      (touch_both (Own t) (rotation_of log) (program phase.Post log.post ++ retirement_of log) f.rotates
-      (touch_both (Own t) (program phase.Post log.post) (retirement_of log) (touch_program (Own t) phase.Post log.post) f.ends))
+  log_touches : (t : Target) (log : LogPlan) → IsFine p clock t log → AllTouch (NamesOf t) (steps_of_log log)
+  log_touches t log f = touch_both (NamesOf t) (program phase.Pre log.pre) (rotation_of log ++ (program phase.Post log.post ++ retirement_of log)) (touch_program (NamesOf t) phase.Pre log.pre)
+      (touch_both (NamesOf t) (rotation_of log) (program phase.Post log.post ++ retirement_of log) f.rotates
+      (touch_both (NamesOf t) (program phase.Post log.post) (retirement_of log) (touch_program (NamesOf t) phase.Post log.post) f.ends))
 
   log_so : (t : Target) (log : LogPlan) (came : Origins) → IsFine p clock t log → IsAsBefore t came → filter p (unlinked came (steps_of_log log)) ≡ going_paths (log_removed clock log)
   log_so t log came f before =
@@ -289,7 +290,7 @@ module _ (p : Path → Bool) (clock : Clock) where
   each_touches [] (log ∷ logs) f = absurd f
   each_touches (t ∷ ts) [] f = absurd f
   each_touches (t ∷ ts) (log ∷ logs) f = touch_both (OfOne (t ∷ ts)) (steps_of_log log) (each_steps logs)
-      (touch_as (Own t) (OfOne (t ∷ ts)) (steps_of_log log) (λ x own. (t, inl refl, own)) (log_touches t log f.0))
+      (touch_as (NamesOf t) (OfOne (t ∷ ts)) (steps_of_log log) (λ x own. (t, inl refl, own)) (log_touches t log f.0))
       (touch_as (OfOne ts) (OfOne (t ∷ ts)) (each_steps logs) (λ x one. (one.0, inr one.1, one.2)) (each_touches ts logs f.1))
 
   each_so : (ts : List Target) (logs : List LogPlan) (came : Origins) → AreFine p clock ts logs → DontMeet ts → AreAsBefore ts came → filter p (unlinked came (each_steps logs)) ≡ going_paths (flat_map (log_removed clock) logs)
@@ -301,21 +302,21 @@ module _ (p : Path → Bool) (clock : Clock) where
       ∙ (filter-append p (unlinked came (steps_of_log log)) (unlinked (run came (steps_of_log log)) (each_steps logs))
       ∙ (ap (λ (xs : List Path). xs ++ filter p (unlinked (run came (steps_of_log log)) (each_steps logs))) (log_so t log came f.0 (before t (inl refl)))
       ∙ (ap (λ (xs : List Path). going_paths (log_removed clock log) ++ xs) (each_so ts logs (run came (steps_of_log log)) f.1 d.1
-      (as_before (Own t) (steps_of_log log) came ts (log_touches t log f.0) (λ u i x own of_t. none_share t ts d.0 u i x of_t own) (λ u i. before u (inr i))))
+      (as_before (NamesOf t) (steps_of_log log) came ts (log_touches t log f.0) (λ u i x own of_t. none_share t ts d.0 u i x of_t own) (λ u i. before u (inr i))))
       ∙ sym (map-append (λ (g : Path × Why). g.0) (log_removed clock log) (flat_map (log_removed clock) logs)))))
 
   -- ---- logs that share their scripts
 
   -- what goes behind the rotations is told, wherever the files stand at the log's names as here
   abbrev EndsFrom : Origins → Target → LogPlan → Type 0
-  EndsFrom came t log = (other : Origins) → ((x : Path) → Own t x → other x ≡ came x) → filter p (unlinked other (retirement_of log)) ≡ going_paths (retired_of clock log)
+  EndsFrom came t log = (other : Origins) → ((x : Path) → NamesOf t x → other x ≡ came x) → filter p (unlinked other (retirement_of log)) ≡ going_paths (retired_of clock log)
 
   abbrev EndFrom : Origins → List Target → List LogPlan → Type 0
   EndFrom came [] [] = Unit {0}
   EndFrom came (t ∷ ts) (log ∷ logs) = EndsFrom came t log × EndFrom came ts logs
   EndFrom came _ _ = ⊥
 
-  ends_as : (ts : List Target) (logs : List LogPlan) (came now : Origins) → ((t : Target) → IsIn t ts → (x : Path) → Own t x → now x ≡ came x) → EndFrom came ts logs → EndFrom now ts logs
+  ends_as : (ts : List Target) (logs : List LogPlan) (came now : Origins) → ((t : Target) → IsIn t ts → (x : Path) → NamesOf t x → now x ≡ came x) → EndFrom came ts logs → EndFrom now ts logs
   ends_as [] [] came now same e = tt
   ends_as [] (log ∷ logs) came now same e = absurd e
   ends_as (t ∷ ts) [] came now same e = absurd e
@@ -326,7 +327,7 @@ module _ (p : Path → Bool) (clock : Clock) where
   rotations_touch [] (log ∷ logs) f = absurd f
   rotations_touch (t ∷ ts) [] f = absurd f
   rotations_touch (t ∷ ts) (log ∷ logs) f = touch_both (OfOne (t ∷ ts)) (rotation_of log) (flat_map rotation_of logs)
-      (touch_as (Own t) (OfOne (t ∷ ts)) (rotation_of log) (λ x own. (t, inl refl, own)) f.0.rotates)
+      (touch_as (NamesOf t) (OfOne (t ∷ ts)) (rotation_of log) (λ x own. (t, inl refl, own)) f.0.rotates)
       (touch_as (OfOne ts) (OfOne (t ∷ ts)) (flat_map rotation_of logs) (λ x one. (one.0, inr one.1, one.2)) (rotations_touch ts logs f.1))
 
   retirements_touch : (ts : List Target) (logs : List LogPlan) → AreFine p clock ts logs → AllTouch (OfOne ts) (flat_map retirement_of logs)
@@ -334,12 +335,12 @@ module _ (p : Path → Bool) (clock : Clock) where
   retirements_touch [] (log ∷ logs) f = absurd f
   retirements_touch (t ∷ ts) [] f = absurd f
   retirements_touch (t ∷ ts) (log ∷ logs) f = touch_both (OfOne (t ∷ ts)) (retirement_of log) (flat_map retirement_of logs)
-      (touch_as (Own t) (OfOne (t ∷ ts)) (retirement_of log) (λ x own. (t, inl refl, own)) f.0.ends)
+      (touch_as (NamesOf t) (OfOne (t ∷ ts)) (retirement_of log) (λ x own. (t, inl refl, own)) f.0.ends)
       (touch_as (OfOne ts) (OfOne (t ∷ ts)) (flat_map retirement_of logs) (λ x one. (one.0, inr one.1, one.2)) (retirements_touch ts logs f.1))
 
   -- behind its rotation each other log finds its files as they stood
   on_from : (t : Target) (ts : List Target) (log : LogPlan) (came : Origins) → IsFine p clock t log → NoneMeets t ts → AreAsBefore (t ∷ ts) came → AreAsBefore ts (run came (rotation_of log))
-  on_from t ts log came f none before = as_before (Own t) (rotation_of log) came ts f.rotates (λ u i x own of_t. none_share t ts none u i x of_t own) (λ u i. before u (inr i))
+  on_from t ts log came f none before = as_before (NamesOf t) (rotation_of log) came ts f.rotates (λ u i x own of_t. none_share t ts none u i x of_t own) (λ u i. before u (inr i))
 
   rotations_so : (ts : List Target) (logs : List LogPlan) (came : Origins) → AreFine p clock ts logs → DontMeet ts → AreAsBefore ts came → filter p (unlinked came (flat_map rotation_of logs)) ≡ going_paths (flat_map leftovers_of logs)
   rotations_so [] [] came f d before = refl
@@ -370,7 +371,7 @@ module _ (p : Path → Bool) (clock : Clock) where
       ∙ (filter-append p (unlinked came (retirement_of log)) (unlinked (run came (retirement_of log)) (flat_map retirement_of logs))
       ∙ (ap (λ (xs : List Path). xs ++ filter p (unlinked (run came (retirement_of log)) (flat_map retirement_of logs))) (e.0 came (λ x own. refl))
       ∙ (ap (λ (xs : List Path). going_paths (retired_of clock log) ++ xs) (retirements_so ts logs (run came (retirement_of log)) f.1 d.1
-      (ends_as ts logs came (run came (retirement_of log)) (λ u i x own. left_alone (Own t) (retirement_of log) came x f.0.ends (λ of_t. none_share t ts d.0 u i x of_t own)) e.1))
+      (ends_as ts logs came (run came (retirement_of log)) (λ u i x own. left_alone (NamesOf t) (retirement_of log) came x f.0.ends (λ of_t. none_share t ts d.0 u i x of_t own)) e.1))
       ∙ sym (map-append (λ (g : Path × Why). g.0) (retired_of clock log) (flat_map (retired_of clock) logs)))))
 
   -- ---- one definition
@@ -511,8 +512,8 @@ module _ (ts : List Target) (names : TargetsHaveNames ts) (d : DontMeet ts) wher
       let h = in_names ts t names i in
       job_no_member t job h.family (target_member t h) (h.job job is) (subst (IsMember t.naming) (sym same) member)
 
-  own_of : (t : Target) → IsIn t ts → (x : Path) → (x ≡ t.ready.log) ⊎ IsMember t.naming x → Own t x
-  own_of t i x (inl first) = subst (Own t) (sym first) (named_own t.log t.naming t.ready.log (first_own t (in_names ts t names i)))
+  own_of : (t : Target) → IsIn t ts → (x : Path) → (x ≡ t.ready.log) ⊎ IsMember t.naming x → NamesOf t x
+  own_of t i x (inl first) = subst (NamesOf t) (sym first) (named_own t.log t.naming t.ready.log (first_own t (in_names ts t names i)))
   own_of t i x (inr member) = member_own t.log t.naming x member
 
   of_job : (t : Target) (y : Path) (j : Option Job) → t.job ≡ j → IsIn y (job_part_paths j) → (job : Job) × (t.job ≡ Some job) × (job.part ≡ y)
@@ -528,7 +529,7 @@ module _ (ts : List Target) (names : TargetsHaveNames ts) (d : DontMeet ts) wher
           let u = of_flat target_parts ts y j in
           let job = of_job u.0 y u.0.job refl u.2 in
           ⊎_elim (λ (e : t ≡ u.0). part_apart t job.0 i (ap (λ (z : Target). z.job) e ∙ job.1) x h (job.2 ∙ same))
-          (λ (none : ShareNone t u.0). none x (own_of t i x h) (subst (Own u.0) (job.2 ∙ same) (part_file_own u.0 (in_names ts u.0 names u.1) job.0 job.1)))
+          (λ (none : ShareNone t u.0). none x (own_of t i x h) (subst (NamesOf u.0) (job.2 ∙ same) (part_file_own u.0 (in_names ts u.0 names u.1) job.0 job.1)))
           (two_share ts d t u.0 i u.1)
 
       keeps : (x : Path) → (x ≡ t.ready.log) ⊎ IsMember t.naming x → not (in_list (flat_map target_parts ts) x) ≡ true

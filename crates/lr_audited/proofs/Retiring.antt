@@ -36,6 +36,7 @@ use Rattle.lr_chain.proofs.DatedWhole.{HasStamp, one_stamp, keyed_by}
 use Rattle.lr_chain.proofs.Falling.{falls_all}
 use Rattle.lr_chain.proofs.Removed.{rank_key}
 use Rattle.lr_chain.proofs.Retired.{retired_falls}
+use Rattle.lr_chain.proofs.DatedSteps.{map_reverse}
 use Rattle.lr_plan.specs.Steps.{move}
 use Rattle.lr_laws_family.specs.Members.{NoMemberHas}
 use Rattle.lr_laws_family.specs.Numbered.{HasName, HaveNextNames}
@@ -50,10 +51,6 @@ use Rattle.lr_audited.specs.Unlinked.{Origins, renamed, going_paths}
 use Rattle.lr_audited.proofs.Tracing.{apart_in, distinct_reverse, renamed_to, renamed_other, run, dropped, dropped_other, firsts, seconds}
 
 -- ---- lists
-
-map_reverse : {A B : Type 0} (f : A → B) (xs : List A) → map f (reverse xs) ≡ reverse (map f xs)
-map_reverse f [] = refl
-map_reverse f (x ∷ xs) = ap (map f) (reverse-append (x ∷ []) xs) ∙ (map-append f (reverse xs) (x ∷ []) ∙ (ap (λ ys. ys ++ f x ∷ []) (map_reverse f xs) ∙ sym (reverse-append (f x ∷ []) (map f xs))))
 
 map_map : {A B C : Type 0} (f : B → C) (g : A → B) (xs : List A) → map f (map g xs) ≡ map (λ x. f (g x)) xs
 map_map f g [] = refl

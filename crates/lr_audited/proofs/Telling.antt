@@ -1,5 +1,5 @@
 -- The lines of members and of definitions, one more each.
-use Rattle.std.proofs.Common.{◌≡◌, ◌<◌, ◌+◌, ℕ, zero, suc, List, [], ◌∷◌, ◌++◌, length, take, get_or, Option, refl, sym, ap, ◌∙◌, arith, append_assoc, length-take, subst}
+use Rattle.std.proofs.Common.{◌≡◌, ◌<◌, ◌+◌, ℕ, zero, suc, List, [], ◌∷◌, ◌++◌, length, take, get_or, Option, sym, ap, ◌∙◌, arith, append_assoc, length-take, subst}
 use Rattle.std.specs.Prelude.{All}
 use Rattle.std.proofs.lemmas.List.{append-nil, take_more}
 use Rattle.lr_rules.specs.declared.path.Path.{Path}
@@ -34,12 +34,6 @@ members_more d c log members i m start before after is lt so more =
     grown = take_more members i m lt ∙ ap (λ x. take i members ++ x ∷ []) (sym is)
 
 -- ---- definitions
-
-pub as_many : (rules : List Rule) (sets : List SetLooks) → CanPlanAll rules sets → length sets ≡ length rules
-as_many [] [] can = refl
-as_many [] (s ∷ sets) can = absurd can
-as_many (r ∷ rules) [] can = absurd can
-as_many (r ∷ rules) (s ∷ sets) can = ap suc (as_many rules sets can.1)
 
 pub can_at : (rules : List Rule) (sets : List SetLooks) (at : ℕ) (set : SetLooks) → CanPlanAll rules sets → at < length rules → set ≡ get_or sets at set → All CanPlan set.logs
 can_at [] sets at set can lt e = absurd (omega (arith, lt))

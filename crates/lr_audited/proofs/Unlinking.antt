@@ -9,7 +9,7 @@ use Rattle.lr_rules.specs.declared.path.Path.{Path}
 use Rattle.lr_rules.specs.declared.rule.Make.{Make}
 use Rattle.lr_rules.specs.declared.rule.Make.TheVariants as make
 use Rattle.lr_rules.specs.declared.rule.Rule.{Rule}
-use Rattle.lr_rules.specs.Names.{IsOwnName, the_log}
+use Rattle.lr_rules.specs.Names.{the_log}
 use Rattle.lr_rules.proofs.Beside.{beside_other}
 use Rattle.lr_host.specs.Lists.{IsIn, AreDistinct}
 use Rattle.lr_host.proofs.Lists.{in_to, of_flat}
@@ -30,6 +30,7 @@ use Rattle.lr_laws_rotations.specs.Target.{Target}
 use Rattle.lr_laws_rotations.proofs.Own.{member_own, named_own, family_members, target_member, part_file_own}
 use Rattle.lr_laws_rotations.proofs.PartFile.{part_no_waiting, job_part, job_no_member}
 use Rattle.lr_laws_rotations.proofs.Way.{not_aside, aside_is, stays_first, first_apart, aside_apart, first_own, aside_own}
+use Rattle.lr_laws_acts.proofs.Fits.{NamesOf}
 use Rattle.lr_audited.specs.Removed.{aside_going}
 use Rattle.lr_audited.specs.Unlinked.{Origins, without, renamed, unlinked, going_paths}
 use Rattle.lr_audited.proofs.Retiring.{log_from, ComesBy, landed, brought, Retires}
@@ -114,13 +115,9 @@ turning ready log job aside = removals ready.leftovers ++ (directory ready.dir
 abbrev pub retiring : Option Command → Ready → Option Job → Option Path → List Step
 retiring first_mail ready job aside = finishing job aside ++ (program phase.Mail first_mail ++ removals ready.retire)
 
--- the path is one of the log's names
-abbrev pub Own : Target → Path → Type 0
-Own t x = IsOwnName t.log t.naming x
-
 -- at each of them stands the file that stood there as the steps began
 abbrev pub IsAsBefore : Target → Origins → Type 0
-IsAsBefore t came = (x : Path) → Own t x → came x ≡ Some x
+IsAsBefore t came = (x : Path) → NamesOf t x → came x ≡ Some x
 
 -- The rotation of the log that is ready, with the programs of its rule before its removals.
 module _ (t : Target) (h : HasNames t) (rule : Rule) (mailer : Path) where
@@ -154,19 +151,19 @@ module _ (t : Target) (h : HasNames t) (rule : Rule) (mailer : Path) where
   late_members : (x : Path) → IsIn x (removal_paths t.ready.retire) → IsMember t.naming x
   late_members x i = All-contains (IsMember t.naming) (removal_paths t.ready.retire) x (family_members t h).gone (in_to x (removal_paths t.ready.retire) i)
 
-  own_member : (x : Path) → IsMember t.naming x → Own t x
+  own_member : (x : Path) → IsMember t.naming x → NamesOf t x
   own_member x m = member_own t.log t.naming x m
 
-  own_target : Own t t.ready.target
+  own_target : NamesOf t t.ready.target
   own_target = own_member t.ready.target (target_member t h)
 
-  own_log : Own t t.log
+  own_log : NamesOf t t.log
   own_log = the_log refl
 
-  own_first : Own t t.ready.log
+  own_first : NamesOf t t.ready.log
   own_first = named_own t.log t.naming t.ready.log (first_own t h)
 
-  own_aside : (path : Path) → t.aside ≡ Some path → Own t path
+  own_aside : (path : Path) → t.aside ≡ Some path → NamesOf t path
   own_aside path is = named_own t.log t.naming path (aside_own t h path is)
 
   no_log : (x : Path) → IsMember t.naming x → x ≢ t.log
@@ -200,32 +197,32 @@ module _ (t : Target) (h : HasNames t) (rule : Rule) (mailer : Path) where
     to_is : job.to ≡ t.ready.target
     to_is = (h.job job is).to_is
 
-    own_part : Own t job.part
+    own_part : NamesOf t job.part
     own_part = part_file_own t h job is
 
-    copy_touches : AllTouch (Own t) (copy job)
-    copy_touches = copying_touches job (Own t) job.stale job.cut own_part (subst (Own t) (sym to_is) own_target)
+    copy_touches : AllTouch (NamesOf t) (copy job)
+    copy_touches = copying_touches job (NamesOf t) job.stale job.cut own_part (subst (NamesOf t) (sym to_is) own_target)
 
-  tail_touches : (j : Option Job) (a : Option Path) → t.job ≡ j → t.aside ≡ a → AllTouch (Own t) (tail j a)
-  tail_touches None a is aside = rename_touches t.ready.make t.log t.ready.log t.ready.target (Own t) own_first own_target own_log
-  tail_touches (Some job) None is aside = touch_both (Own t) (copy job) (step.Rotated t.log ∷ []) (copy_touches job is) (tt, tt)
-  tail_touches (Some job) (Some path) is aside = (tt, rename_touches t.ready.make t.log t.ready.log path (Own t) own_first (own_aside path aside) own_log)
+  tail_touches : (j : Option Job) (a : Option Path) → t.job ≡ j → t.aside ≡ a → AllTouch (NamesOf t) (tail j a)
+  tail_touches None a is aside = rename_touches t.ready.make t.log t.ready.log t.ready.target (NamesOf t) own_first own_target own_log
+  tail_touches (Some job) None is aside = touch_both (NamesOf t) (copy job) (step.Rotated t.log ∷ []) (copy_touches job is) (tt, tt)
+  tail_touches (Some job) (Some path) is aside = (tt, rename_touches t.ready.make t.log t.ready.log path (NamesOf t) own_first (own_aside path aside) own_log)
 
-  finish_touches : (j : Option Job) (a : Option Path) → t.job ≡ j → t.aside ≡ a → AllTouch (Own t) (finishing j a)
+  finish_touches : (j : Option Job) (a : Option Path) → t.job ≡ j → t.aside ≡ a → AllTouch (NamesOf t) (finishing j a)
   finish_touches None a is aside = tt
   finish_touches (Some job) None is aside = tt
-  finish_touches (Some job) (Some path) is aside = touch_both (Own t) (copy job) (step.Removes path ∷ []) (copy_touches job is) (own_aside path aside, tt)
+  finish_touches (Some job) (Some path) is aside = touch_both (NamesOf t) (copy job) (step.Removes path ∷ []) (copy_touches job is) (own_aside path aside, tt)
 
-  pub rotation_touches : AllTouch (Own t) (turning (dressed rule mailer t.log t.ready) t.log t.job t.aside)
-  rotation_touches = touch_both (Own t) (removals with_all.leftovers) (directory t.ready.dir ++ from_moves)
-      (touch_removals (Own t) with_all.leftovers (λ x i. own_member x (early_members x (subst (IsIn x) early_are i))))
-      (touch_both (Own t) (directory t.ready.dir) from_moves (touch_directory (Own t) t.ready.dir)
-      (touch_both (Own t) (map move t.ready.moves) (tail t.job t.aside) (touch_as (IsMember t.naming) (Own t) (map move t.ready.moves) own_member moves_touch) (tail_touches t.job t.aside refl refl)))
+  pub rotation_touches : AllTouch (NamesOf t) (turning (dressed rule mailer t.log t.ready) t.log t.job t.aside)
+  rotation_touches = touch_both (NamesOf t) (removals with_all.leftovers) (directory t.ready.dir ++ from_moves)
+      (touch_removals (NamesOf t) with_all.leftovers (λ x i. own_member x (early_members x (subst (IsIn x) early_are i))))
+      (touch_both (NamesOf t) (directory t.ready.dir) from_moves (touch_directory (NamesOf t) t.ready.dir)
+      (touch_both (NamesOf t) (map move t.ready.moves) (tail t.job t.aside) (touch_as (IsMember t.naming) (NamesOf t) (map move t.ready.moves) own_member moves_touch) (tail_touches t.job t.aside refl refl)))
 
-  pub retirement_touches : (first_mail : Option Command) → AllTouch (Own t) (retiring first_mail (dressed rule mailer t.log t.ready) t.job t.aside)
-  retirement_touches first_mail = touch_both (Own t) (finishing t.job t.aside) (program phase.Mail first_mail ++ removals with_all.retire) (finish_touches t.job t.aside refl refl)
-      (touch_both (Own t) (program phase.Mail first_mail) (removals with_all.retire) (touch_program (Own t) phase.Mail first_mail)
-      (touch_removals (Own t) with_all.retire (λ x i. own_member x (late_members x (subst (IsIn x) late_are i)))))
+  pub retirement_touches : (first_mail : Option Command) → AllTouch (NamesOf t) (retiring first_mail (dressed rule mailer t.log t.ready) t.job t.aside)
+  retirement_touches first_mail = touch_both (NamesOf t) (finishing t.job t.aside) (program phase.Mail first_mail ++ removals with_all.retire) (finish_touches t.job t.aside refl refl)
+      (touch_both (NamesOf t) (program phase.Mail first_mail) (removals with_all.retire) (touch_program (NamesOf t) phase.Mail first_mail)
+      (touch_removals (NamesOf t) with_all.retire (λ x i. own_member x (late_members x (subst (IsIn x) late_are i)))))
 
   -- ---- part by part
 
@@ -303,8 +300,8 @@ module _ (t : Target) (h : HasNames t) (rule : Rule) (mailer : Path) where
     came_so came before p (landed e f) = ap (λ (g : Origins). run g (finishing t.job t.aside) p.1) (run_rotation came) ∙ (ap (settled came t.job t.aside) e ∙ (at_target came before t.job t.aside refl refl ∙ sym f))
     came_so came before p (brought x mx my ne e brings) = ap (λ (g : Origins). run g (finishing t.job t.aside) p.1) (run_rotation came) ∙ (at_other came t.job t.aside p.1 refl refl my ne ∙ (brings came ∙ (before x (own_member x mx) ∙ sym e)))
 
-    own_pair : (p : Option Path × Path) → IsOne p → Own t p.1
-    own_pair p (landed e f) = subst (Own t) (sym e) own_target
+    own_pair : (p : Option Path × Path) → IsOne p → NamesOf t p.1
+    own_pair p (landed e f) = subst (NamesOf t) (sym e) own_target
     own_pair p (brought x mx my ne e brings) = own_member p.1 my
 
     -- ---- what is told
@@ -355,8 +352,8 @@ module _ (t : Target) (h : HasNames t) (rule : Rule) (mailer : Path) where
           ∙ (filter_all p early (λ x i. keeps x (inr (early_members x i))) ∙ sym early_are)))))
 
       -- where the files stand as the rotation leaves them
-      module _ (came other : Origins) (before : IsAsBefore t came) (same : (x : Path) → Own t x → other x ≡ run came (turning (dressed rule mailer t.log t.ready) t.log t.job t.aside) x) where
-        left_so : (j : Option Job) (a : Option Path) → t.job ≡ j → t.aside ≡ a → (x : Path) → Own t x → other x ≡ run (mid came) (tail j a) x
+      module _ (came other : Origins) (before : IsAsBefore t came) (same : (x : Path) → NamesOf t x → other x ≡ run came (turning (dressed rule mailer t.log t.ready) t.log t.job t.aside) x) where
+        left_so : (j : Option Job) (a : Option Path) → t.job ≡ j → t.aside ≡ a → (x : Path) → NamesOf t x → other x ≡ run (mid came) (tail j a) x
         left_so j a is aside x own = same x own ∙ (ap (λ (g : Origins). g x) (run_rotation came) ∙ ap (λ (steps : List Step). run (mid came) steps x) (tail_is j a is aside))
 
         -- the log that was set aside goes by its name before, and nothing else
@@ -377,8 +374,8 @@ module _ (t : Target) (h : HasNames t) (rule : Rule) (mailer : Path) where
         abbrev let_go : Origins
         let_go = run other (finishing t.job t.aside)
 
-        settled_so : (x : Path) → Own t x → run other (finishing t.job t.aside) x ≡ run (run came (turning (dressed rule mailer t.log t.ready) t.log t.job t.aside)) (finishing t.job t.aside) x
-        settled_so x own = run_alike (Own t) (finishing t.job t.aside) other (run came (turning (dressed rule mailer t.log t.ready) t.log t.job t.aside)) (finish_touches t.job t.aside refl refl) same x own
+        settled_so : (x : Path) → NamesOf t x → run other (finishing t.job t.aside) x ≡ run (run came (turning (dressed rule mailer t.log t.ready) t.log t.job t.aside)) (finishing t.job t.aside) x
+        settled_so x own = run_alike (NamesOf t) (finishing t.job t.aside) other (run came (turning (dressed rule mailer t.log t.ready) t.log t.job t.aside)) (finish_touches t.job t.aside refl refl) same x own
 
         removals_unlink : (first_mail : Option Command) → filter p (unlinked let_go (program phase.Mail first_mail ++ removals with_all.retire)) ≡ told
         removals_unlink first_mail =

@@ -98,7 +98,7 @@ whole_only t ts w = subst (Each (IsReadOf t.path)) (sym w.joined) (each_append (
 whole_unnamed : (t : FileText) (ts : List Entry) → ReadsWhole t ts → filter is_naming ts ≡ []
 whole_unnamed t ts w = read_unnamed t.path ts (whole_only t ts w)
 
-can_more : (xs : List Path) {P : List Entry → Type 0} {o m : Option Journal} → CanReadAll o xs → Left P o m → ((ts : List Entry) → P ts → filter is_naming ts ≡ []) → CanReadAll m xs
+pub can_more : (xs : List Path) {P : List Entry → Type 0} {o m : Option Journal} → CanReadAll o xs → Left P o m → ((ts : List Entry) → P ts → filter is_naming ts ≡ []) → CanReadAll m xs
 can_more [] can l f = tt
 can_more (x ∷ xs) can l f = (can_stay can.0 l f, can_more xs can.1 l f)
 

@@ -18,7 +18,7 @@ use Rattle.lr_host.specs.Told.{Left, not_told, is_told, Are, Can, Counts}
 use Rattle.lr_host.specs.World.{world, names}
 use Rattle.lr_host.proofs.Each.{each_append, each_as, none_pass}
 use Rattle.lr_host.proofs.Known.{ever_says, seen_can_read}
-use Rattle.lr_host.proofs.Left.{left_as, left_both, left_first, left_then, can_stay}
+use Rattle.lr_host.proofs.Left.{left_as, left_both, left_first, left_then}
 use Rattle.lr_host.proofs.Lists.{in_front, in_back}
 use Rattle.lr_host.proofs.Looked.{seen_file}
 use Rattle.lr_family.specs.declared.stand.Member.{Member}
@@ -40,6 +40,7 @@ use Rattle.lr_host.specs.Looking.{IsSight, AreSights, IsLooking, AreLooking}
 use Rattle.lr_host.proofs.Looking.{looking_both, looking_sees}
 use Rattle.lr_family.specs.Looks.{WasSeen}
 use Rattle.lr_cat.specs.Texts.{CanReadAll, HasCause}
+use Rattle.lr_cat.proofs.Putting.{can_more}
 
 -- ---- what looks change
 
@@ -154,24 +155,20 @@ members_can n stand (is_told {j = j} {k = k} {es = es} made h) = go stand.member
     go [] all = tt
     go (m ∷ ms) all = (one m (All-head (WasSeen (reverse es)) m ms all), go ms (All-tail (WasSeen (reverse es)) m ms all))
 
-can_later : (xs : List Path) {P : List Entry → Type 0} {o m : Option Journal} → CanReadAll o xs → Left P o m → ((ts : List Entry) → P ts → filter is_naming ts ≡ []) → CanReadAll m xs
-can_later [] can l f = tt
-can_later (x ∷ xs) can l f = (can_stay can.0 l f, can_later xs can.1 l f)
-
 can_both : (xs ys : List Path) (told : Option Journal) → CanReadAll told xs → CanReadAll told ys → CanReadAll told (xs ++ ys)
 can_both [] ys told first second = second
 can_both (x ∷ xs) ys told first second = (first.0, can_both xs ys told first.1 second)
 
 -- what was found first can be read behind the next look
 pub can_on : (found path own : Option Path) {o m : Option Journal} → CanReadAll o (option_to_list found) → Left (Finds path own) o m → CanReadAll m (option_to_list found)
-can_on found path own can l = can_later (option_to_list found) can l (λ ts s. looks_unnamed ts (finds_looks path own ts s))
+can_on found path own can l = can_more (option_to_list found) can l (λ ts s. looks_unnamed ts (finds_looks path own ts s))
 
 pub files_can : (n : Naming) (stand : Stand) (aside : Option Path) (log : Path) (found : Found) (files : List Path) {o m k : Option Journal} → Left (ShowsStand n stand) o m → Left (FindsBoth aside log found.aside found.log) m k
     → CanReadAll k (option_to_list found.aside) → CanReadAll k (option_to_list found.log) → files ≡ files_behind found.log found.aside stand.members → CanReadAll k files
 files_can n stand aside log found files {k = k} l f set own is = subst (CanReadAll k) (sym is)
     (can_both (option_to_list found.log) (option_to_list found.aside ++ map (λ (m : Member). m.path) stand.members) k own
     (can_both (option_to_list found.aside) (map (λ (m : Member). m.path) stand.members) k set
-    (can_later (map (λ (m : Member). m.path) stand.members) (members_can n stand l) f (λ ts s. looks_unnamed ts (both_looks aside log found.aside found.log ts s)))))
+    (can_more (map (λ (m : Member). m.path) stand.members) (members_can n stand l) f (λ ts s. looks_unnamed ts (both_looks aside log found.aside found.log ts s)))))
 
 -- ---- what the looks came to
 

@@ -180,9 +180,6 @@ module _ (w : Wanted) (clock : Clock) (rules : Rules) (n : Naming) where
   pub dir_short : (f : Fault) {P : List Entry → Type 0} {o m : Option Journal} → Left P o m → Left (StopsSo w clock rules (stop.Fault f)) o m
   dir_short f l = left_as l (λ ts p. tt)
 
-pub seen_so : (dir : Path) (b c : Bool) {o m : Option Journal} → b ≡ c → Left (DirSeen dir b) o m → Left (DirSeen dir c) o m
-seen_so dir b c {o = o} {m = m} is l = subst (λ (t : Bool). Left (DirSeen dir t) o m) is l
-
 pub stop_is : (P : Result Bool Fault → List FileText → List Entry → Type 0) (s t : CatStop) (o m : Option Journal) (x y : Option (List ℕ)) → s ≡ t → CameTo P (Err t) o m x y → CameTo P (Err s) o m x y
 stop_is P s t o m x y is c = subst (λ (z : CatStop). CameTo P (Err z) o m x y) (sym is) c
 

@@ -75,7 +75,7 @@ abbrev AreApart : ℤ → List Ranked → Type 0
 AreApart key [] = Unit {0}
 AreApart key (m ∷ ms) = ((key <ℤ key_of m) ⊎ (key_of m <ℤ key)) × AreApart key ms
 
-lt_true : (a b : ℤ) → int_lt a b ≡ true → a <ℤ b
+pub lt_true : (a b : ℤ) → int_lt a b ≡ true → a <ℤ b
 lt_true a b e = record { lt = subst (λ c. T c) (sym e) tt }
 
 lt_not : (a b : ℤ) → int_lt a b ≡ false → a <ℤ b → ⊥

@@ -32,7 +32,7 @@ abbrev FitOn : Names → List Entry → Type 0
 FitOn m [] = Unit {0}
 FitOn m (e ∷ es) = CanCall m e × FitOn (names_after m (changes_of (e ∷ []))) es
 
-after_one : (m : Names) (done : List Entry) (e : Entry) → names_after (names_after m (changes_of done)) (changes_of (e ∷ [])) ≡ names_after m (changes_of (e ∷ done))
+pub after_one : (m : Names) (done : List Entry) (e : Entry) → names_after (names_after m (changes_of done)) (changes_of (e ∷ [])) ≡ names_after m (changes_of (e ∷ done))
 after_one m done (entry.Renames from to) = refl
 after_one m done (entry.Unlinks x) = refl
 after_one m done (entry.MakesDir x mode) = refl

@@ -31,22 +31,22 @@ abbrev pub run : Names → List Entry → Names
 run m [] = m
 run m (e ∷ es) = run (names_after m (changes_of (e ∷ []))) es
 
-after_one : (m : Names) (done : List Entry) (e : Entry) → names_after m (changes_of (e ∷ done)) ≡ names_after (names_after m (changes_of done)) (changes_of (e ∷ []))
+pub after_one : (m : Names) (done : List Entry) (e : Entry) → names_after m (changes_of (e ∷ done)) ≡ names_after (names_after m (changes_of done)) (changes_of (e ∷ []))
 after_one m done (entry.Renames from to) = refl
 after_one m done (entry.Unlinks x) = refl
 after_one m done (entry.MakesDir x mode) = refl
 after_one m done _ = refl
 
-run_behind : (m : Names) (done es : List Entry) → names_after m (changes_of (reverse es ++ done)) ≡ run (names_after m (changes_of done)) es
+pub run_behind : (m : Names) (done es : List Entry) → names_after m (changes_of (reverse es ++ done)) ≡ run (names_after m (changes_of done)) es
 run_behind m done [] = refl
 run_behind m done (e ∷ es) =
     ap (λ xs. names_after m (changes_of xs)) (ap (λ xs. xs ++ done) (reverse-append (e ∷ []) es) ∙ append_assoc (reverse es) (e ∷ []) done)
     ∙ (run_behind m (e ∷ done) es ∙ ap (λ (k : Names). run k es) (after_one m done e))
 
-run_is : (m : Names) (es : List Entry) → names_after m (changes_of (reverse es)) ≡ run m es
+pub run_is : (m : Names) (es : List Entry) → names_after m (changes_of (reverse es)) ≡ run m es
 run_is m es = ap (λ xs. names_after m (changes_of xs)) (sym (append-nil (reverse es))) ∙ run_behind m [] es
 
-run_both : (m : Names) (es fs : List Entry) → run m (es ++ fs) ≡ run (run m es) fs
+pub run_both : (m : Names) (es fs : List Entry) → run m (es ++ fs) ≡ run (run m es) fs
 run_both m [] fs = refl
 run_both m (e ∷ es) fs = run_both (names_after m (changes_of (e ∷ []))) es fs
 

@@ -17,7 +17,7 @@ unlinks : (n : Naming) (places : List ℕ) → removals_of (map (removal_at n) p
 unlinks n [] = refl
 unlinks n (p ∷ places) = ap (λ (es : List Entry). unlink_at n p ∷ es) (unlinks n places)
 
-moves : (n : Naming) (places : List ℕ) → map move_step (map (move_from n) places) ≡ map (move_at n) places
+pub moves : (n : Naming) (places : List ℕ) → map move_step (map (move_from n) places) ≡ map (move_at n) places
 moves n [] = refl
 moves n (p ∷ places) = ap (λ (es : List Entry). move_at n p ∷ es) (moves n places)
 

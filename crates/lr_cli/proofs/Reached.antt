@@ -40,6 +40,7 @@ use Rattle.lr_cli.specs.Before.{AreStill, IsOfZone, MayEndCall, MayEndDry, SaysW
 use Rattle.lr_cli.specs.Called.{Came, asked_in, answer_by, ConfsHalt, no_reading, no_plan, CallHalts, no_clock, no_zone, behind_clock, CallEnds, halted, called, CallShows, not_read, read}
 use Rattle.lr_clock.specs.Clock.{LacksClock, out_of_range, no_text, refused}
 use Rattle.lr_clock.specs.Zone.{LacksText, not_file, too_big, look_failed as text_look_failed, read_failed as text_read_failed}
+use Rattle.lr_laws_plan.proofs.Known.{ends_as}
 use Rattle.lr_cli.proofs.Still.{clock_quiet, stop_quiet, same_request, halt_still}
 
 -- ---- the configuration's faults end no run
@@ -67,9 +68,6 @@ record Unreached (state : Path) (zone : Zone) (faults : List Fault) (us : List E
   last : Fault
   faults_are : faults ≡ before ++ last ∷ []
   ends : IsWhy state zone last us
-
-ends_as : (state : Path) (f g : Fault) → f ≡ g → EndsRun state g → EndsRun state f
-ends_as state f g is h = subst (EndsRun state) (sym is) h
 
 of_zone : (zone : Zone) (path : Path) (f : Fault) → zone ≡ File path → (f ≡ fault.Call call.Look path) ⊎ (f ≡ fault.Call call.Read path) → IsOfZone zone f
 of_zone zone path f is h = subst (λ (z : Zone). IsOfZone z f) (sym is) h

@@ -33,7 +33,7 @@ use Rattle.lr_laws_acts.proofs.CopiesWhole.{empties_whole}
 use Rattle.lr_plan.specs.declared.plan.Plan.{Plan}
 use Rattle.lr_laws_looks.specs.Planned.{targets_in}
 use Rattle.lr_laws_looks.proofs.Elements.{in_each}
-use Rattle.lr_run.specs.Copied.{IsCopyBy, NoneOfCopy}
+use Rattle.lr_run.specs.Copied.{IsCopyBy}
 use Rattle.lr_run.specs.Logs.{AreGivenBy}
 use Rattle.lr_run.specs.Met.{MetNothing}
 use Rattle.lr_run.specs.Ran.{TellsNamesOf}
@@ -76,6 +76,7 @@ use Rattle.lr_cli.specs.Asked.{AskFor}
 use Rattle.lr_cli.specs.Before.{IsStill, AreStill}
 use Rattle.lr_cli.specs.Called.{Came, call_entries, asked_in, ShowsCame, Tells, PlanEnds, CallEnds, halted, called, CallShows, not_read, read}
 use Rattle.lr_report.specs.Reported.{AreReported}
+use Rattle.lr_run.proofs.Called.{none_copied_behind}
 use Rattle.lr_cli.specs.Faults.{HasCounted}
 use Rattle.lr_cli.specs.Result.{SawTruly, Makes, IsCalled, IsTextOf, IsCopyIn}
 use Rattle.lr_cli.proofs.Reached.{means_none}
@@ -93,15 +94,11 @@ own_calls xs ys h = let all : calls_in (xs ++ ys) ≡ calls_in xs + calls_in ys 
 own_ends : (xs ys : List Fault) → scripts_in (xs ++ ys) ≡ 0 → scripts_in ys ≡ 0
 own_ends xs ys h = let all : scripts_in (xs ++ ys) ≡ scripts_in xs + scripts_in ys = scripts_on xs ys in omega (arith, h, all)
 
-own_copies : (xs ys : List Fault) → NoneOfCopy (xs ++ ys) → NoneOfCopy ys
-own_copies [] ys h = h
-own_copies (x ∷ xs) ys h = own_copies xs ys h.1
-
 -- faults behind others met nothing where all did
 own_met : (dirs : List Path) (xs own : List Fault) → MetNothing dirs (xs ++ own) → MetNothing dirs own
-own_met dirs xs own m = record { no_call = own_calls xs own m.no_call; no_end = own_ends xs own m.no_end; no_copy = own_copies xs own m.no_copy; no_other = λ dir i j. m.no_other dir i (in_back (fault.NotFile dir) xs own j) }
+own_met dirs xs own m = record { no_call = own_calls xs own m.no_call; no_end = own_ends xs own m.no_end; no_copy = none_copied_behind xs own m.no_copy; no_other = λ dir i j. m.no_other dir i (in_back (fault.NotFile dir) xs own j) }
 
-same_report : (a b : Report) → Done a ≡ Done b → a ≡ b
+pub same_report : (a b : Report) → Done a ≡ Done b → a ≡ b
 same_report a b e = cc
 
 -- ---- a call that came to its plan

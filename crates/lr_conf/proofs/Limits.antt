@@ -18,6 +18,7 @@ use Rattle.lr_rules.specs.declared.rule.Make.TheVariants as make
 use Rattle.lr_rules.specs.declared.rule.Piece.{Piece}
 use Rattle.lr_rules.specs.declared.rule.Rule.{Rule}
 use Rattle.lr_rules.specs.Limits.{is_log_word, is_criterion, is_count, is_small, is_size, is_extension, is_olddir, is_make, is_address, is_format, or_none, meets_limits}
+use Rattle.lr_words.proofs.ReadBack.{tested}
 use Rattle.lr_forms.specs.declared.set.Set.{Set}
 use Rattle.lr_forms.specs.declared.set.Set.TheVariants as set
 use Rattle.lr_forms.specs.declared.said.Said.{Said}
@@ -127,10 +128,7 @@ mail_given (set.Mail None) ok = refl
 mail_given (set.Mail (Some address)) ok = ok
 mail_given v ok = tt
 
-abbrev are_format : List Piece → Bool
-are_format ps = is_format (record { pieces = ps; back = back.Now; serial = false })
-
-pieces_given : (v : Set) → S v → Given (λ o. or_none are_format o ≡ true) (pieces_set v)
+pieces_given : (v : Set) → S v → Given (λ o. or_none tested o ≡ true) (pieces_set v)
 pieces_given (set.DateFormat ps) ok = ok
 pieces_given v ok = tt
 
@@ -169,7 +167,7 @@ day_text = is_utf8-from_IsUtf8 day_bytes (IsUtf8-from_ascii day_bytes day_ascii)
 hour_text : is_utf8 hour_bytes ≡ true
 hour_text = is_utf8-from_IsUtf8 hour_bytes (IsUtf8-from_ascii hour_bytes hour_ascii)
 
-default_ok : (c : Criterion) → are_format (pieces_of c None) ≡ true
+default_ok : (c : Criterion) → tested (pieces_of c None) ≡ true
 default_ok criterion.Hourly = ap (λ t. t && true) hour_text
 default_ok criterion.Daily = ap (λ t. t && true) day_text
 default_ok (criterion.Weekly day) = ap (λ t. t && true) day_text
@@ -177,7 +175,7 @@ default_ok criterion.Monthly = ap (λ t. t && true) day_text
 default_ok criterion.Yearly = ap (λ t. t && true) day_text
 default_ok (criterion.Size n) = ap (λ t. t && true) day_text
 
-format_ok : (dated : Bool) (c : Criterion) (o : Option (List Piece)) (at : Back) (serial : Bool) → or_none are_format o ≡ true → or_none is_format (cond dated (Some (record { pieces = pieces_of c o; back = at; serial = serial })) None) ≡ true
+format_ok : (dated : Bool) (c : Criterion) (o : Option (List Piece)) (at : Back) (serial : Bool) → or_none tested o ≡ true → or_none is_format (cond dated (Some (record { pieces = pieces_of c o; back = at; serial = serial })) None) ≡ true
 format_ok false c o at serial h = refl
 format_ok true c None at serial h = default_ok c
 format_ok true c (Some ps) at serial h = h
@@ -199,7 +197,7 @@ rule_ok file at words vs n ok =
     (and_from _ _ (last_given S (λ m. is_make m ≡ true) create_set make.No refl create_given vs ok)
     (and_from _ _ (last_given S (λ o. or_none is_address o ≡ true) mail_set None refl mail_given vs ok)
     (format_ok (last_set dated_set false vs) (last_set criterion_set (criterion.Size 1048576) vs) (last_set pieces_set None vs) (last_set back_set back.Now vs) (last_set serial_set false vs)
-    (last_given S (λ o. or_none are_format o ≡ true) pieces_set None refl pieces_given vs ok)))))))))))))))
+    (last_given S (λ o. or_none tested o ≡ true) pieces_set None refl pieces_given vs ok)))))))))))))))
 
 walk : Walk S N (λ r. meets_limits r ≡ true)
 walk = record { line = λ inside i. line_ok (said inside i) (said_fine inside i); script = script_ok; more = more_ok; rule = rule_ok }

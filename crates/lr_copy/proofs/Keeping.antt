@@ -13,7 +13,7 @@ use Rattle.lr_copy.specs.Copying.{Copies, clearing, opening, Fills}
 use Rattle.lr_copy.proofs.EachOfBytes.{each_both, each_are, each_all, each_broke}
 use Rattle.lr_copy.specs.Stops.{OpenStopped, FillStopped, NameStopped, CutStopped, CloseStopped, at_name, at_cut, CopyStopped, at_open, at_fill, at_close, EmptiesNone, RenamesNone, IsCutStop, IsEarly}
 
-each_maybe : (P : Entry → Type 0) (e : Entry) (ts : List Entry) → P e → Maybe e ts → Each P ts
+pub each_maybe : (P : Entry → Type 0) (e : Entry) (ts : List Entry) → P e → Maybe e ts → Each P ts
 each_maybe P e ts p m = ⊎_elim (λ none. subst (Each P) (sym none) tt) (λ one. subst (Each P) (sym one) (p, tt)) m
 
 -- what holds of each entry up to the sync of the part file

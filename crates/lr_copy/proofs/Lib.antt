@@ -1,6 +1,6 @@
 pub mod EachOfBytes
 mod Endings
-mod Keeping
-mod Pieces
+pub mod Keeping
+pub mod Pieces
 mod Places
 mod Stopping

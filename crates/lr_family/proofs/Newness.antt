@@ -96,7 +96,7 @@ apart n a b good ha hb differ = go (int_cmp (key_in b.place) (key_in a.place)) (
 
 -- ---- of the members that were seen
 
-abbrev spots_of : List MemberSight → List Spot
+abbrev pub spots_of : List MemberSight → List Spot
 spots_of gs = map (λ (g : MemberSight). g.spot) gs
 
 abbrev IsApartFrom : Spot → Seen → List Member → Type 0

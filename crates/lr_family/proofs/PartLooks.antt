@@ -119,7 +119,7 @@ never_no_file n names path ts (inr s) = go s.after s.stopped
 
 -- ---- a part file was seen as a regular file
 
-one_seen : (path x : Path) (seen : Option Seen) → IsIn x (part_seen path seen) → (path ≡ x) × ((s : Seen) × (s.kind ≡ kind.File) × (seen ≡ Some s))
+pub one_seen : (path x : Path) (seen : Option Seen) → IsIn x (part_seen path seen) → (path ≡ x) × ((s : Seen) × (s.kind ≡ kind.File) × (seen ≡ Some s))
 one_seen path x None h = absurd h
 one_seen path x (Some s) h = go s.kind refl h
   where

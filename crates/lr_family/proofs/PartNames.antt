@@ -144,10 +144,10 @@ has_these n names some base (Ok paths) same among all has = record { all = λ x.
 abbrev pub is_same : Path → Path → Bool
 is_same a b = bytes_eq a b
 
-same_as : (a b : Path) → is_same a b ≡ eq_by_cmp by_bytes a b
+pub same_as : (a b : Path) → is_same a b ≡ eq_by_cmp by_bytes a b
 same_as a b = sym (is_eq-slice_cmp a b)
 
-equivalence : IsEquivalence is_same
+pub equivalence : IsEquivalence is_same
 equivalence = let e = eq_by_cmp_equiv nat_list_cmp_total in record {
   refl = λ x. same_as x x ∙ e.refl x;
   symm = λ x y. same_as x y ∙ (e.symm x y ∙ sym (same_as y x));

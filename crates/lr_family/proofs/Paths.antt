@@ -20,7 +20,7 @@ places_apart n p q i j e = place_same n p q (path_at n p) (record { bound = i; n
 pub log_apart : (log : Path) (n : Naming) (p : ℕ) → IsKin log n → n.dated ≡ None → n.start + p ≤ 4294967295 → log ≡ path_at n p → ⊥
 log_apart log n p kin numbered i e = kin.apart numbered p (record { bound = i; named = e })
 
-unbarred : (xs : List ℕ) → list_any is_barred xs ≡ false → list_any is_slash xs ≡ false
+pub unbarred : (xs : List ℕ) → list_any is_barred xs ≡ false → list_any is_slash xs ≡ false
 unbarred [] h = refl
 unbarred (x ∷ xs) h = let t = or_parts (is_barred x) (list_any is_barred xs) h in or_from (is_slash x) (list_any is_slash xs) (or_parts (is_slash x) (is_bad_byte x) t.0).0 (unbarred xs t.1)
 

@@ -11,8 +11,8 @@ use Rattle.std.proofs.lemmas.Str.{encode_ascii, length-encode, len_utf8_bounds, 
 use Rattle.lr_rules.specs.Path.{is_slash, is_absolute}
 use Rattle.lr_host.specs.Lists.{IsIn}
 use Rattle.lr_glob.specs.Parts.{parts_in}
-use Rattle.lr_glob.proofs.Names.{Parts, some_parts, split_parts}
 use Rattle.lr_rules.specs.Match.{Matches, IsPlain, is_wild_sign, has_sign, is_wildcard, literal_path}
+use Rattle.lr_rules.proofs.Splits.{Parts, some_parts, split_parts}
 
 -- ---- the bytes of a character
 
@@ -80,28 +80,37 @@ escaped_step _ _ xs (high d b bs m n h) e = drops b (bs ++ xs) (no_slash_byte b 
 escape_low : 92 < 128
 escape_low = omega arith
 
-pub literal_spelt : (cs : List ℕ) → list_any is_slash cs ≡ false → literal_path (encodes cs) ≡ encodes (literal_path cs)
-literal_spelt [] h = refl
-literal_spelt (c ∷ []) h = by (c == 92) refl
+-- a backslash before a slash stays
+keeps : (d : ℕ) (ds : List ℕ) → is_slash d ≡ true → literal_path (92 ∷ d ∷ ds) ≡ 92 ∷ literal_path (d ∷ ds)
+keeps d ds e = ap (λ s. cond (not s) (d ∷ literal_path ds) (92 ∷ literal_path (d ∷ ds))) e
+
+slash_step : (d : ℕ) (bs xs : List ℕ) → Spelt d bs → is_slash d ≡ true → literal_path (92 ∷ (bs ++ xs)) ≡ 92 ∷ literal_path (bs ++ xs)
+slash_step _ _ xs (low d) e = keeps d xs e
+slash_step _ _ xs (high d b bs m n h) e = let is : d ≡ 47 = (Decides-eqb d 47).0 e in absurd (omega (arith, is, m))
+
+pub literal_spelt : (cs : List ℕ) → literal_path (encodes cs) ≡ encodes (literal_path cs)
+literal_spelt [] = refl
+literal_spelt (c ∷ []) = by (c == 92) refl
   where
     by : (t : Bool) → (c == 92) ≡ t → literal_path (encode c ++ []) ≡ encode c ++ []
     by true e = subst (λ bs. literal_path (bs ++ []) ≡ bs ++ []) (sym (encode_ascii c (subst (λ x. x < 128) (sym ((Decides-eqb c 92).0 e)) escape_low))) refl
     by false e = plain_step c (encode c) [] (spelt c) e
-literal_spelt (c ∷ d ∷ cs) h = by (c == 92) refl (literal_spelt (d ∷ cs) rest.1) (literal_spelt cs next.1)
+literal_spelt (c ∷ d ∷ cs) = by (c == 92) refl (is_slash d) refl (literal_spelt (d ∷ cs)) (literal_spelt cs)
   where
-    rest : (is_slash c ≡ false) × (list_any is_slash (d ∷ cs) ≡ false)
-    rest = or_parts (is_slash c) (list_any is_slash (d ∷ cs)) h
-
-    next : (is_slash d ≡ false) × (list_any is_slash cs ≡ false)
-    next = or_parts (is_slash d) (list_any is_slash cs) rest.1
-
-    by : (t : Bool) → (c == 92) ≡ t → literal_path (encodes (d ∷ cs)) ≡ encodes (literal_path (d ∷ cs)) → literal_path (encodes cs) ≡ encodes (literal_path cs) → literal_path (encode c ++ encodes (d ∷ cs)) ≡ encodes (literal_path (c ∷ d ∷ cs))
-    by true e one two =
+    by : (t : Bool) → (c == 92) ≡ t → (s : Bool) → is_slash d ≡ s → literal_path (encodes (d ∷ cs)) ≡ encodes (literal_path (d ∷ cs)) → literal_path (encodes cs) ≡ encodes (literal_path cs) → literal_path (encode c ++ encodes (d ∷ cs)) ≡ encodes (literal_path (c ∷ d ∷ cs))
+    by true e false n one two =
         let is : c ≡ 92 = (Decides-eqb c 92).0 e in
         subst (λ x. literal_path (encode x ++ encodes (d ∷ cs)) ≡ encodes (literal_path (x ∷ d ∷ cs))) (sym is)
         (ap (λ bs. literal_path (bs ++ encodes (d ∷ cs))) (encode_ascii 92 escape_low)
-        ∙ (escaped_step d (encode d) (encodes cs) (spelt d) next.0 ∙ (ap (λ ys. encode d ++ ys) two ∙ ap encodes (sym (drops d cs next.0)))))
-    by false e one two = plain_step c (encode c) (encodes (d ∷ cs)) (spelt c) e ∙ (ap (λ ys. encode c ++ ys) one ∙ ap encodes (sym (stay c (d ∷ cs) e)))
+        ∙ (escaped_step d (encode d) (encodes cs) (spelt d) n ∙ (ap (λ ys. encode d ++ ys) two ∙ ap encodes (sym (drops d cs n)))))
+    by true e true n one two =
+        let is : c ≡ 92 = (Decides-eqb c 92).0 e in
+        subst (λ x. literal_path (encode x ++ encodes (d ∷ cs)) ≡ encodes (literal_path (x ∷ d ∷ cs))) (sym is)
+        (ap (λ bs. literal_path (bs ++ encodes (d ∷ cs))) (encode_ascii 92 escape_low)
+        ∙ (slash_step d (encode d) (encodes cs) (spelt d) n
+        ∙ (ap (λ ys. 92 ∷ ys) one
+        ∙ (sym (ap (λ bs. bs ++ encodes (literal_path (d ∷ cs))) (encode_ascii 92 escape_low)) ∙ ap encodes (sym (keeps d cs n))))))
+    by false e s n one two = plain_step c (encode c) (encodes (d ∷ cs)) (spelt c) e ∙ (ap (λ ys. encode c ++ ys) one ∙ ap encodes (sym (stay c (d ∷ cs) e)))
 
 -- ---- signs
 
@@ -176,6 +185,9 @@ literal_scalars (c ∷ d ∷ cs) h = by (c == 92 && not (is_slash d)) (literal_s
     by true x y = and_from (scalar d) (scalars (literal_path cs)) q.0 y
     by false x y = and_from (scalar c) (scalars (literal_path (d ∷ cs))) p.0 x
 
+pub literal_utf8 : (word : List ℕ) → IsUtf8 word → IsUtf8 (literal_path word)
+literal_utf8 word u = (literal_path u.0, (literal_scalars u.0 u.1.0, sym (literal_spelt u.0) ∙ ap literal_path u.1.1))
+
 -- a part of a text without signs matches the name without its backslashes
 pub literal_matches : (part : List ℕ) → IsUtf8 part → is_wildcard part ≡ false → list_any is_slash part ≡ false → Matches true (chars part) (chars (literal_path part))
 literal_matches part u plain s = subst (λ xs. Matches true xs (chars (literal_path part))) are (subst (Matches true cs) name (matches_itself true cs (no_sign false cs (ap (has_sign false) u.1.1 ∙ plain)) slashes))
@@ -190,7 +202,7 @@ literal_matches part u plain s = subst (λ xs. Matches true xs (chars (literal_p
     are = chars_from_encodes u.0 part u u.1.1
 
     name : literal_path u.0 ≡ chars (literal_path part)
-    name = sym (chars-encodes (literal_path u.0) (literal_scalars u.0 u.1.0)) ∙ ap chars (sym (literal_spelt u.0 slashes) ∙ ap literal_path u.1.1)
+    name = sym (chars-encodes (literal_path u.0) (literal_scalars u.0 u.1.0)) ∙ ap chars (sym (literal_spelt u.0) ∙ ap literal_path u.1.1)
 
 -- ---- one name alone
 
@@ -229,7 +241,7 @@ matched_is f _ _ none plain (Matches.of_class {sign = sign} {part = part} is k o
 
 -- a part of a text without signs matches no other name than that without its backslashes
 pub one_name : (part name : List ℕ) → IsUtf8 part → IsUtf8 name → is_wildcard part ≡ false → list_any is_slash part ≡ false → Matches true (chars part) (chars name) → name ≡ literal_path part
-one_name part name u v plain s m = sym v.1.1 ∙ (ap encodes (matched_is true u.0 v.0 signs slashes as_characters) ∙ (sym (literal_spelt u.0 slashes) ∙ ap literal_path u.1.1))
+one_name part name u v plain s m = sym v.1.1 ∙ (ap encodes (matched_is true u.0 v.0 signs slashes as_characters) ∙ (sym (literal_spelt u.0) ∙ ap literal_path u.1.1))
   where
     slashes : list_any is_slash u.0 ≡ false
     slashes = no_slash u.0 (ap (list_any is_slash) u.1.1 ∙ s)
@@ -250,7 +262,7 @@ spelt_plain _ _ (high c b bs m n h) e = or_from (is_slash b) (list_any is_slash 
     rest [] g = refl
     rest (d ∷ ds) g = or_from (is_slash d) (list_any is_slash ds) (no_slash_byte d g.0) (rest ds g.1)
 
-split_onto : (bs xs q : List ℕ) (qs : List (List ℕ)) → list_any is_slash bs ≡ false → slice_split is_slash xs ≡ q ∷ qs → slice_split is_slash (bs ++ xs) ≡ (bs ++ q) ∷ qs
+pub split_onto : (bs xs q : List ℕ) (qs : List (List ℕ)) → list_any is_slash bs ≡ false → slice_split is_slash xs ≡ q ∷ qs → slice_split is_slash (bs ++ xs) ≡ (bs ++ q) ∷ qs
 split_onto [] xs q qs plain e = e
 split_onto (b ∷ bs) xs q qs plain e =
     let p = or_parts (is_slash b) (list_any is_slash bs) plain in

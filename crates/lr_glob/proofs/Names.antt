@@ -8,6 +8,7 @@ use Rattle.lr_rules.specs.declared.path.Path.{Path}
 use Rattle.lr_rules.specs.Path.{joined, is_slash, is_empty, is_absolute, has_empty_part, root}
 use Rattle.lr_rules.specs.Match.{literal_path}
 use Rattle.lr_rules.proofs.Heads.{tails}
+use Rattle.lr_rules.proofs.Splits.{Parts, some_parts, split_parts}
 use Rattle.lr_host.specs.Fits.{IsPart}
 use Rattle.lr_host.specs.Lists.{IsIn}
 use Rattle.lr_glob.specs.Parts.{parts_in}
@@ -47,19 +48,6 @@ pub under_root : (name : List ℕ) (names : List (List ℕ)) → AreParts (name 
 under_root name names a = under_long (47 ∷ name) names (λ n i. a n (inr i)) (longer [] name (a name (inl refl)))
 
 -- ---- the parts of a word
-
--- there is a part
-pub data Parts : List (List ℕ) → Type 0 where
-  some_parts : (q : List ℕ) (qs : List (List ℕ)) → Parts (q ∷ qs)
-
-pub split_parts : (bs : List ℕ) → Parts (slice_split is_slash bs)
-split_parts [] = some_parts [] []
-split_parts (b ∷ bs) = by (is_slash b) (slice_split is_slash bs)
-  where
-    by : (s : Bool) (ps : List (List ℕ)) → Parts (cond s ([] ∷ ps) (onto_first b ps))
-    by true ps = some_parts [] ps
-    by false [] = some_parts (b ∷ []) []
-    by false (q ∷ qs) = some_parts (b ∷ q) qs
 
 split_behind : (bs : List ℕ) → behind (slice_split is_slash bs) ≡ 47 ∷ bs
 split_behind [] = refl

@@ -370,7 +370,7 @@ exposed_sums n s file todo e f = by (list_any (bytes_eq file) s.exposed)
     by false = let h = told_sums n s (conf file kind.Writable 0) todo e f in record { calls = h.calls; ends_are = h.ends_are }
 
 -- a visit that the entries show tells its failed call
-abbrev failed_one : Option Visit → ℕ
+abbrev pub failed_one : Option Visit → ℕ
 failed_one None = 0
 failed_one (Some v) = failed_visit v
 
@@ -431,7 +431,7 @@ next_tells n s (task.Ask a ∷ todo) None h e f = tells_never n s (task.Ask a �
 next_tells n s [] v h e f = tells_never n s [] v h (λ ts x. x)
 next_tells n s (task.Line p ∷ todo) v h e f = tells_never n s (task.Line p ∷ todo) v h (λ ts x. x)
 
-failed_first : (v : Option Visit) (vs : List (Option Visit)) → failed_in (v ∷ vs) ≡ failed_one v + failed_in vs
+pub failed_first : (v : Option Visit) (vs : List (Option Visit)) → failed_in (v ∷ vs) ≡ failed_one v + failed_in vs
 failed_first None vs = omega arith
 failed_first (Some v) vs = refl
 

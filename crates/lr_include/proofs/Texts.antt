@@ -1,5 +1,5 @@
 -- What reads of one path leave.
-use Rattle.std.proofs.Common.{◌≡◌, ◌≤◌, ◌<◌, ◌⊎◌, inl, inr, ℕ, zero, suc, ◌+◌, take, false, List, [], ◌∷◌, ◌++◌, length, refl, sym, ap, ◌∙◌, subst, arith, length-append, length-drop, drop, Option, Result, Ok, Err, OnErr}
+use Rattle.std.proofs.Common.{◌≡◌, ◌≤◌, ◌<◌, ◌⊎◌, inl, inr, ℕ, zero, suc, ◌+◌, take, false, List, [], ◌∷◌, ◌++◌, length, refl, sym, ap, ◌∙◌, subst, arith, length-append, length-drop, drop, Option}
 use Rattle.std.proofs.lemmas.List.{append-nil, nil_from_length}
 use Rattle.lr_rules.specs.declared.path.Path.{Path}
 use Rattle.lr_rules.specs.Path.{is_empty}
@@ -101,11 +101,6 @@ some_long (b ∷ piece) count e some = refl
 -- what was added was something
 pub some_added : (old new : List ℕ) (count : ℕ) → length new ≡ length old + count → (count ≡ 0 → ⊥) → is_empty (drop (length old) new) ≡ false
 some_added old new count e some = some_long (drop (length old) new) count (omega (arith, e, length-drop (length old) new)) some
-
--- a fact of each refusal
-pub on_err : {T E : Type 0} (r : Result T E) (P : Type 0) → P → OnErr r P
-on_err (Ok x) P p = tt
-on_err (Err x) P p = p
 
 pub take_short : {A : Type 0} (n : ℕ) (xs : List A) → length (take n xs) ≤ n
 take_short zero xs = omega arith

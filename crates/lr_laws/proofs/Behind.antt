@@ -1,5 +1,5 @@
 -- Behind a writing that was made whole the state is settled.
-use Rattle.std.proofs.Common.{◌≡◌, ◌≢◌, ◌⊎◌, inl, inr, ◌≤◌, ℕ, Bool, true, false, cond, ◌||◌, refl, sym, ◌∙◌, subst, List, [], ◌∷◌, ◌++◌, length, reverse, append_assoc, bytes_eq}
+use Rattle.std.proofs.Common.{◌≡◌, ◌≢◌, ◌≤◌, ℕ, Bool, true, false, cond, refl, sym, ◌∙◌, subst, List, [], ◌∷◌, ◌++◌, length, reverse, append_assoc}
 use Rattle.std.specs.List.{list_any}
 use Rattle.std.proofs.lemmas.Bool.{or_from}
 use Rattle.std.proofs.lemmas.List.{reverse-reverse}
@@ -14,8 +14,8 @@ use Rattle.lr_host.specs.Opening.{IsJournal}
 use Rattle.lr_host.specs.Quiet.{is_disk_change, AttachedOnlySince}
 use Rattle.lr_host.specs.Steady.{AttachesOnly}
 use Rattle.lr_host.specs.Told.{Each, IsTools, IsWriters, Made, at_first, by_writer, by_tool}
-use Rattle.lr_host.specs.World.{Past, ◌▸◌, World, world, names, Change, Puts, Moves, Drops, making, pending_after, in_list, paths_in, is_listed, undone_at, settled}
-use Rattle.lr_host.proofs.Closed.{Touches, NoneTouches, by_bytes}
+use Rattle.lr_host.specs.World.{Past, ◌▸◌, World, world, names, Change, making, pending_after, in_list, paths_in, is_listed, undone_at, settled}
+use Rattle.lr_host.proofs.Closed.{NoneTouches}
 use Rattle.lr_host.proofs.Each.{each_as, each_reverse, each_last}
 use Rattle.lr_host.proofs.Looked.{same_file}
 use Rattle.lr_host.proofs.Quiet.{before_last}
@@ -27,26 +27,9 @@ use Rattle.lr_laws.proofs.Parts.{IsOwn, own_walk}
 use Rattle.lr_laws.proofs.Renewed.{IsFilled, filling, filled, Spared, renamed_own, in_two}
 use Rattle.lr_laws.proofs.Syncs.{none_undone, is_parent}
 use Rattle.lr_laws.proofs.Walks.{IsSafeFile, NamesNone, calm_entry, far_attached, safe_walk}
+use Rattle.lr_laws.proofs.ClosedLaws.{listed_in}
 
 -- ---- no pending change has the path
-
-in_touches : (c : Change) (x : Path) → in_list (paths_in c) x ≡ true → Touches c x
-in_touches (Puts y t) x e = one (bytes_eq y x) refl e
-  where
-    one : (b : Bool) → bytes_eq y x ≡ b → (b || false) ≡ true → y ≡ x
-    one true q e = by_bytes y x q
-    one false q e = absurd (cc)
-in_touches (Drops y) x e = one (bytes_eq y x) refl e
-  where
-    one : (b : Bool) → bytes_eq y x ≡ b → (b || false) ≡ true → y ≡ x
-    one true q e = by_bytes y x q
-    one false q e = absurd (cc)
-in_touches (Moves from to) x e = one (bytes_eq from x) refl (bytes_eq to x) refl e
-  where
-    one : (a : Bool) → bytes_eq from x ≡ a → (b : Bool) → bytes_eq to x ≡ b → (a || (b || false)) ≡ true → (from ≡ x) ⊎ (to ≡ x)
-    one true q b r e = inl (by_bytes from x q)
-    one false q true r e = inr (by_bytes to x r)
-    one false q false r e = absurd (cc)
 
 -- by the test that contracts use
 none_false : (cs : List Change) (x : Path) → NoneTouches cs x → list_any (λ c. in_list (paths_in c) x) cs ≡ false
@@ -54,7 +37,7 @@ none_false [] x none = refl
 none_false (c ∷ cs) x none = or_from (in_list (paths_in c) x) (list_any (λ c. in_list (paths_in c) x) cs) (go (in_list (paths_in c) x) refl) (none_false cs x none.1)
   where
     go : (b : Bool) → in_list (paths_in c) x ≡ b → b ≡ false
-    go true e = absurd (none.0 (in_touches c x e))
+    go true e = absurd (none.0 (listed_in c x e))
     go false e = refl
 
 none_undone_too : (places : List ℕ) (cs : List Change) (x : Path) → NoneTouches cs x → NoneTouches (undone_at places cs) x

@@ -32,11 +32,11 @@ use Rattle.lr_laws.proofs.Disk.{fits_closed}
 use Rattle.lr_laws.proofs.Going.{safe_on}
 use Rattle.lr_laws.proofs.LogPath.{moved_aside, NoneToLog, log_walk}
 use Rattle.lr_laws.proofs.Moves.{some_rule, may_unlink_old, may_unlink_aside, may_put_aside, elsewhere, keyless}
-use Rattle.lr_laws.proofs.Reach.{aside_apart, unplaced_no_key, out_log}
+use Rattle.lr_laws.proofs.Reach.{aside_apart, unplaced_no_key, out_log, no_key}
 use Rattle.lr_laws.proofs.Sound.{IsSound, sound}
 use Rattle.lr_laws.proofs.Stamps.{room_for_one, may_turn_dated, may_unlink_dated}
 use Rattle.lr_laws.proofs.Walk.{IsSameRun, same_run_on, by_age_on, changed_alike}
-use Rattle.lr_laws.proofs.Writing.{attached_before, wrote_member, member_apart, may_follow, not_starts, not_to_log, keeps_attached, no_key}
+use Rattle.lr_laws.proofs.Writing.{attached_before, wrote_member, member_apart, may_follow, not_starts, not_to_log, keeps_attached}
 use Rattle.lr_laws.specs.DatedRotation.{IsPastLater, turned_behind, is_log_turned, IsDatedStep, IsDatedRotationBy, IsDatedRotation, IsDatedRetirement}
 use Rattle.lr_laws.proofs.DatedAside.{aside_starts, aside_log, aside_turned}
 use Rattle.lr_laws.proofs.Tame.{IsTame, tame_puts, tame_moves, tame_drops, tame_aside, tame_writer, forward_on, room_on}

@@ -26,10 +26,10 @@ use Rattle.lr_laws.proofs.Whole.{whole_at}
 abbrev part : Path
 part = state_part state
 
-abbrev start : Past
+abbrev pub start : Past
 start = Opens found
 
-other : (x y : Path) → bytes_eq x y ≡ false → x ≢ y
+pub other : (x y : Path) → bytes_eq x y ≡ false → x ≢ y
 other x y e same = let yes : bytes_eq x y ≡ true = (bytes_eq-Decides x y).1 same in clash (bytes_eq x y) e yes
   where
     clash : (b : Bool) → b ≡ false → b ≡ true → ⊥

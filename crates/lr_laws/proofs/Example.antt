@@ -41,33 +41,33 @@ use Rattle.lr_laws.proofs.Stated.{at_first, quiet_safe, unlinks, moves, ready_fi
 
 -- ---- the opening is a disk
 
-none_of : {A : Type 0} (P : A → Type 0) → All P []
+pub none_of : {A : Type 0} (P : A → Type 0) → All P []
 none_of P k d lt = absurd (omega arith)
 
-abbrev EachOf : {A : Type 0} → (A → Type 0) → List A → Type 0
+abbrev pub EachOf : {A : Type 0} → (A → Type 0) → List A → Type 0
 EachOf P [] = Unit {0}
 EachOf P (x ∷ xs) = P x × EachOf P xs
 
-each : {A : Type 0} (P : A → Type 0) (xs : List A) → EachOf P xs → All P xs
+pub each : {A : Type 0} (P : A → Type 0) (xs : List A) → EachOf P xs → All P xs
 each P [] h = none_of P
 each P (x ∷ xs) h = All-cons P x xs h.0 (each P xs h.1)
 
-abbrev is_new : Path → List Path → Bool
+abbrev pub is_new : Path → List Path → Bool
 is_new x [] = true
 is_new x (y ∷ ys) = not (bytes_eq x y) && is_new x ys
 
-abbrev are_new : List Path → Bool
+abbrev pub are_new : List Path → Bool
 are_new [] = true
 are_new (y ∷ ys) = is_new y ys && are_new ys
 
-not_in : (x : Path) (ys : List Path) → is_new x ys ≡ true → IsNotIn x ys
+pub not_in : (x : Path) (ys : List Path) → is_new x ys ≡ true → IsNotIn x ys
 not_in x [] h = tt
 not_in x (y ∷ ys) h = let s = and_parts (not (bytes_eq x y)) (is_new x ys) h in ((λ same. let t : bytes_eq x y ≡ true = (bytes_eq-Decides x y).1 same in clash (bytes_eq x y) s.0 t), not_in x ys s.1)
   where
     clash : (b : Bool) → not b ≡ true → b ≡ true → ⊥
     clash b p q = cc
 
-distinct : (ys : List Path) → are_new ys ≡ true → AreDistinct ys
+pub distinct : (ys : List Path) → are_new ys ≡ true → AreDistinct ys
 distinct [] h = tt
 distinct (y ∷ ys) h = let s = and_parts (is_new y ys) (are_new ys) h in (not_in y ys s.0, distinct ys s.1)
 

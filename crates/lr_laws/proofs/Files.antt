@@ -35,7 +35,7 @@ LeavesFile x _ = Unit {0}
 
 -- ---- what makes no file, and writes to none of that identity
 
-other_id : (f g d : ℕ) → f ≡ d → g < d → nat_eq f g ≡ false
+pub other_id : (f g d : ℕ) → f ≡ d → g < d → nat_eq f g ≡ false
 other_id f g d e lt = go (nat_eq f g) refl
   where
     go : (b : Bool) → nat_eq f g ≡ b → b ≡ false
@@ -60,7 +60,7 @@ holds_other (Some f) g never = go (nat_eq f g) refl
     go false q = refl
 holds_other None g never = refl
 
-making_other : (t : Thing) (y : Path) (g d : ℕ) → g < d → makes (making t y d) g ≡ false
+pub making_other : (t : Thing) (y : Path) (g d : ℕ) → g < d → makes (making t y d) g ≡ false
 making_other thing.Nothing y g d lt = other_id d g d refl lt
 making_other (thing.File f) y g d lt = refl
 making_other thing.Directory y g d lt = refl

@@ -15,9 +15,9 @@ use Rattle.lr_host.specs.Steady.{IsKeyless}
 use Rattle.lr_host.specs.World.{Past, ◌▸◌, world, names, step}
 use Rattle.lr_host.proofs.Quiet.{wrote_same, looked_names}
 use Rattle.lr_laws.proofs.Disk.{KeepsClosed}
-use Rattle.lr_laws.proofs.Writing.{no_key}
 use Rattle.lr_laws.specs.Forward.{IsForwardBy, IsForwardFor, IsNextSerial}
 use Rattle.lr_laws.proofs.Tame.{IsTame, had_before, closed_writer, tame_writer, closed_quiet, tame_quiet}
+use Rattle.lr_laws.proofs.Reach.{no_key}
 
 serial_small : (f : Format) (k : ℕ) → IsSerial f k → k ≤ 4294967295
 serial_small f k (inl zero) = omega arith

@@ -34,7 +34,7 @@ named_in_list o x g is = go (in_list o.dirs x) (in_list o.others x) is
     go false true is = absurd (cc)
     go false false is = is
 
-fresh_in : (limit : ℕ) (ns : List (Path × ℕ)) (x : Path) (g : ℕ) → All (λ n. n.1 < limit) ns → named_at_first ns x ≡ thing.File g → g < limit
+pub fresh_in : (limit : ℕ) (ns : List (Path × ℕ)) (x : Path) (g : ℕ) → All (λ n. n.1 < limit) ns → named_at_first ns x ≡ thing.File g → g < limit
 fresh_in limit [] x g all is = absurd (cc)
 fresh_in limit (n ∷ ns) x g all is = go (bytes_eq n.0 x) is (fresh_in limit ns x g (λ k d lt. all (suc k) d (omega arith)))
   where

@@ -54,7 +54,7 @@ in_reach_own s x h = ⊎_elim unplaced (λ e. keyed (s.key x) refl e) (or_cases 
     keyed None q e = absurd (cc)
     keyed (Some k) q e = keyed_name s (order s) refl s.keys x k q
 
-outside : (s : LogSet) (x : Path) → (IsName s.log s.naming x → ⊥) → in_reach s x ≡ false
+pub outside : (s : LogSet) (x : Path) → (IsName s.log s.naming x → ⊥) → in_reach s x ≡ false
 outside s x none = go (in_reach s x) refl
   where
     go : (b : Bool) → in_reach s x ≡ b → in_reach s x ≡ false

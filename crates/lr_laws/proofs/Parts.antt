@@ -31,7 +31,7 @@ named_drawn p x g j e = (single p j).fresh (names (world p)) [] (leaves_now (wor
 pub named_once : (p : Past) (x y : Path) (g : ℕ) → IsJournal p → names (world p) x ≡ thing.File g → names (world p) y ≡ thing.File g → x ≡ y
 named_once p x y g j e f = (single p j).unique (names (world p)) [] (leaves_now (world p)) x y g e f
 
-hold_below : (d : ℕ) (hs : List (ℕ × ℕ)) (v g : ℕ) → All (λ h. h.1 < d) hs → opening_hold hs v ≡ Some g → g < d
+pub hold_below : (d : ℕ) (hs : List (ℕ × ℕ)) (v g : ℕ) → All (λ h. h.1 < d) hs → opening_hold hs v ≡ Some g → g < d
 hold_below d [] v g a e = absurd (cc)
 hold_below d (h ∷ hs) v g a e = by (λ i. hold_below d hs v g (λ k z lt. a (suc k) z (omega arith)) i) (nat_eq h.0 v) e
   where
@@ -71,7 +71,7 @@ pub record IsOwn (x : Path) (g : ℕ) (bytes : List ℕ) (p : Past) : Type 0 whe
   pub named : names (world p) x ≡ thing.File g
   pub guarded : IsGuarded x g bytes (world p)
 
-wrote_named : (p : Past) (e : Entry) (x : Path) (g : ℕ) → IsWriters e → names (world p) x ≡ thing.File g → names (world (p ▸ e)) x ≡ thing.File g
+pub wrote_named : (p : Past) (e : Entry) (x : Path) (g : ℕ) → IsWriters e → names (world p) x ≡ thing.File g → names (world (p ▸ e)) x ≡ thing.File g
 wrote_named p (entry.Attach v y at) x g i n = ⊎_elim (λ same. same ∙ n) (λ new. absurd (nothing_no_file (names (world p) x) g new.1 n)) (attach_names (world p) v y x at)
 wrote_named p (entry.Feed v bytes at) x g i n = n
 wrote_named p (entry.Flush v) x g i n = n

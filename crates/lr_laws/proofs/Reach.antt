@@ -11,7 +11,7 @@ use Rattle.lr_host.specs.Sets.{LogSet, in_set, IsAsideOf, IsUnplaced, is_unplace
 is_keyed : (o : Option ℤ) (k : ℤ) → o ≡ Some k → is_some o ≡ true
 is_keyed o k is = ap is_some is
 
-no_key : (o : Option ℤ) (k : ℤ) → o ≡ Some k → o ≡ None → ⊥
+pub no_key : (o : Option ℤ) (k : ℤ) → o ≡ Some k → o ≡ None → ⊥
 no_key o k a b = cc
 
 -- where a log waits is another path than the log's

@@ -22,7 +22,8 @@ use Rattle.lr_laws.proofs.Entries.{split}
 use Rattle.lr_laws.proofs.Moves.{keyless}
 use Rattle.lr_laws.proofs.Rising.{IsStarts, next_grows}
 use Rattle.lr_laws.proofs.Sound.{IsSound}
-use Rattle.lr_laws.proofs.Writing.{member_apart, no_key}
+use Rattle.lr_laws.proofs.Writing.{member_apart}
+use Rattle.lr_laws.proofs.Reach.{no_key}
 
 -- the change gives no member a file
 pub record GivesNone (s : LogSet) (c : Change) : Type 0 where

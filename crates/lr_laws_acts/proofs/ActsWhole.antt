@@ -14,6 +14,7 @@ use Rattle.lr_plan.specs.declared.step.SetSteps.{SetSteps}
 use Rattle.lr_plan.specs.Steps.{by_logs, steps_of_set}
 use Rattle.lr_plan.specs.Course.{Course}
 use Rattle.lr_plan.specs.Done.{EachDone, LogsDone, is_rotated, if_rotated, SetDone, broke_off, went_on, SetsDone}
+use Rattle.lr_plan.proofs.Courses.{one_none}
 use Rattle.lr_laws_family.specs.Weave.{Weave, none}
 use Rattle.lr_laws_acts.specs.Parts.{takes_name, change_of, changes_by, ArePlain, EachPlain, IsPlainSet, ArePlainSets, parts_of_set, parts_of_sets, AllOf, InOnePart}
 use Rattle.lr_laws_acts.proofs.Parting.{went_changes, joined_changes}
@@ -24,9 +25,6 @@ use Rattle.lr_laws_family.proofs.Weaving.{weave_on, weave_others}
 
 whole_of : List (List Entry) → List Entry
 whole_of parts = flat_map (λ part. part) parts
-
-pub one_none : {A : Type 0} (x : A) (xs : List A) → xs ≡ x ∷ [] → xs ≡ [] → ⊥
-one_none x xs a b = cc
 
 pub nil_split : {A : Type 0} (xs ys zs : List A) → xs ≡ ys ++ zs → xs ≡ [] → (ys ≡ []) × (zs ≡ [])
 nil_split xs [] zs e n = (refl, sym e ∙ n)

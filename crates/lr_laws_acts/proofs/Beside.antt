@@ -8,8 +8,9 @@ use Rattle.lr_host.proofs.Lists.{in_front, in_back}
 use Rattle.lr_copy.specs.declared.job.Job.{Job}
 use Rattle.lr_laws_rotations.specs.AllTurns.{IsItsDir, AlsoDoes, StandsBetween, dir_paths, paths_of_others, other_paths, paths_beside}
 use Rattle.lr_laws_family.specs.Beside.{IsBeside}
+use Rattle.lr_laws_family.proofs.Anew.{on_more}
 use Rattle.lr_laws_rotations.specs.Target.{Target}
-use Rattle.lr_laws_rotations.proofs.Others.{on_more, dir_in, other_on, state_on}
+use Rattle.lr_laws_rotations.proofs.Others.{dir_in, other_on, state_on}
 use Rattle.lr_laws_acts.proofs.Ways.{job_same}
 
 -- besides, or it empties the log

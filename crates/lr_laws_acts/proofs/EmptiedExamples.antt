@@ -10,9 +10,10 @@ use Rattle.lr_laws.proofs.Example.{found_valid}
 use Rattle.lr_laws.proofs.Lists.{prefix_size}
 use Rattle.lr_copy.specs.declared.job.Job.{Job}
 use Rattle.lr_copy.specs.Fits.{ArePaths}
+use Rattle.lr_laws.proofs.DurableExamples.{start}
 use Rattle.lr_laws_family.specs.Whole.{IsCopyWhole}
 use Rattle.lr_laws_family.specs.CopiesWorked.{job}
-use Rattle.lr_laws_family.proofs.CopiesExamples.{start, entries, made, named, paths}
+use Rattle.lr_laws_family.proofs.CopiesExamples.{entries, made, named, paths}
 use Rattle.lr_laws_acts.specs.Emptied.{IsJobIn, EmptiesCopied, EmptiesWhole}
 use Rattle.lr_laws_acts.specs.EmptiedWorked.{behind, copied_first, at_once}
 use Rattle.lr_laws_acts.proofs.Entries.{copied_then_cut}

@@ -26,7 +26,7 @@ use Rattle.lr_host.specs.Told.{Each, Then, Made, at_first, by_writer, by_tool, L
 use Rattle.lr_host.specs.Steps.{is_naming, CanAll}
 use Rattle.lr_host.proofs.More.{IsMoreAt, more_at_on, wrote_names}
 use Rattle.lr_host.proofs.Names.{put_other}
-use Rattle.lr_host.proofs.Each.{filter_reverse, none_pass, each_append, each_as, each_reverse, each_first, each_last}
+use Rattle.lr_host.proofs.Each.{filter_reverse, each_append, each_as, each_reverse, each_first, each_last}
 use Rattle.lr_host.proofs.Left.{left_first, left_then, can_as, still_step}
 use Rattle.lr_host.proofs.Known.{ever_says}
 use Rattle.lr_host.proofs.Looked.{file_no_dir, seen_dir}
@@ -36,8 +36,7 @@ use Rattle.lr_scripts.specs.declared.removal.Removal.{Removal}
 use Rattle.lr_scripts.specs.Programs.{runs}
 use Rattle.lr_copy.specs.declared.job.Job.{Job}
 use Rattle.lr_copy.specs.Copying.{clearing}
-use Rattle.lr_copy.specs.Bytes.{AllBytes}
-use Rattle.lr_copy.proofs.EachOfBytes.{each_all}
+use Rattle.lr_copy.proofs.Pieces.{all_name_none}
 use Rattle.lr_chain.specs.declared.ready.Move.{Move}
 use Rattle.lr_chain.specs.declared.ready.Ready.{Ready}
 use Rattle.lr_chain.specs.Ready.{move_step, dir_calls}
@@ -430,10 +429,6 @@ asked (step.Truncates path) es o bare c = one_asked (entry.Truncates path) es o 
 asked (step.Rotated log) es o bare c = none_asked o
 asked _ es o bare c = absurd bare
 
--- reads and appends change no names
-bytes_unnamed : (from to : Path) (limit count : ℕ) (ts : List Entry) → AllBytes from to limit count ts → filter is_naming ts ≡ []
-bytes_unnamed from to limit count ts w = none_pass is_naming ts (each_all (λ e. is_naming e ≡ false) from to (λ k piece short. refl) (λ piece. refl) limit count ts w)
-
 -- a directory was made, or one was seen
 saw_dir : (path : Path) (o : Option Seen) {j m : Option Journal} → IsDir o → Left (λ ts. ts ≡ entry.Look path o ∷ []) j m → Can m (entry.SyncsDir path)
 saw_dir path None d left = absurd d
@@ -468,7 +463,7 @@ behind (step.Renames from to) es bare c left = calls_made (entry.Renames from to
 behind (step.MakesDir path mode) es bare c left = behind_dir path mode es c left
 behind (step.Creates path mode) es bare c left = calls_still es c left (λ ts w. ⊎_elim (λ none. ap (filter is_naming) none) (λ one. ap (filter is_naming) one) w)
 behind (step.Takes path mode) es bare c left = calls_made (entry.Makes path mode) es c left (λ ts w. w)
-behind (step.Copies from to limit) es bare c left = calls_still es (calls_as c (λ n fit. fit.1.1)) left (λ ts w. bytes_unnamed from to limit w.0 ts w.1)
+behind (step.Copies from to limit) es bare c left = calls_still es (calls_as c (λ n fit. fit.1.1)) left (λ ts w. all_name_none from to limit w.0 ts w.1)
 behind (step.SyncsFile path) es bare c left = calls_made (entry.SyncsFile path) es c left (λ ts w. w)
 behind (step.SyncsDir path) es bare c left = calls_made (entry.SyncsDir path) es c left (λ ts w. w)
 behind (step.Truncates path) es bare c left = calls_made (entry.Truncates path) es c left (λ ts w. w)

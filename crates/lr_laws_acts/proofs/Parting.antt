@@ -340,7 +340,7 @@ weave_first P os _ (t ∷ ts) (other {all = es} e p w) f =
 others_before : (P : Entry → Type 0) (steps xs ys : List Entry) → Each P xs → FirstWoven P steps ys → FirstWoven P steps (xs ++ ys)
 others_before P steps xs ys a w = record { made = w.made; first = w.first; woven = weave_on P [] xs w.made ys (weave_others P xs a) w.woven }
 
-others_behind : (P : Entry → Type 0) (steps xs ys : List Entry) → FirstWoven P steps xs → Each P ys → FirstWoven P steps (xs ++ ys)
+pub others_behind : (P : Entry → Type 0) (steps xs ys : List Entry) → FirstWoven P steps xs → Each P ys → FirstWoven P steps (xs ++ ys)
 others_behind P steps xs ys w a = record { made = w.made; first = w.first; woven = subst (λ os. Weave P os (xs ++ ys)) (append-nil w.made) (weave_on P w.made xs [] ys w.woven (weave_others P ys a)) }
 
 pub one_part : (P : Entry → Type 0) (steps : List Entry) (before : List (List Entry)) (part : List Entry) (after : List (List Entry)) (ts : List Entry) → AllOf P before → Weave P steps part → AllOf P after → FirstParts (before ++ part ∷ after) ts → FirstWoven P steps ts

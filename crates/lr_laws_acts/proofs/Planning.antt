@@ -32,6 +32,7 @@ use Rattle.lr_laws_rotations.specs.Target.{Target, source_by, HasWay, target_ent
 use Rattle.lr_laws_rotations.specs.AllTurns.{AlsoDoes, IsOf, IsOfSome, IsOfOther}
 use Rattle.lr_laws_rotations.proofs.Rotating.{two}
 use Rattle.lr_laws_family.proofs.Weaving.{weave_on, weave_own, weave_others}
+use Rattle.lr_laws_rotations.proofs.Both.{own_first}
 use Rattle.lr_laws_acts.specs.Parts.{change_of, changes_by, ArePlain, EachPlain, IsPlainSet, ArePlainSets, MakesOne, parts_of_set, parts_of_sets, AllOf, InOnePart, ArePlanned}
 use Rattle.lr_laws_acts.specs.Planned.{bare_removal, bare, IsReadyFor, AreReadyFor, HaveLogs, NoneHas, LogsDiffer}
 use Rattle.lr_laws_acts.proofs.Halves.{own_way, letting_go, front_of, back_of, halves, own_calls, letting_calls, front_calls}
@@ -453,9 +454,6 @@ all_on P (p ∷ ps) qs a b = (a.0, all_on P ps qs a.1 b)
 pub set_out : (P : Entry → Type 0) (ts : List Target) (ps : List (List Entry)) → ArePartsOf ts ps → AllLogs P ts → AllOf P ps
 set_out P ts ps (together e) a = subst (AllOf P) (sym e) (each_append P (flat_map front_of ts) (flat_map back_of ts) (flat_fronts P ts a) (flat_backs P ts a), (tt, tt))
 set_out P ts ps (by_logs_each e) a = subst (AllOf P) (sym e) (tt, all_on P (map target_entries ts) ([] ∷ []) (map_all P ts a) (tt, tt))
-
-own_first : (P : Entry → Type 0) (xs ys : List Entry) → Each P ys → Weave P xs (xs ++ ys)
-own_first P xs ys a = subst (λ os. Weave P os (xs ++ ys)) (append-nil xs) (weave_on P xs xs [] ys (weave_own P xs) (weave_others P ys a))
 
 weave_fronts : (P : Entry → Type 0) (ts : List Target) (t : Target) → IsIn t ts → LogsDiffer ts → AllBut P t.log ts → Weave P (front_of t) (flat_map front_of ts)
 weave_fronts P [] t i ap a = absurd i

@@ -19,6 +19,7 @@ use Rattle.lr_plan.specs.declared.step.Step.TheVariants as step
 use Rattle.lr_plan.specs.Course.{Course}
 use Rattle.lr_plan.specs.Done.{EachDone, SetDone, broke_off, went_on, SetsDone}
 use Rattle.lr_plan.specs.Steps.{program, removals, directory, move, step_if, copy, transfer, finishing, rotation_of, retirement_of, steps_of_log, shared_steps, by_logs, steps_of_set}
+use Rattle.lr_plan.proofs.Courses.{one_none}
 use Rattle.lr_laws_acts.specs.Emptied.{EmptiesCopied}
 use Rattle.lr_laws_acts.specs.Jobs.{jobs_in, jobs_of}
 use Rattle.lr_laws_acts.specs.Steps.{named_steps}
@@ -27,7 +28,7 @@ use Rattle.lr_laws_acts.proofs.Made.{AllMade, made_split, named_made}
 use Rattle.lr_laws_acts.proofs.Steps.{plan_copied}
 use Rattle.lr_laws_rotations.specs.Target.{Target, source_by, HasWay, IsJob}
 use Rattle.lr_laws_acts.specs.Planned.{AreReadyFor, HaveLogs, NoneHas, LogsDiffer}
-use Rattle.lr_laws_acts.proofs.ActsWhole.{one_none, nil_split}
+use Rattle.lr_laws_acts.proofs.ActsWhole.{nil_split}
 use Rattle.lr_laws_acts.specs.Copied.{CopyStands, IsSameFor}
 use Rattle.lr_laws_acts.proofs.Ways.{job_same, not_emptied, not_copied}
 
@@ -201,7 +202,7 @@ plan_stands t job (g ∷ groups) (set ∷ sets) ms f ts logs i is n d =
 abbrev IsOfOne : List Target → Job → Type 0
 IsOfOne ts job = (t : Target) × IsIn t ts × (t.job ≡ Some job) × IsJob t job × HasWay t
 
-job_has : (o : Option Job) (job : Job) → IsIn job (option_to_list o) → o ≡ Some job
+pub job_has : (o : Option Job) (job : Job) → IsIn job (option_to_list o) → o ≡ Some job
 job_has None job i = absurd i
 job_has (Some j) job (inl is) = ap Some is
 job_has (Some j) job (inr i) = absurd i

@@ -1,7 +1,5 @@
 -- A log that is copied, in order and not.
-use Rattle.std.proofs.Common.{◌≡◌, ◌≢◌, ⊎_elim, inl, ℕ, Bool, true, false, refl, subst, arith, List, [], ◌∷◌, length, reverse, codes, None, bytes_eq}
-use Rattle.std.proofs.lemmas.Slice.Eq.{bytes_eq-Decides}
-use Rattle.lr_rules.specs.declared.path.Path.{Path}
+use Rattle.std.proofs.Common.{◌≡◌, ⊎_elim, inl, ℕ, refl, subst, arith, List, [], ◌∷◌, length, reverse, codes, None}
 use Rattle.lr_host.specs.declared.thing.Thing.TheVariants as thing
 use Rattle.lr_host.specs.declared.entry.Entry.{Entry}
 use Rattle.lr_host.specs.declared.entry.Entry.TheVariants as entry
@@ -10,25 +8,17 @@ use Rattle.lr_host.specs.Opening.{IsJournal}
 use Rattle.lr_host.specs.Quiet.{from_here, further}
 use Rattle.lr_host.specs.Safe.{whole as all_of}
 use Rattle.lr_host.specs.Told.{Made, at_first, by_tool}
-use Rattle.lr_host.specs.World.{Past, Opens, ◌▸◌, world}
-use Rattle.lr_laws.specs.Chain.{log, third, found}
+use Rattle.lr_host.specs.World.{◌▸◌, world}
+use Rattle.lr_laws.specs.Chain.{log, third}
 use Rattle.lr_laws.proofs.Example.{found_valid}
 use Rattle.lr_laws.proofs.Lists.{prefix_last}
 use Rattle.lr_copy.specs.Bytes.{none_read, read_more, took_more}
 use Rattle.lr_copy.specs.Copying.{opening, naming}
 use Rattle.lr_copy.specs.Fits.{ArePaths}
+use Rattle.lr_laws.proofs.DurableExamples.{other, start}
 use Rattle.lr_laws_family.specs.Whole.{Named, WritersSpareCopy, Has, IsCopyWhole}
 use Rattle.lr_laws_family.specs.CopiesWorked.{part, job, filled, in_order, name_pending, bytes_pending, fed_since, read_on}
 use Rattle.lr_laws_family.proofs.Named.{whole}
-
-abbrev pub start : Past
-start = Opens found
-
-other : (x y : Path) → bytes_eq x y ≡ false → x ≢ y
-other x y e same = let yes : bytes_eq x y ≡ true = (bytes_eq-Decides x y).1 same in clash (bytes_eq x y) e yes
-  where
-    clash : (b : Bool) → b ≡ false → b ≡ true → ⊥
-    clash b e f = cc
 
 -- ---- the entries fit
 

@@ -17,6 +17,7 @@ use Rattle.lr_laws.proofs.Single.{single}
 use Rattle.lr_copy.specs.declared.job.Job.{Job}
 use Rattle.lr_laws_family.specs.Whole.{Named, IsCopyWhole}
 use Rattle.lr_laws.proofs.Lists.{prefix_on, made_prefix}
+use Rattle.lr_laws.proofs.Walks.{made_drawn}
 use Rattle.lr_laws_family.specs.Beside.{IsOn, IsNeverAt}
 use Rattle.lr_laws_family.specs.Made.{IsJobOf, IsFar}
 use Rattle.lr_laws_family.specs.Moments.{fed}
@@ -26,7 +27,7 @@ use Rattle.lr_laws_family.proofs.Bringing.{IsOfCopy, copy_each, copy_spares}
 use Rattle.lr_laws_family.proofs.Changes.{Changes, changes_back}
 use Rattle.lr_laws_family.proofs.Copy.{whole_copy, copy_new}
 use Rattle.lr_laws_family.proofs.Fed.{IsTurnOrMake, fed_bytes}
-use Rattle.lr_laws_family.proofs.OrMade.{SparesOrMakes, spared_or_anew, made_drawn}
+use Rattle.lr_laws_family.proofs.OrMade.{SparesOrMakes, spared_or_anew}
 
 -- Just before the copy, where the source names this file, and behind it.
 pub record CopyAt (n : Naming) (r : Rotation) (job : Job) (p : Past) (file : ℕ) : Type 0 where

@@ -1,7 +1,7 @@
 -- The names of dated members: they have no slash, aren't empty, and are longer than the log's. Each stands in the family's directory.
 use Rattle.std.proofs.Common.{◌≡◌, inl, inr, ℕ, ℤ, ◌<◌, ◌≤◌, Bool, true, false, ◌||◌, refl, sym, ◌∙◌, ap, subst, arith, List, [], ◌∷◌, ◌++◌, length, Option, Some, true≢false, ◌+◌, ◌-◌, min, take, cond, length-append, None}
 use Rattle.std.specs.List.{list_any, list_all}
-use Rattle.std.proofs.lemmas.Bool.{and_parts, or_parts, or_from}
+use Rattle.std.proofs.lemmas.Bool.{and_parts}
 use Rattle.std.proofs.lemmas.List.{length-take}
 use Rattle.lr_rules.specs.declared.path.Path.{Path}
 use Rattle.lr_rules.specs.declared.rule.Format.{Format}
@@ -11,15 +11,16 @@ use Rattle.lr_rules.specs.declared.rule.Piece.TheVariants as piece
 use Rattle.lr_rules.specs.Dated.{IsDatedAt}
 use Rattle.lr_rules.specs.Limits.{is_plain_piece, are_first, is_epoch_alone, is_format, or_none}
 use Rattle.lr_rules.specs.Names.{IsStampShape, number_pieces, IsMiddleShape, naming_of, ext_of, base_of, ends_with}
-use Rattle.lr_rules.specs.Path.{is_bad_byte, is_slash, is_empty, path_fault, parent_of, last_of}
+use Rattle.lr_rules.specs.Path.{is_slash, is_empty, path_fault, parent_of, last_of}
 use Rattle.lr_rules.proofs.PathLemmas.{plain_both, parent_joined, last_joined}
 use Rattle.lr_stamps.proofs.StampShapes.{numbered_shape}
 use Rattle.lr_host.specs.Fits.{IsPart}
 use Rattle.lr_laws.proofs.PlainStamps.{field_some, middle_plain}
-use Rattle.lr_family.specs.Kin.{IsKin, is_barred}
+use Rattle.lr_family.specs.Kin.{IsKin}
 use Rattle.lr_laws_family.specs.Members.{IsNoMember}
 use Rattle.lr_rules.specs.declared.rule.Rule.{Rule}
 use Rattle.lr_host.proofs.Reading.{some_long}
+use Rattle.lr_family.proofs.Paths.{unbarred}
 
 -- ---- shapes of stamps
 
@@ -71,10 +72,6 @@ base_long ext name = go (ends_with ext name)
     go false = omega arith
 
 -- ---- members
-
-unbarred : (xs : List ℕ) → list_any is_barred xs ≡ false → list_any is_slash xs ≡ false
-unbarred [] h = refl
-unbarred (x ∷ xs) h = let t = or_parts (is_barred x) (list_any is_barred xs) h in or_from (is_slash x) (list_any is_slash xs) (or_parts (is_slash x) (is_bad_byte x) t.0).0 (unbarred xs t.1)
 
 -- the last part of a dated member's path
 abbrev pub name_of : (n : Naming) (t : ℤ) (k : ℕ) (x : Path) → IsDatedAt n t k x → List ℕ

@@ -17,7 +17,7 @@ pub mod Ending
 pub mod Fed
 mod Filled
 pub mod Given
-mod Logs
+pub mod Logs
 pub mod Moments
 pub mod Named
 pub mod Never

@@ -1,7 +1,6 @@
 -- The log's file, while the tool only copies it.
-use Rattle.std.proofs.Common.{◌≡◌, ◌≢◌, ⊎_elim, ◌<◌, ℕ, Bool, true, false, cond, nat_eq, eqb-true, refl, sym, ◌∙◌, ap, subst, arith, List, [], ◌++◌, append_assoc, append-nil, Option, Some, None}
+use Rattle.std.proofs.Common.{◌≡◌, ◌≢◌, ◌<◌, ℕ, Bool, true, false, cond, nat_eq, eqb-true, refl, sym, ◌∙◌, ap, subst, arith, List, [], ◌++◌, append_assoc, append-nil, Option, Some, None}
 use Rattle.lr_rules.specs.declared.path.Path.{Path}
-use Rattle.lr_host.specs.declared.thing.Thing.{Thing}
 use Rattle.lr_host.specs.declared.thing.Thing.TheVariants as thing
 use Rattle.lr_host.specs.declared.entry.Entry.{Entry}
 use Rattle.lr_host.specs.declared.entry.Entry.TheVariants as entry
@@ -9,12 +8,11 @@ use Rattle.lr_host.specs.Lists.{IsIn}
 use Rattle.lr_host.specs.Opening.{IsJournal}
 use Rattle.lr_host.specs.Told.{Each, IsTools, IsWriters, Made, at_first, by_writer, by_tool}
 use Rattle.lr_host.specs.World.{Past, ◌▸◌, world, names, making, makes, is_file, holds_file}
-use Rattle.lr_host.proofs.Looked.{nothing_no_file, is_file_true}
+use Rattle.lr_host.proofs.Looked.{is_file_true}
 use Rattle.lr_host.proofs.Made.{made_journal}
-use Rattle.lr_host.proofs.More.{attach_names}
 use Rattle.lr_laws.specs.StateWhole.{renamed_paths}
-use Rattle.lr_laws.proofs.Files.{LeavesFile}
-use Rattle.lr_laws.proofs.Parts.{named_drawn, named_once}
+use Rattle.lr_laws.proofs.Files.{LeavesFile, making_other, other_id}
+use Rattle.lr_laws.proofs.Parts.{named_drawn, named_once, wrote_named}
 use Rattle.lr_laws.proofs.Walks.{tool_same}
 use Rattle.lr_laws_family.specs.Whole.{Fed, none_fed, fed_more, no_more, Has}
 
@@ -30,19 +28,6 @@ pub record HasMore (x : Path) (g : ℕ) (bytes : List ℕ) (p q : Past) : Type 0
 
 -- ---- one entry
 
-other_id : (f g d : ℕ) → f ≡ d → g < d → nat_eq f g ≡ false
-other_id f g d e lt = go (nat_eq f g) refl
-  where
-    go : (b : Bool) → nat_eq f g ≡ b → b ≡ false
-    go true q = absurd (let same : f ≡ g = eqb-true f g q in omega (arith, e, lt))
-    go false q = refl
-
-making_other : (t : Thing) (y : Path) (g d : ℕ) → g < d → makes (making t y d) g ≡ false
-making_other thing.Nothing y g d lt = other_id d g d refl lt
-making_other (thing.File f) y g d lt = refl
-making_other thing.Directory y g d lt = refl
-making_other thing.Other y g d lt = refl
-
 not_made : (b : Bool) (bytes : List ℕ) → b ≡ false → cond b [] bytes ≡ bytes
 not_made true bytes e = absurd (cc)
 not_made false bytes e = refl
@@ -54,13 +39,6 @@ holds_true None g e = absurd (cc)
 holds_false : (o : Option ℕ) (g : ℕ) → holds_file o g ≡ false → o ≢ Some g
 holds_false (Some f) g e is = let same : f ≡ g = cc in let here : nat_eq g g ≡ true = grind arith in let there : nat_eq g g ≡ false = subst (λ (n : ℕ). nat_eq n g ≡ false) same e in cc
 holds_false None g e is = cc
-
-wrote_named : (p : Past) (e : Entry) (x : Path) (g : ℕ) → IsWriters e → names (world p) x ≡ thing.File g → names (world (p ▸ e)) x ≡ thing.File g
-wrote_named p (entry.Attach v y at) x g i n = ⊎_elim (λ same. same ∙ n) (λ new. absurd (nothing_no_file (names (world p) x) g new.1 n)) (attach_names (world p) v y x at)
-wrote_named p (entry.Feed v bytes at) x g i n = n
-wrote_named p (entry.Flush v) x g i n = n
-wrote_named p (entry.Detach v) x g i n = n
-wrote_named p _ x g i n = absurd i
 
 more_same : (x : Path) (g : ℕ) (bytes : List ℕ) (p q : Past) (e : Entry) → (h : HasMore x g bytes p q) → Fed g p h.later (q ▸ e) → names (world (q ▸ e)) x ≡ thing.File g → ((world (q ▸ e)).files g).bytes ≡ ((world q).files g).bytes → HasMore x g bytes p (q ▸ e)
 more_same x g bytes p q e h fed named same = record { later = h.later; fed = fed; has = record { named = named; bytes_are = same ∙ h.has.bytes_are } }

@@ -1,5 +1,5 @@
 -- The rotation of a numbered family is one.
-use Rattle.std.proofs.Common.{◌≡◌, inl, inr, ℕ, suc, ◌+◌, ◌<◌, ◌==◌, Bool, true, false, not, ◌&&◌, ◌||◌, bytes_eq, cond, eqb-true, eq-eqb, refl, sym, ◌∙◌, ap, subst, append_assoc, arith, List, [], ◌∷◌, ◌++◌, map, reverse, Option, Some, None}
+use Rattle.std.proofs.Common.{◌≡◌, inl, inr, ℕ, suc, ◌+◌, ◌<◌, ◌==◌, Bool, true, false, not, ◌&&◌, ◌||◌, bytes_eq, cond, eqb-true, eq-eqb, refl, sym, ◌∙◌, ap, subst, append_assoc, arith, List, [], ◌∷◌, ◌++◌, map, reverse, None}
 use Rattle.std.specs.Prelude.{All, Contains}
 use Rattle.std.specs.List.Sorted.{IsStrictlyIncreasing}
 use Rattle.std.proofs.lemmas.Bool.Decides.{nat_tests}
@@ -9,7 +9,6 @@ use Rattle.std.proofs.lemmas.Slice.Eq.{bytes_eq-Decides}
 use Rattle.lr_rules.specs.declared.path.Path.{Path}
 use Rattle.lr_rules.specs.declared.rule.Count.{Count}
 use Rattle.lr_rules.specs.declared.rule.Count.TheVariants as count
-use Rattle.lr_rules.specs.declared.rule.Format.{Format}
 use Rattle.lr_rules.specs.declared.rule.Naming.{Naming}
 use Rattle.lr_rules.proofs.Bools.{not_both}
 use Rattle.lr_host.specs.declared.thing.Thing.{Thing}
@@ -34,7 +33,7 @@ use Rattle.lr_family.proofs.Numbers.{Every, every_from, every_filter}
 use Rattle.lr_family.proofs.Paths.{places_apart}
 use Rattle.lr_chain.specs.declared.ready.Move.{Move}
 use Rattle.lr_chain.specs.Ready.{move_step, move_from}
-use Rattle.lr_chain.specs.Rotation.{places_of, is_left, leftovers, kept, retired, unlink_at, move_at, leftover_steps, shift_steps, retire_steps, rotation}
+use Rattle.lr_chain.specs.Rotation.{places_of, is_left, leftovers, kept, retired, unlink_at, leftover_steps, shift_steps, retire_steps, rotation}
 use Rattle.lr_chain.specs.Standing.{StandSo, AreGoing}
 use Rattle.lr_chain.specs.Turning.{turned, IsChainTurned}
 use Rattle.lr_chain.proofs.Bounds.{top_of}
@@ -43,11 +42,13 @@ use Rattle.lr_chain.proofs.Has.{has, has_filter, has_it, has_none, it_has}
 use Rattle.lr_chain.proofs.Kept.{kept_as}
 use Rattle.lr_chain.proofs.Retired.{every_retired, has_first, has_new}
 use Rattle.lr_chain.proofs.Turned.{family_turned}
+use Rattle.lr_chain.proofs.Whole.{moves}
 use Rattle.lr_laws_family.specs.Members.{IsNoMember, IsFamily, NoMemberHas, AreThere}
 use Rattle.lr_laws_family.specs.Numbered.{numbered, HasName, HaveNextNames}
 use Rattle.lr_laws_family.specs.Rotation.{Rotation, By, unlinks, rotation_steps, IsOfMembers}
 use Rattle.lr_laws_family.specs.Turned.{ComesFrom, unless, GoesTo, IsFamilyRotation}
 use Rattle.lr_laws_family.proofs.Picking.{named_all}
+use Rattle.lr_laws_family.proofs.Dates.{clash}
 
 -- ---- places with names
 
@@ -84,10 +85,6 @@ unlinks_are : (n : Naming) (ks : List ℕ) → unlinks (map (path_at n) ks) ≡ 
 unlinks_are n [] = refl
 unlinks_are n (k ∷ ks) = ap (λ es. unlink_at n k ∷ es) (unlinks_are n ks)
 
-moves_are : (n : Naming) (ks : List ℕ) → map move_step (map (move_from n) ks) ≡ map (move_at n) ks
-moves_are n [] = refl
-moves_are n (k ∷ ks) = ap (λ es. move_at n k ∷ es) (moves_are n ks)
-
 joined_so : (ls ss ts : List Entry) (e : Entry) → (ls ++ ss) ++ e ∷ ts ≡ ls ++ ((ss ++ e ∷ []) ++ ts)
 joined_so ls ss ts e = append_assoc ls ss (e ∷ ts) ∙ ap (λ xs. ls ++ xs) (sym (append_assoc ss (e ∷ []) ts))
 
@@ -95,9 +92,6 @@ both_are : (a a' b b' d d' : List Entry) (e : Entry) → a ≡ a' → b ≡ b' �
 both_are a a' b b' d d' e p q r = ap (λ xs. (xs ++ b) ++ e ∷ d) p ∙ (ap (λ xs. (a' ++ xs) ++ e ∷ d) q ∙ ap (λ xs. (a' ++ b') ++ e ∷ xs) r)
 
 -- ---- members by their numbers
-
-clash : (d : Option Format) (f : Format) → d ≡ None → d ≡ Some f → ⊥
-clash d f a b = cc
 
 module _ (n : Naming) (none : n.dated ≡ None) where
   pub own_at : (k : ℕ) → HasName n k → IsMember n (path_at n k)
@@ -198,7 +192,7 @@ module _ (n : Naming) (c : Count) (from : List ℕ) (members : List Member) (log
 
   pub steps_are : rotation_steps (numbered n c from members log source by) ≡ rotation n c source (places_of members) from
   steps_are = both_are (unlinks r.early) (leftover_steps n c places) (map move_step r.moves) (shift_steps n c places) (unlinks r.gone) (retire_steps n c from) (Renames source (path_at n 0))
-      (unlinks_are n (leftovers c places)) (moves_are n (kept c places)) (unlinks_are n (retired c from))
+      (unlinks_are n (leftovers c places)) (moves n (kept c places)) (unlinks_are n (retired c from))
       ∙ joined_so (leftover_steps n c places) (shift_steps n c places) (retire_steps n c from) (Renames source (path_at n 0))
 
   kin : IsKin source n

@@ -11,38 +11,23 @@ use Rattle.lr_rules.specs.declared.civil.Civil.{Civil}
 use Rattle.lr_rules.specs.declared.civil.Moment.{Moment}
 use Rattle.lr_rules.specs.declared.clock.Clock.{Clock}
 use Rattle.lr_rules.specs.Between.{civil_seconds}
-use Rattle.lr_rules.specs.Civil.{IsMoment}
 use Rattle.lr_due.specs.declared.zone.ZoneText.{ZoneText}
 use Rattle.lr_due.specs.Zone.{IsZoneOf, ShowsAt, IsDayBefore, IsClockIn}
+use Rattle.lr_state.proofs.Lines.{valid-same, make, IsValid, Fields}
 use Rattle.lr_laws_fixed.proofs.Zones.{offsets_same}
 
 -- ---- civil moments
-
--- the parts of a moment
-abbrev Fields : Type 0
-Fields = ℤ × ℕ × ℕ × ℕ × ℕ × ℕ
-
-abbrev IsValid : Fields → Type 0
-IsValid f = IsMoment f.0 f.1 f.2 f.3 f.4 f.5
 
 -- those of this one
 abbrev fields_of : Civil → Fields
 fields_of c = (c.year, c.month, c.day, c.hour, c.minute, c.second)
 
--- the moment with these
-abbrev with_fields : (f : Fields) → IsValid f → Civil
-with_fields f v = record { year = f.0; month = f.1; day = f.2; hour = f.3; minute = f.4; second = f.5; valid = v }
-
--- that they are parts of a moment is known in one way alone
-valid_same : (f : Fields) (v w : IsValid f) → v ≡ w
-valid_same f v w = let prop : IsProp (IsValid f) = hlevel props in prop v w
-
 -- moments with the same parts are one
 parts_same : (a b : Civil) → fields_of a ≡ fields_of b → a ≡ b
 parts_same a b e = go (fields_of a) (fields_of b) e a.valid b.valid
   where
-    go : (f g : Fields) → f ≡ g → (v : IsValid f) (w : IsValid g) → with_fields f v ≡ with_fields g w
-    go f g h v = subst (λ (k : Fields). (u : IsValid k) → with_fields f v ≡ with_fields k u) h (λ u. ap (with_fields f) (valid_same f v u))
+    go : (f g : Fields) → f ≡ g → (v : IsValid f) (w : IsValid g) → make f v ≡ make g w
+    go f g h v = subst (λ (k : Fields). (u : IsValid k) → make f v ≡ make k u) h (λ u. ap (make f) (valid-same f v u))
 
 -- the day of a moment
 abbrev date_of : Civil → Date

@@ -13,6 +13,7 @@ use Rattle.lr_family.specs.declared.listing.Listing.{Listing}
 use Rattle.lr_family.specs.Listed.{ShowsListing, ShowsNoDir}
 use Rattle.lr_kept.proofs.Elements.{read_push_cases}
 use Rattle.lr_looks.specs.Families.{WasListed, WasNotListed}
+use Rattle.lr_looks.proofs.Known.{none_listed}
 use Rattle.lr_laws_plan.proofs.FamiliesListOnce.{listed_last, listed_more}
 use Rattle.lr_laws_fixed.proofs.Peeled.{then_same, joined_same, OneLook, one_look, dir_or_not, dir_or_nothing, not_or_nothing}
 
@@ -99,10 +100,6 @@ pub record KnownAlike (known others : List Listing) : Type 0 where
   pub forth : (dir : Path) (l : Listing) → WasListed known dir l → (m : Listing) × WasListed others dir m
   pub back : (dir : Path) (m : Listing) → WasListed others dir m → (l : Listing) × WasListed known dir l
   pub same : (dir : Path) (l m : Listing) → WasListed known dir l → WasListed others dir m → AreSame l m
-
--- no directory is listed among none
-none_listed : (dir : Path) (l : Listing) → WasListed [] dir l → ⊥
-none_listed dir l w = absurd (cc w.there)
 
 -- none are known in both
 pub none_alike : KnownAlike [] []

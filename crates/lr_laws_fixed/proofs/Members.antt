@@ -24,14 +24,11 @@ use Rattle.lr_family.specs.Looks.{MemberSight, spot_look, member_of, AreFilesOrG
 use Rattle.lr_family.specs.Places.{IsPlaceOf}
 use Rattle.lr_family.specs.Spots.{HasPath, AreSpots}
 use Rattle.lr_family.specs.Stands.{AreNewestFirst}
-use Rattle.lr_family.proofs.Newness.{by_newness_total}
+use Rattle.lr_family.proofs.Newness.{by_newness_total, spots_of}
 use Rattle.lr_family.proofs.Placed.{one_place}
 use Rattle.lr_family.proofs.Rising.{total, spots_more}
 use Rattle.lr_laws_fixed.proofs.Peeled.{file_or_not}
 use Rattle.lr_laws_fixed.proofs.Rising.{same_strict}
-
-abbrev spots_of : List MemberSight → List Spot
-spots_of gs = map (λ (g : MemberSight). g.spot) gs
 
 -- ---- the members among names
 

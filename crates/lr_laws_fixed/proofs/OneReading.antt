@@ -22,19 +22,14 @@ use Rattle.lr_host.specs.Counted.{calls_in}
 use Rattle.lr_host.proofs.Fronts.{front_same, saw_same, names_same}
 use Rattle.lr_include.specs.Allowed.{failed_read, failed_visit, failed_in}
 use Rattle.lr_include.specs.Stages.{Stage, settled_stage, visited, at_visits, is_shallow, room_for, ShowsNext, ShowsVisits, begun, visits_mean, Reads}
-use Rattle.lr_include.proofs.Calls.{calls_are_failed}
+use Rattle.lr_include.proofs.Calls.{calls_are_failed, failed_first, failed_one}
 use Rattle.lr_laws_looks.proofs.OneOrder.{one_order}
+use Rattle.lr_laws_looks.proofs.OneWord.{AreOne}
 
 -- ---- entries, taken apart from the front
 
--- Of two parts at the front of the same entries: what they gave, the entries, and what comes behind.
-record AreOne (A : Type 0) (a b : A) (ts us vs ws : List Entry) : Type 0 where
-  gave : a ≡ b
-  left : ts ≡ us
-  behind : vs ≡ ws
-
 none_one : {A : Type 0} (a b c : A) (ts us vs ws : List Entry) → a ≡ c → b ≡ c → ts ≡ [] → us ≡ [] → ts ++ vs ≡ us ++ ws → AreOne A a b ts us vs ws
-none_one a b c ts us vs ws p q r s e = record { gave = p ∙ sym q; left = r ∙ sym s; behind = front_same ts us [] [] vs ws r s e }
+none_one a b c ts us vs ws p q r s e = record { came = p ∙ sym q; left = r ∙ sym s; behind = front_same ts us [] [] vs ws r s e }
 
 -- ---- reads
 
@@ -63,7 +58,7 @@ bytes_both x room a b m n h k ts us vs ws r s f g e =
     let how = how_one x room r.bytes s.bytes h k ts us bytes r.reads s.reads f g in
     let told : a ≡ b = r.told_are ∙ (ap (λ (bs : List ℕ). told_by room bs h) bytes ∙ (ap (told_by room s.bytes) how ∙ sym s.told_are)) in
     let size : m ≡ n = r.size_is ∙ (ap (λ (bs : List ℕ). length bs) bytes ∙ sym s.size_is) in
-    record { gave = ap (λ (y : List Told). visit.Reads y m h) told ∙ (ap (λ (y : ℕ). visit.Reads b y h) size ∙ ap (visit.Reads b n) how); left = reads.0; behind = reads.1 }
+    record { came = ap (λ (y : List Told). visit.Reads y m h) told ∙ (ap (λ (y : ℕ). visit.Reads b y h) size ∙ ap (visit.Reads b n) how); left = reads.0; behind = reads.1 }
 
 bytes_one : (x : Path) (room : ℕ) (v w : Visit) (ts us vs ws : List Entry) → ShowsBytes x room v ts → ShowsBytes x room w us → failed_visit v ≡ 0 → failed_visit w ≡ 0 → ts ++ vs ≡ us ++ ws → AreOne Visit v w ts us vs ws
 bytes_one x room (visit.Reads a m h) (visit.Reads b n k) ts us vs ws r s f g e = bytes_both x room a b m n h k ts us vs ws r s f g e
@@ -84,7 +79,7 @@ names_both x a b ts us vs ws r s e =
     let first = heads (entry.List x one.listed) (entry.List x other.listed) vs ws split in
     let listed = names_same x x one.listed other.listed first in
     let names = one_order one.listed a b (record { same = one.same; rising = r.0 }) (record { same = subst (λ (ns : List (List ℕ)). IsPermutation ns b) (sym listed) other.same; rising = s.0 }) in
-    record { gave = ap visit.Holds names; left = one.list ∙ (ap (λ y. y ∷ []) first ∙ sym other.list); behind = tails (entry.List x one.listed) (entry.List x other.listed) vs ws split }
+    record { came = ap visit.Holds names; left = one.list ∙ (ap (λ y. y ∷ []) first ∙ sym other.list); behind = tails (entry.List x one.listed) (entry.List x other.listed) vs ws split }
 
 names_one : (x : Path) (v w : Visit) (ts us vs ws : List Entry) → ShowsNames x v ts → ShowsNames x w us → failed_visit v ≡ 0 → failed_visit w ≡ 0 → ts ++ vs ≡ us ++ ws → AreOne Visit v w ts us vs ws
 names_one x (visit.Holds a) (visit.Holds b) ts us vs ws r s f g e = names_both x a b ts us vs ws r s e
@@ -169,17 +164,13 @@ visit_one x lists room v w ts us vs ws f g a b e =
     let rest = tails (entry.Look x one.seen) (entry.Look x other.seen) (one.back ++ vs) (other.back ++ ws) split in
     let saw = saw_same x x one.seen other.seen first in
     let same = behind_one x lists room v w one.seen one.back other.back vs ws f g one.shown (subst (λ (s : Option Seen). Behind x lists room w s other.back) (sym saw) other.shown) rest in
-    record { gave = same.gave; left = one.are ∙ (ap (λ y. y ∷ one.back) first ∙ (ap (λ ys. entry.Look x other.seen ∷ ys) same.left ∙ sym other.are)); behind = same.behind }
+    record { came = same.came; left = one.are ∙ (ap (λ y. y ∷ one.back) first ∙ (ap (λ ys. entry.Look x other.seen ∷ ys) same.left ∙ sym other.are)); behind = same.behind }
 
 -- ---- the next visit
 
-abbrev failed_one : Option Visit → ℕ
-failed_one None = 0
-failed_one (Some v) = failed_visit v
-
 next_one : (s : Stage) (todo : List Task) (v w : Option Visit) (ts us vs ws : List Entry) → failed_one v ≡ 0 → failed_one w ≡ 0 → ShowsNext s todo v ts → ShowsNext s todo w us → ts ++ vs ≡ us ++ ws → AreOne (Option Visit) v w ts us vs ws
-next_one s (task.Ask a ∷ todo) (Some v) (Some w) ts us vs ws f g h k e = let one = visit_one a.path (is_shallow s) (room_for s) v w ts us vs ws f g h k e in record { gave = ap Some one.gave; left = one.left; behind = one.behind }
-next_one s (task.Name a ∷ todo) (Some v) (Some w) ts us vs ws f g h k e = let one = visit_one a.path false (room_for s) v w ts us vs ws f g h.1 k.1 e in record { gave = ap Some one.gave; left = one.left; behind = one.behind }
+next_one s (task.Ask a ∷ todo) (Some v) (Some w) ts us vs ws f g h k e = let one = visit_one a.path (is_shallow s) (room_for s) v w ts us vs ws f g h k e in record { came = ap Some one.came; left = one.left; behind = one.behind }
+next_one s (task.Name a ∷ todo) (Some v) (Some w) ts us vs ws f g h k e = let one = visit_one a.path false (room_for s) v w ts us vs ws f g h.1 k.1 e in record { came = ap Some one.came; left = one.left; behind = one.behind }
 next_one s (task.Name a ∷ todo) (Some v) None ts us vs ws f g h k e = absurd (h.0 k.0)
 next_one s (task.Name a ∷ todo) None (Some w) ts us vs ws f g h k e = absurd (k.0 h.0)
 next_one s (task.Name a ∷ todo) None None ts us vs ws f g h k e = none_one None None None ts us vs ws refl refl h.1 k.1 e
@@ -192,10 +183,6 @@ no_next : (s : Stage) (todo : List Task) (v : Option Visit) (ts : List Entry) �
 no_next s todo v ts e h = subst (λ (t : List Task). ShowsNext s t v ts) e h
 
 -- ---- all visits
-
-failed_first : (v : Option Visit) (vs : List (Option Visit)) → failed_in (v ∷ vs) ≡ failed_one v + failed_in vs
-failed_first None vs = omega arith
-failed_first (Some v) vs = refl
 
 visits_one : (s : Stage) (xs ys : List (Option Visit)) (ts us vs ws : List Entry) → (at_visits s xs).todo ≡ [] → (at_visits s ys).todo ≡ [] → failed_in xs ≡ 0 → failed_in ys ≡ 0
     → ShowsVisits s xs ts → ShowsVisits s ys us → ts ++ vs ≡ us ++ ws → AreOne (List (Option Visit)) xs ys ts us vs ws
@@ -210,10 +197,10 @@ visits_one s (x ∷ xs) (y ∷ ys) ts us vs ws m n f g h k e =
     let split = front_same ts us (h.front ++ h.back) (k.front ++ k.back) vs ws h.joined k.joined e in
     let one = next_one (settled_stage s) (settled_stage s).todo x y h.front k.front (h.back ++ vs) (k.back ++ ws) (omega (arith, a, f)) (omega (arith, b, g)) h.first k.first
     (sym (append_assoc h.front h.back vs) ∙ (split ∙ append_assoc k.front k.back ws)) in
-    let more = visits_one (visited (settled_stage s) x) xs ys h.back k.back vs ws m (subst (λ (v : Option Visit). (at_visits (visited (settled_stage s) v) ys).todo ≡ []) (sym one.gave) n) fx gy h.second
-    (subst (λ (v : Option Visit). ShowsVisits (visited (settled_stage s) v) ys k.back) (sym one.gave) k.second) one.behind in
+    let more = visits_one (visited (settled_stage s) x) xs ys h.back k.back vs ws m (subst (λ (v : Option Visit). (at_visits (visited (settled_stage s) v) ys).todo ≡ []) (sym one.came) n) fx gy h.second
+    (subst (λ (v : Option Visit). ShowsVisits (visited (settled_stage s) v) ys k.back) (sym one.came) k.second) one.behind in
     record {
-      gave = ap (λ v. v ∷ xs) one.gave ∙ ap (λ l. y ∷ l) more.gave;
+      came = ap (λ v. v ∷ xs) one.came ∙ ap (λ l. y ∷ l) more.came;
       left = h.joined ∙ (ap (λ es. es ++ h.back) one.left ∙ (ap (λ es. k.front ++ es) more.left ∙ sym k.joined));
       behind = more.behind;
     }
@@ -224,4 +211,4 @@ readings_one paths m n ts us vs ws r s f g e =
     let a = calls_are_failed paths m ts r in
     let b = calls_are_failed paths n us s in
     let one = visits_one (begun paths) r.visits s.visits ts us vs ws r.all s.all (omega (arith, a, f)) (omega (arith, b, g)) r.shown s.shown e in
-    (r.means ∙ (ap (visits_mean paths) one.gave ∙ sym s.means), one.left, one.behind)
+    (r.means ∙ (ap (visits_mean paths) one.came ∙ sym s.means), one.left, one.behind)

@@ -1,5 +1,5 @@
 -- The looks at the part files among names show one thing alone.
-use Rattle.std.proofs.Common.{◌≡◌, inl, inr, ℕ, List, [], ◌∷◌, ◌++◌, map, Option, refl, sym, ap, ◌∙◌}
+use Rattle.std.proofs.Common.{◌≡◌, inl, inr, ℕ, List, [], ◌∷◌, ◌++◌, map, refl, sym, ap, ◌∙◌}
 use Rattle.std.specs.Prelude.{Contains, flat_map}
 use Rattle.std.specs.List.Sorted.{IsPermutation}
 use Rattle.std.proofs.lemmas.Cmp.{nat_list_cmp_total}
@@ -8,7 +8,6 @@ use Rattle.std.proofs.lemmas.Map.Lookups.{exact_bytes}
 use Rattle.lr_rules.specs.declared.path.Path.{Path}
 use Rattle.lr_rules.specs.declared.rule.Naming.{Naming}
 use Rattle.lr_rules.proofs.Heads.{heads, tails}
-use Rattle.lr_host.specs.declared.thing.Seen.{Seen}
 use Rattle.lr_host.specs.declared.entry.Entry.{Entry}
 use Rattle.lr_host.specs.Looks.{PathSight, look_of}
 use Rattle.lr_host.proofs.Fronts.{front_same, saw_same}
@@ -16,6 +15,7 @@ use Rattle.lr_family.specs.declared.stand.StandStop.TheVariants as stop
 use Rattle.lr_family.specs.Among.{StopsBehind}
 use Rattle.lr_family.specs.Parts.{IsPartAmong, AreParts, part_in, PartsAmong, StopsBefore, ShowsNoParts}
 use Rattle.lr_family.proofs.Ordered.{same_rising}
+use Rattle.lr_laws_looks.proofs.OneWord.{sight_same}
 
 -- ---- part files among names
 
@@ -34,9 +34,6 @@ parts_fixed n names more xs ys perm a b = same_rising nat_list_cmp_total exact_b
 
 abbrev paths_of : List PathSight → List Path
 paths_of sights = map (λ (s : PathSight). s.path) sights
-
-sight_same : (a b : PathSight) → a.path ≡ b.path → a.seen ≡ b.seen → a ≡ b
-sight_same a b p q = ap {B = PathSight} (λ (x : Path). record { path = x; seen = a.seen }) p ∙ ap {B = PathSight} (λ (o : Option Seen). record { path = b.path; seen = o }) q
 
 head_path : (x y : Path) (xs ys : List Path) → x ∷ xs ≡ y ∷ ys → x ≡ y
 head_path x y xs ys e = cc

@@ -40,6 +40,7 @@ use Rattle.lr_clock.specs.Clock.{ShowsClock, LacksClock, out_of_range, no_text, 
 use Rattle.lr_cli.specs.Asked.{AskFor}
 use Rattle.lr_clock.specs.Zone.{IsNotFile, ShowsZone, GivesBytes, LacksText, not_file, too_big, look_failed, read_failed}
 use Rattle.lr_run.proofs.Called.{none_before, none_behind}
+use Rattle.lr_cli.proofs.Result.{same_report}
 use Rattle.lr_laws_fixed.proofs.Called.{one_called, one_uncalled, no_call}
 use Rattle.lr_laws_fixed.proofs.Peeled.{then_same, joined_same, one_look}
 use Rattle.lr_laws_fixed.proofs.Clocks.{one_clock}
@@ -216,12 +217,8 @@ clock_one zone seconds f g ts (refused text range e r s) (refused other there h 
 abbrev alone : Fault → Report
 alone f = record { notices = []; faults = f ∷ [] }
 
--- the same outcome has the same report
-report_same : (a b : Report) → Done a ≡ Done b → a ≡ b
-report_same a b e = cc
-
 alone_faults : (a : Report) (f : Fault) → Done a ≡ Done (alone f) → a.faults ≡ f ∷ []
-alone_faults a f e = ap (λ (r : Report). r.faults) (report_same a (alone f) e)
+alone_faults a f e = ap (λ (r : Report). r.faults) (same_report a (alone f) e)
 
 both_same : (a b : Report) → a ≡ b → (a.notices ≡ b.notices) × (a.faults ≡ b.faults)
 both_same a b e = (ap (λ (r : Report). r.notices) e, ap (λ (r : Report). r.faults) e)
@@ -244,7 +241,7 @@ at_one request dry zone seconds plan another one other ts (no_memory lost e none
 at_one request dry zone seconds plan another one other ts (no_clock f lost e l) (no_memory gone h none) c d = absurd (cc)
 at_one request dry zone seconds plan another one other ts (no_clock f lost e l) (no_clock g gone h m) c d =
     let same = clock_one zone seconds f g ts l m (one_uncalled one.faults f (alone_faults one f e) c) (one_uncalled other.faults g (alone_faults other g h) d) in
-    both_same one other (report_same one (alone f) e ∙ (ap alone same ∙ sym (report_same other (alone g) h)))
+    both_same one other (same_report one (alone f) e ∙ (ap alone same ∙ sym (same_report other (alone g) h)))
 at_one request dry zone seconds plan another one other ts (no_clock f lost e l) (called clock t) c d = absurd (clocked_or_not request dry zone seconds clock another other.notices other.faults f ts t d l (one_uncalled one.faults f (alone_faults one f e) c))
 at_one request dry zone seconds plan another one other ts (called clock t) (no_memory gone h none) c d = absurd (cc)
 at_one request dry zone seconds plan another one other ts (called clock t) (no_clock g gone h m) c d = absurd (clocked_or_not request dry zone seconds clock plan one.notices one.faults g ts t c m (one_uncalled other.faults g (alone_faults other g h) d))

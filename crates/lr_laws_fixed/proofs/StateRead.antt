@@ -15,7 +15,7 @@ use Rattle.lr_state.specs.declared.look.LookStop.{LookStop}
 use Rattle.lr_state.specs.Known.{Known, IsKnownBy, IsKnownBehind, IsKnownOf, IsKnown, text_read}
 use Rattle.lr_state.specs.ReadPieces.{Reading, Whole, Broken, AreSome, IsLast, IsReading, bytes_of, reads_from}
 use Rattle.lr_state.specs.Sights.{StateSight, Failed, Nothing, Saw, StateSights, ShowsState, found, state_look, text_entries, behind_part, part_entries, behind_state, state_entries}
-use Rattle.lr_state.proofs.One.{one_answer}
+use Rattle.lr_state.proofs.One.{one_answer, SameLook, same_look}
 
 -- it isn't a failed call by which nothing is known
 abbrev pub NoCall : Known → Type 0
@@ -33,22 +33,8 @@ pub record OnePart (ts us vs ws : List Entry) : Type 0 where
 
 -- ---- one look
 
--- What two looks at a path have in common, and what follows them.
-record SameSight (a b : StateSight) (vs ws : List Entry) : Type 0 where
-  sight_is : a ≡ b
-  rest_is : vs ≡ ws
-
-same_sight : (path : Path) (a b : StateSight) (vs ws : List Entry) → (a ≡ Failed → ⊥) → (b ≡ Failed → ⊥) → state_look path a ++ vs ≡ state_look path b ++ ws → SameSight a b vs ws
-same_sight path Failed b vs ws f g e = absurd (f refl)
-same_sight path Nothing Failed vs ws f g e = absurd (g refl)
-same_sight path (Saw s) Failed vs ws f g e = absurd (g refl)
-same_sight path Nothing Nothing vs ws f g e = record { sight_is = refl; rest_is = tails (entry.Look path None) (entry.Look path None) vs ws e }
-same_sight path Nothing (Saw t) vs ws f g e = absurd (let seen = saw_same path path None (Some t) (heads (entry.Look path None) (entry.Look path (Some t)) vs ws e) in cc)
-same_sight path (Saw s) Nothing vs ws f g e = absurd (let seen = saw_same path path (Some s) None (heads (entry.Look path (Some s)) (entry.Look path None) vs ws e) in cc)
-same_sight path (Saw s) (Saw t) vs ws f g e = record {
-  sight_is = ap Saw (same_Some s t (saw_same path path (Some s) (Some t) (heads (entry.Look path (Some s)) (entry.Look path (Some t)) vs ws e)));
-  rest_is = tails (entry.Look path (Some s)) (entry.Look path (Some t)) vs ws e;
-}
+same_sight : (path : Path) (a b : StateSight) (vs ws : List Entry) → (a ≡ Failed → ⊥) → (b ≡ Failed → ⊥) → state_look path a ++ vs ≡ state_look path b ++ ws → SameLook a b vs ws
+same_sight path a b vs ws f g e = same_look path a b vs ws (λ i. absurd (f i)) (λ i. absurd (g i)) e
 
 -- ---- one text
 
@@ -140,15 +126,15 @@ part_looked state there (Saw seen) r k x c e = cc
 
 part_one : (state : Path) (size : ℕ) (there : Bool) (p q : StateSight) (r s : Reading) (k l : Known) (vs ws : List Entry) → IsReading size r → IsReading size s → IsKnownBehind state there (found p) r k → IsKnownBehind state there (found q) s l → NoCall k → NoCall l
     → part_entries state there p r ++ vs ≡ part_entries state there q s ++ ws → OnePart (part_entries state there p r) (part_entries state there q s) vs ws
-part_one state size there p q r s k l vs ws h g x y c d e = record { entries_are = ap (λ (f : StateSight). part_entries state there f r) look.sight_is ∙ ap (λ us. state_look (state_part state) q ++ us) rest.entries_are; rest_is = rest.rest_is }
+part_one state size there p q r s k l vs ws h g x y c d e = record { entries_are = ap (λ (f : StateSight). part_entries state there f r) look.sight ∙ ap (λ us. state_look (state_part state) q ++ us) rest.entries_are; rest_is = rest.rest_is }
   where
-    look : SameSight p q (behind_part state there (found p) r ++ vs) (behind_part state there (found q) s ++ ws)
+    look : SameLook p q (behind_part state there (found p) r ++ vs) (behind_part state there (found q) s ++ ws)
     look = same_sight (state_part state) p q (behind_part state there (found p) r ++ vs) (behind_part state there (found q) s ++ ws) (part_looked state there p r k x c) (part_looked state there q s l y d)
         (sym (append_assoc (state_look (state_part state) p) (behind_part state there (found p) r) vs) ∙ (e ∙ append_assoc (state_look (state_part state) q) (behind_part state there (found q) s) ws))
 
     rest : OnePart (behind_part state there (found q) r) (behind_part state there (found q) s) vs ws
-    rest = behind_one state size there (found q) r s k l vs ws h g (subst (λ (f : StateSight). IsKnownBehind state there (found f) r k) look.sight_is x) y c d
-        (subst (λ (f : StateSight). behind_part state there (found f) r ++ vs ≡ behind_part state there (found q) s ++ ws) look.sight_is look.rest_is)
+    rest = behind_one state size there (found q) r s k l vs ws h g (subst (λ (f : StateSight). IsKnownBehind state there (found f) r k) look.sight x) y c d
+        (subst (λ (f : StateSight). behind_part state there (found f) r ++ vs ≡ behind_part state there (found q) s ++ ws) look.sight look.rest)
 
 of_one : (state : Path) (size : ℕ) (f : Result Bool LookStop) (p q : StateSight) (r s : Reading) (k l : Known) (vs ws : List Entry) → IsReading size r → IsReading size s → IsKnownOf state f (found p) r k → IsKnownOf state f (found q) s l → NoCall k → NoCall l
     → behind_state state f p r ++ vs ≡ behind_state state f q s ++ ws → OnePart (behind_state state f p r) (behind_state state f q s) vs ws
@@ -164,15 +150,15 @@ state_looked state (Saw seen) p r k x c e = cc
 entries_one : (state : Path) (size : ℕ) (a b : StateSights) (k l : Known) (vs ws : List Entry) → IsReading size a.reading → IsReading size b.reading → IsKnown state a k → IsKnown state b l → NoCall k → NoCall l
     → state_entries state a ++ vs ≡ state_entries state b ++ ws → OnePart (state_entries state a) (state_entries state b) vs ws
 entries_one state size a b k l vs ws h g x y c d e =
-    record { entries_are = ap (λ (f : StateSight). state_look state f ++ behind_state state (found f) a.part a.reading) look.sight_is ∙ ap (λ us. state_look state b.state ++ us) rest.entries_are; rest_is = rest.rest_is }
+    record { entries_are = ap (λ (f : StateSight). state_look state f ++ behind_state state (found f) a.part a.reading) look.sight ∙ ap (λ us. state_look state b.state ++ us) rest.entries_are; rest_is = rest.rest_is }
   where
-    look : SameSight a.state b.state (behind_state state (found a.state) a.part a.reading ++ vs) (behind_state state (found b.state) b.part b.reading ++ ws)
+    look : SameLook a.state b.state (behind_state state (found a.state) a.part a.reading ++ vs) (behind_state state (found b.state) b.part b.reading ++ ws)
     look = same_sight state a.state b.state (behind_state state (found a.state) a.part a.reading ++ vs) (behind_state state (found b.state) b.part b.reading ++ ws) (state_looked state a.state (found a.part) a.reading k x c) (state_looked state b.state (found b.part) b.reading l y d)
         (sym (append_assoc (state_look state a.state) (behind_state state (found a.state) a.part a.reading) vs) ∙ (e ∙ append_assoc (state_look state b.state) (behind_state state (found b.state) b.part b.reading) ws))
 
     rest : OnePart (behind_state state (found b.state) a.part a.reading) (behind_state state (found b.state) b.part b.reading) vs ws
-    rest = of_one state size (found b.state) a.part b.part a.reading b.reading k l vs ws h g (subst (λ (f : StateSight). IsKnownOf state (found f) (found a.part) a.reading k) look.sight_is x) y c d
-        (subst (λ (f : StateSight). behind_state state (found f) a.part a.reading ++ vs ≡ behind_state state (found b.state) b.part b.reading ++ ws) look.sight_is look.rest_is)
+    rest = of_one state size (found b.state) a.part b.part a.reading b.reading k l vs ws h g (subst (λ (f : StateSight). IsKnownOf state (found f) (found a.part) a.reading k) look.sight x) y c d
+        (subst (λ (f : StateSight). behind_state state (found f) a.part a.reading ++ vs ≡ behind_state state (found b.state) b.part b.reading ++ ws) look.sight look.rest)
 
 -- What two readings of the state that begin the same entries have in common.
 pub record OneState (k l : Known) (vs ws : List Entry) : Type 0 where

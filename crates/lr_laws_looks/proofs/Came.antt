@@ -22,6 +22,7 @@ use Rattle.lr_glob.specs.declared.found.Found.{Found}
 use Rattle.lr_glob.specs.Words.{Comes}
 use Rattle.lr_glob.proofs.OnlyLooks.{comes_looks}
 use Rattle.lr_glob.proofs.Seeking.{found_were_seen}
+use Rattle.lr_laws.proofs.Lists.{prefix_on}
 use Rattle.lr_laws_looks.specs.Finds.{IsAttachedBetween, StoodOrCame}
 
 -- ---- prefixes
@@ -30,10 +31,6 @@ pub quiet_prefix : (p q : Past) → Quiet IsAny p q → IsPrefix p q
 quiet_prefix p _ here = whole
 quiet_prefix p _ (wrote {q = q} w i f only) = shorter (quiet_prefix p q w)
 quiet_prefix p _ (looked {q = q} w i f h) = shorter (quiet_prefix p q w)
-
-prefix_on : (p q r : Past) → IsPrefix p q → IsPrefix q r → IsPrefix p r
-prefix_on p q _ a whole = a
-prefix_on p q _ a (shorter {q = r} b) = shorter (prefix_on p q r a b)
 
 later : (x : Path) (p q r : Past) → IsAttachedBetween x p q → IsPrefix q r → IsAttachedBetween x p r
 later x p q r a b = record { at = a.at; writer = a.writer; time = a.time; behind = a.behind; before = prefix_on (a.at ▸ entry.Attach a.writer x a.time) q r a.before b }

@@ -36,7 +36,7 @@ record IsOfOne (ts : List Target) (to_make : List Path) (path : Path) : Type 0 w
   is : (path ≡ target.log) ⊎ ((path ≡ target.ready.target) ⊎ IsItsDir target path)
 
 -- the directory that is made, if any
-from_made : (dir : Option (Path × Option ℕ)) (path : Path) → IsIn path (made_of dir) → (mode : Option ℕ) × (dir ≡ Some (path, mode))
+pub from_made : (dir : Option (Path × Option ℕ)) (path : Path) → IsIn path (made_of dir) → (mode : Option ℕ) × (dir ≡ Some (path, mode))
 from_made None path i = absurd i
 from_made (Some (x, mode)) path (inl same) = (mode, ap (λ (y : Path). Some (y, mode)) same)
 from_made (Some (x, mode)) path (inr none) = absurd none

@@ -41,7 +41,7 @@ use Rattle.lr_laws_looks.proofs.Sought.{WereSought, WasSought}
 use Rattle.lr_laws_looks.proofs.Words.{still_named}
 
 -- a file is seen as one
-file_seen : (w : World) (t : Thing) (g : ℕ) (o : Option Seen) → t ≡ thing.File g → Sees w t o → IsFile o
+pub file_seen : (w : World) (t : Thing) (g : ℕ) (o : Option Seen) → t ≡ thing.File g → Sees w t o → IsFile o
 file_seen w t g o is s = go o (subst (λ (u : Thing). Sees w u o) is s)
   where
     go : (o : Option Seen) → Sees w (thing.File g) o → IsFile o

@@ -35,22 +35,23 @@ place_in [] x h = absurd h
 place_in (y ∷ ys) x (inl e) = (0, ap (λ z. Some z) e)
 place_in (y ∷ ys) x (inr i) = let r = place_in ys x i in (suc r.0, r.1)
 
-abbrev pub HasNone : List Path → FoundLog → Type 0
-HasNone reserved f = (path : Path) → IsIn path reserved → IsName f.log.path f.log.naming path → ⊥
+-- none of the log's names is reserved
+abbrev pub IsFreeLog : List Path → FoundLog → Type 0
+IsFreeLog reserved f = (path : Path) → IsIn path reserved → IsName f.log.path f.log.naming path → ⊥
 
-abbrev Names : Path → (Path × Naming) → Type 0
-Names path n = IsName n.0 n.1 path
+abbrev pub HasPath : Path → (Path × Naming) → Type 0
+HasPath path n = IsName n.0 n.1 path
 
-pub kept_free : (reserved : List Path) (found : List FoundLog) (choices : List Choice) → IsChoiceAmong reserved found choices → AllByRecursion (HasNone reserved) (kept_of found choices)
-kept_free reserved found choices c = kept_each (HasNone reserved) found choices (λ k f at kept path i named.
+pub kept_free : (reserved : List Path) (found : List FoundLog) (choices : List Choice) → IsChoiceAmong reserved found choices → AllByRecursion (IsFreeLog reserved) (kept_of found choices)
+kept_free reserved found choices c = kept_each (IsFreeLog reserved) found choices (λ k f at kept path i named.
     let b : (b : Bor Family) × (slice_get c.logs k ≡ Some b) × (chosen_names b ≡ found_names f) = unmap_at chosen_names c.logs k (found_names f) (ap (λ (xs : List (Path × Naming)). slice_get xs k) c.same ∙ map_at found_names found k f at) in
     let p = place_in reserved path i in
-    (c.chosen.each k Kept kept).free p.0 (record { log = b.0; path = path; at_log = b.1; at_path = p.1; named = subst (Names path) (sym b.2) named }))
+    (c.chosen.each k Kept kept).free p.0 (record { log = b.0; path = path; at_log = b.1; at_path = p.1; named = subst (HasPath path) (sym b.2) named }))
 
 target_free : {reserved : List Path} (rules : List Rule) (sets : List SetLooks) (faults : List Fault) (ts : List Entry) (clock : Clock) (t : Target) → (s : ShowsLooks reserved rules sets faults ts) → Comes clock rules sets t → IsFreeOf reserved t
 target_free {reserved} rules sets faults ts clock t s c = subst (IsFreeOf reserved) (sym c.is) (λ path i named.
-    in_each (HasNone reserved) (kept_of s.found s.keeps.choices) f.0 (kept_free reserved s.found s.keeps.choices s.keeps.chosen) kept path i
-    (subst (Names path) (ap (λ (y : LookedLog). (y.path, y.naming)) f.2.1) named))
+    in_each (IsFreeLog reserved) (kept_of s.found s.keeps.choices) f.0 (kept_free reserved s.found s.keeps.choices s.keeps.chosen) kept path i
+    (subst (HasPath path) (ap (λ (y : LookedLog). (y.path, y.naming)) f.2.1) named))
   where
     x : LookedLog
     x = looked_in (0 + c.place) c.look

@@ -21,11 +21,11 @@ use Rattle.lr_laws_looks.specs.Targets.{all_targets}
 use Rattle.lr_laws_looks.proofs.Apart.{OffFound, kept_off}
 use Rattle.lr_laws_looks.proofs.Coming.{Comes, comes_from, was_looked, in_looked, in_files}
 use Rattle.lr_laws_looks.proofs.Elements.{in_each, pairs_two}
-use Rattle.lr_laws_looks.proofs.Free.{HasNone, kept_free}
+use Rattle.lr_laws_looks.proofs.Free.{IsFreeLog, kept_free}
 
 module _ {reserved : List Path} (rules : List Rule) (sets : List SetLooks) (faults : List Fault) (ts : List Entry) (s : ShowsLooks reserved rules sets faults ts) (f : FoundLog) (kept : IsIn f s.kept) where
-  pub kept_has_none : HasNone reserved f
-  kept_has_none = in_each (HasNone reserved) (kept_of s.found s.keeps.choices) f (kept_free reserved s.found s.keeps.choices s.keeps.chosen) (in_files (kept_of s.found s.keeps.choices) f (subst (IsIn f) s.keeps.left_are kept)).0
+  pub kept_has_none : IsFreeLog reserved f
+  kept_has_none = in_each (IsFreeLog reserved) (kept_of s.found s.keeps.choices) f (kept_free reserved s.found s.keeps.choices s.keeps.chosen) (in_files (kept_of s.found s.keeps.choices) f (subst (IsIn f) s.keeps.left_are kept)).0
 
   -- a log of the plan is one that was kept
   record IsKeptAs (t : Target) : Type 0 where

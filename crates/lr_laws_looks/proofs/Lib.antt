@@ -5,9 +5,9 @@ pub mod Aside
 pub mod Came
 pub mod Coming
 mod Directory
-mod Dirs
+pub mod Dirs
 pub mod Elements
-mod Families
+pub mod Families
 pub mod Free
 pub mod Gives
 pub mod Hindrances

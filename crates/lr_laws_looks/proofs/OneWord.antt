@@ -168,7 +168,7 @@ led_one parts dirs a b ts us vs ws g h e =
 
 -- ---- looks
 
-sight_same : (s t : PathSight) → s.path ≡ t.path → s.seen ≡ t.seen → s ≡ t
+pub sight_same : (s t : PathSight) → s.path ≡ t.path → s.seen ≡ t.seen → s ≡ t
 sight_same s t p q =
     let made : Path → Option Seen → PathSight = λ (x : Path) (y : Option Seen). record { path = x; seen = y } in
     ap (λ (x : Path). made x s.seen) p ∙ ap (λ (y : Option Seen). made t.path y) q

@@ -1,14 +1,14 @@
 -- The parts of a wildcard and those of a path that it matches, place by place.
-use Rattle.std.proofs.Common.{◌≡◌, ℕ, true, false, cond, List, [], ◌∷◌, ◌++◌, refl, sym, ap, ◌∙◌, subst}
+use Rattle.std.proofs.Common.{◌≡◌, ℕ, true, false, List, [], ◌∷◌, ◌++◌, refl, sym, ap, ◌∙◌, subst}
 use Rattle.std.specs.Prelude.{chars}
-use Rattle.std.specs.List.{list_any, slice_split, onto_first}
-use Rattle.std.proofs.lemmas.Bool.{or_parts}
+use Rattle.std.specs.List.{list_any, slice_split}
 use Rattle.std.proofs.lemmas.List.{append-nil}
 use Rattle.lr_rules.specs.Match.{Matches, PathMatches, is_wildcard}
 use Rattle.lr_rules.specs.Path.{is_slash, is_absolute}
 use Rattle.lr_rules.proofs.Cleaned.{ArePlain}
 use Rattle.lr_glob.specs.Parts.{parts_in}
 use Rattle.lr_glob.proofs.Names.{behind}
+use Rattle.lr_glob.proofs.Literals.{split_onto}
 
 -- each part matches the name at its place
 abbrev pub Pairs : List (List ℕ) → List (List ℕ) → Type 0
@@ -16,16 +16,10 @@ Pairs [] [] = Unit {0}
 Pairs (part ∷ parts) (name ∷ names) = (list_any is_slash part ≡ false) × Matches true (chars part) (chars name) × Pairs parts names
 Pairs _ _ = ⊥
 
-split_front : (bs xs q : List ℕ) (qs : List (List ℕ)) → list_any is_slash bs ≡ false → slice_split is_slash xs ≡ q ∷ qs → slice_split is_slash (bs ++ xs) ≡ (bs ++ q) ∷ qs
-split_front [] xs q qs plain e = e
-split_front (b ∷ bs) xs q qs plain e =
-    let p = or_parts (is_slash b) (list_any is_slash bs) plain in
-    ap (λ t. cond t ([] ∷ slice_split is_slash (bs ++ xs)) (onto_first b (slice_split is_slash (bs ++ xs)))) p.0 ∙ ap (onto_first b) (split_front bs xs q qs p.1 e)
-
 split_again : (p : List ℕ) (ps : List (List ℕ)) → ArePlain (p ∷ ps) → slice_split is_slash (p ++ behind ps) ≡ p ∷ ps
-split_again p [] a = split_front p [] [] [] a.0 refl ∙ ap (λ bs. bs ∷ []) (append-nil p)
+split_again p [] a = split_onto p [] [] [] a.0 refl ∙ ap (λ bs. bs ∷ []) (append-nil p)
 split_again p (q ∷ qs) a =
-    split_front p (47 ∷ q ++ behind qs) [] (slice_split is_slash (q ++ behind qs)) a.0 refl
+    split_onto p (47 ∷ q ++ behind qs) [] (slice_split is_slash (q ++ behind qs)) a.0 refl
     ∙ (ap (λ bs. bs ∷ slice_split is_slash (q ++ behind qs)) (append-nil p) ∙ ap (λ ps. p ∷ ps) (split_again q qs a.1))
 
 -- what a wildcard that matches a path is made of

@@ -4,7 +4,6 @@ use Rattle.std.specs.List.Sorted.{IsPermutation}
 use Rattle.lr_rules.specs.declared.path.Path.{Path}
 use Rattle.lr_rules.specs.declared.rule.Naming.{Naming}
 use Rattle.lr_rules.specs.Path.{parent_of}
-use Rattle.lr_host.specs.declared.thing.Kind.{Kind}
 use Rattle.lr_host.specs.declared.thing.Kind.TheVariants as kind
 use Rattle.lr_host.specs.declared.thing.Seen.{Seen}
 use Rattle.lr_host.specs.declared.entry.Entry.{Entry}
@@ -18,7 +17,8 @@ use Rattle.lr_family.specs.declared.listing.Listing.{Listing}
 use Rattle.lr_family.specs.declared.stand.Stand.{Stand}
 use Rattle.lr_family.specs.Among.{StandsAmong, ShowsMembers, ShowsIn}
 use Rattle.lr_family.specs.Listed.{ShowsListing}
-use Rattle.lr_family.specs.Parts.{part_if_file, part_seen, part_in, PartsAmong, ShowsParts}
+use Rattle.lr_family.specs.Parts.{part_in, PartsAmong, ShowsParts}
+use Rattle.lr_family.proofs.PartLooks.{one_seen}
 use Rattle.lr_looks.specs.Families.{FamilySight, Stood, Stopped, ShowsFamily, behind_listing, with_listing, not_listed, ShowFamilies, LookedLog, looked_by, looked_of}
 use Rattle.lr_looks.specs.Found.{FoundLog}
 use Rattle.lr_laws_family.specs.Shown.{SawDir, Shown}
@@ -191,21 +191,10 @@ all_told all fs after ss ts in_all h = families_told all [] fs after ss ts in_al
 abbrev pub SawFiles : List Path → List Entry → Type 0
 SawFiles paths ts = (x : Path) → IsIn x paths → (seen : Seen) × (seen.kind ≡ kind.File) × IsIn (entry.Look x (Some seen)) ts
 
--- a part file that stands is that of a sight
-part_of_sight : (path x : Path) (o : Option Seen) → IsIn x (part_seen path o) → (path ≡ x) × ((seen : Seen) × (seen.kind ≡ kind.File) × (o ≡ Some seen))
-part_of_sight path x None i = absurd i
-part_of_sight path x (Some seen) i = go seen.kind refl i
-  where
-    go : (k : Kind) → seen.kind ≡ k → IsIn x (part_if_file path k) → (path ≡ x) × ((s : Seen) × (s.kind ≡ kind.File) × (Some seen ≡ Some s))
-    go kind.File is (inl e) = (e, (seen, is, refl))
-    go kind.File is (inr none) = absurd none
-    go kind.Dir is none = absurd none
-    go kind.Other is none = absurd none
-
 parts_shown : (all : List Entry) (n : Naming) (names : List (List ℕ)) (parts : List Path) (ts : List Entry) → ((e : Entry) → IsIn e ts → IsIn e all) → PartsAmong n names parts ts → SawFiles parts all
 parts_shown all n names parts ts in_all p x i =
     let g = of_flat part_in p.sights x (subst (IsIn x) p.parts_are i) in
-    let s = part_of_sight g.0.path x g.0.seen g.2 in
+    let s = one_seen g.0.path x g.0.seen g.2 in
     let e : entry.Look g.0.path g.0.seen ≡ entry.Look x (Some s.1.0) = ap (λ (y : Path). entry.Look y g.0.seen) s.0 ∙ ap (entry.Look x) s.1.2 in (
       s.1.0,
       s.1.1,

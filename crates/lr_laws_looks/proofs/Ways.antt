@@ -9,6 +9,7 @@ use Rattle.lr_rules.specs.declared.path.Path.{Path}
 use Rattle.lr_rules.specs.Path.{path_fault, joined, parent_of, is_absolute, has_bad_byte, root}
 use Rattle.lr_rules.proofs.ParentPath.{parent_path}
 use Rattle.lr_rules.proofs.PathLemmas.{none_of, parent_front, joined_parts, last_start_is, empty_none}
+use Rattle.lr_rules.proofs.Splits.{Parts, some_parts, split_parts}
 use Rattle.lr_host.specs.declared.thing.Thing.{Thing}
 use Rattle.lr_host.specs.declared.thing.Thing.TheVariants as thing
 use Rattle.lr_host.specs.Fits.{IsFileAt, IsDirectoryAt, IsPart}
@@ -19,7 +20,7 @@ use Rattle.lr_host.proofs.Looked.{nothing_no_file, file_no_dir}
 use Rattle.lr_glob.specs.Parts.{parts_in}
 use Rattle.lr_glob.proofs.Levels.{IsAt, part_at}
 use Rattle.lr_glob.proofs.Literals.{parts_utf8}
-use Rattle.lr_glob.proofs.Names.{Parts, some_parts, split_parts, behind, under, AreParts, under_root, word_behind, word_parts}
+use Rattle.lr_glob.proofs.Names.{behind, under, AreParts, under_root, word_behind, word_parts}
 use Rattle.lr_laws.proofs.StandsIn.{stands_in}
 
 -- ---- what a path has

@@ -35,17 +35,13 @@ use Rattle.lr_laws_acts.specs.Fitting.{DontMeet}
 use Rattle.lr_laws_acts.specs.Planned.{IsReadyFor, AreReadyFor}
 use Rattle.lr_laws_rotations.proofs.Own.{own_paths}
 use Rattle.lr_laws_looks.proofs.Elements.{in_each}
+use Rattle.lr_laws_looks.proofs.Dirs.{from_made}
 use Rattle.lr_laws_plan.proofs.Making.{GivesNoFile, SawOther, other_back}
 use Rattle.lr_run.proofs.Members.{HasMembers, HaveMembers, part_own, meets_none}
 use Rattle.lr_run.proofs.Guarding.{IsOfOne}
 use Rattle.lr_laws_plan.proofs.Once.{each_ready}
 
 -- ---- whose they are
-
-of_ready : (dir : Option (Path × Option ℕ)) (x : Path) → IsIn x (made_of dir) → (mode : Option ℕ) × (dir ≡ Some (x, mode))
-of_ready None x i = absurd i
-of_ready (Some (path, mode)) x (inl same) = (mode, ap (λ (y : Path). Some (y, mode)) same)
-of_ready (Some (path, mode)) x (inr none) = absurd none
 
 -- each is that of one of the logs
 pub made_by_one : (ts : List Target) (sets : List SetPlan) (dir : Path) → AreReadyFor ts (flat_map (λ (set : SetPlan). set.logs) sets) → IsIn dir (all_to_make_of sets) → IsOfOne ts dir
@@ -59,7 +55,7 @@ made_by_one ts sets dir r i =
 
     of_log : (t : Target) (log : LogPlan) → IsIn t ts → IsReadyFor t log → G log
     of_log t log one ready j =
-        let d : (mode : Option ℕ) × (log.ready.dir ≡ Some (dir, mode)) = of_ready log.ready.dir dir j in
+        let d : (mode : Option ℕ) × (log.ready.dir ≡ Some (dir, mode)) = from_made log.ready.dir dir j in
         record { target = t; one = one; its = (d.0, sym (ap (λ (y : Ready). y.dir) ready.ready_is) ∙ d.1) }
 
 -- none of the logs has the path of the directory that one of them makes

@@ -25,9 +25,10 @@ use Rattle.lr_looks.specs.Families.{FamilySight, Stood, Stopped, ShowsNoAside, S
 use Rattle.lr_looks.specs.Found.{FoundLog, Hold}
 use Rattle.lr_laws_rotations.proofs.Outside.{place_name}
 use Rattle.lr_looks.specs.Reserved.{reserved_by}
+use Rattle.lr_laws_looks.proofs.Free.{IsFreeLog}
 use Rattle.lr_laws_plan.specs.Ending.{NoneEnds}
 use Rattle.lr_laws_plan.proofs.Ends.{none_both, IsLooking, looking_ends}
-use Rattle.lr_laws_plan.proofs.Kept.{IsFreeLog, free_ends}
+use Rattle.lr_laws_plan.proofs.Kept.{free_ends}
 
 -- ---- members
 

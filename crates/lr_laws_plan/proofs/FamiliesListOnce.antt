@@ -1,5 +1,5 @@
 -- The looks at families list a directory once: behind its listing it is known, and one that is known isn't listed.
-use Rattle.std.proofs.Common.{◌≡◌, ◌≤◌, ◌+◌, ◌⊎◌, inl, inr, ℕ, zero, suc, Bool, true, false, cond, List, [], ◌∷◌, ◌++◌, length, bytes_eq, Some, slice_get, refl, sym, ap, ◌∙◌, subst, arith}
+use Rattle.std.proofs.Common.{◌≡◌, ◌≤◌, ◌+◌, ◌⊎◌, inl, inr, Bool, true, false, cond, List, [], ◌∷◌, ◌++◌, length, bytes_eq, refl, sym, ap, ◌∙◌, subst, arith}
 use Rattle.std.proofs.lemmas.Slice.Eq.{bytes_eq-Decides}
 use Rattle.lr_rules.specs.declared.path.Path.{Path}
 use Rattle.lr_rules.specs.declared.rule.Naming.{Naming}
@@ -13,22 +13,11 @@ use Rattle.lr_family.specs.Listed.{ShowsListing}
 use Rattle.lr_looks.specs.Families.{FamilySight, WasListed, ShowsMembersIn, ShowsFamily, behind_listing, with_listing, not_listed, ShowFamilies}
 use Rattle.lr_looks.specs.Found.{FoundLog}
 use Rattle.lr_glob.specs.Listings.{listings_of}
+use Rattle.lr_looks.proofs.Known.{read_before, read_last}
 use Rattle.lr_laws_plan.proofs.CountedListings.{count_none, count_joined, none_both, none_empty}
 use Rattle.lr_laws_plan.proofs.LooksListNone.{sees_none, members_in_none, not_listed_none}
 
 -- ---- directories that are known
-
--- the last of a list that it was added to
-read_last : (xs : List Listing) (y : Listing) → slice_get (xs ++ y ∷ []) (length xs) ≡ Some y
-read_last [] y = refl
-read_last (x ∷ xs) y = read_last xs y
-
--- what stood in it before
-read_before : (xs : List Listing) (y x : Listing) (k : ℕ) → slice_get xs k ≡ Some x → slice_get (xs ++ y ∷ []) k ≡ Some x
-read_before [] y x zero h = absurd (cc h)
-read_before [] y x (suc k) h = absurd (cc h)
-read_before (z ∷ xs) y x zero h = h
-read_before (z ∷ xs) y x (suc k) h = read_before xs y x k h
 
 -- a directory whose listing comes is listed
 pub listed_last : (known : List Listing) (l : Listing) (dir : Path) → l.dir ≡ dir → WasListed (known ++ l ∷ []) dir l

@@ -18,8 +18,9 @@ use Rattle.lr_plan.specs.Appending.{Appended, no_more, piece_more}
 use Rattle.lr_plan.specs.Course.{Course}
 use Rattle.lr_plan.specs.Done.{EachDone, LogsDone, SetDone, broke_off, went_on, SetsDone, if_rotated, is_rotated}
 use Rattle.lr_plan.specs.Outcomes.{Succeeds, marks_of}
+use Rattle.lr_plan.proofs.Courses.{one_none}
 use Rattle.lr_laws_plan.specs.Acts.{is_act, StepActs, AreActsOf}
-use Rattle.lr_laws_acts.proofs.ActsWhole.{one_none, nil_split}
+use Rattle.lr_laws_acts.proofs.ActsWhole.{nil_split}
 
 -- ---- one step
 

@@ -1,39 +1,20 @@
 -- What the choice among logs is told of ends no run: those that are kept have no name that the run reserves for itself.
-use Rattle.std.proofs.Common.{◌≡◌, inl, inr, Bool, true, false, cond, List, [], ◌∷◌, ◌++◌, Option, Some, None, slice_get, refl, sym, ap, ◌∙◌, subst}
-use Rattle.std.specs.Borrow.{Bor}
+use Rattle.std.proofs.Common.{inl, inr, Bool, true, false, cond, List, [], ◌∷◌, ◌++◌, Option, Some, None, slice_get, refl, sym}
 use Rattle.std.specs.List.{flat_map, AllByRecursion}
 use Rattle.lr_rules.specs.declared.fault.Fault.TheVariants as fault
 use Rattle.lr_rules.specs.declared.path.Path.{Path}
-use Rattle.lr_rules.specs.declared.rule.Naming.{Naming}
 use Rattle.lr_rules.specs.Names.{the_log, IsName}
 use Rattle.lr_host.specs.Listing.{is_file_kind}
-use Rattle.lr_host.specs.Lists.{IsIn}
-use Rattle.lr_family.specs.declared.family.Family.{Family}
 use Rattle.lr_kept.specs.declared.choice.Choice.{Choice}
 use Rattle.lr_kept.specs.declared.choice.Choice.TheVariants.{Kept, Again, MemberOf, Reserved, Meets}
-use Rattle.lr_looks.specs.Choices.{chosen_names, found_names, IsChoiceAmong, duplicate, overlap, barred, choice_fault, choice_faults, kept_of, kind_fault, where_file}
+use Rattle.lr_looks.specs.Choices.{duplicate, overlap, barred, choice_fault, choice_faults, kind_fault, where_file}
 use Rattle.lr_looks.specs.Found.{FoundLog, Hold}
 use Rattle.lr_looks.specs.Reserved.{reserved_by}
-use Rattle.lr_laws_looks.proofs.Apart.{kept_each}
-use Rattle.lr_laws_looks.proofs.Elements.{map_at, unmap_at}
-use Rattle.lr_laws_looks.proofs.Free.{place_in}
+use Rattle.lr_laws_looks.proofs.Free.{IsFreeLog}
 use Rattle.lr_laws_plan.specs.Ending.{EndsRun, NoneEnds}
 use Rattle.lr_laws_plan.proofs.Ends.{none_both}
 
 -- ---- the logs that are kept
-
--- none of the log's names is reserved
-abbrev pub IsFreeLog : List Path → FoundLog → Type 0
-IsFreeLog reserved f = (path : Path) → IsIn path reserved → IsName f.log.path f.log.naming path → ⊥
-
-abbrev HasPath : Path → (Path × Naming) → Type 0
-HasPath path n = IsName n.0 n.1 path
-
-pub kept_free : (reserved : List Path) (found : List FoundLog) (choices : List Choice) → IsChoiceAmong reserved found choices → AllByRecursion (IsFreeLog reserved) (kept_of found choices)
-kept_free reserved found choices c = kept_each (IsFreeLog reserved) found choices (λ k f at kept path i named.
-    let b : (b : Bor Family) × (slice_get c.logs k ≡ Some b) × (chosen_names b ≡ found_names f) = unmap_at chosen_names c.logs k (found_names f) (ap (λ (xs : List (Path × Naming)). slice_get xs k) c.same ∙ map_at found_names found k f at) in
-    let p = place_in reserved path i in
-    (c.chosen.each k Kept kept).free p.0 (record { log = b.0; path = path; at_log = b.1; at_path = p.1; named = subst (HasPath path) (sym b.2) named }))
 
 where_files : (P : FoundLog → Type 0) (f : FoundLog) (fs : List FoundLog) → P f → Hold P fs → Hold P (where_file f ++ fs)
 where_files P f fs h hs = go (is_file_kind f.seen.kind)

@@ -183,7 +183,7 @@ same_fault k f g a b = cc
 known_or_not : (k : Known) (f : Fault) (r : Remembered) → k ≡ Err f → k ≡ Ok r → ⊥
 known_or_not k f r a b = absurd (cc)
 
-ends_as : (state : Path) (f g : Fault) → f ≡ g → EndsRun state g → EndsRun state f
+pub ends_as : (state : Path) (f g : Fault) → f ≡ g → EndsRun state g → EndsRun state f
 ends_as state f g is h = subst (EndsRun state) (sym is) h
 
 said_why : (state : Path) (stale : Bool) (said : Said) (f : Fault) (k : Known) → k ≡ Err f → k ≡ known_of stale said → EndsRun state f

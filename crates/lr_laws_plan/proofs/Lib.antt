@@ -14,7 +14,7 @@ mod Gone
 mod Halted
 pub mod Jobs
 mod Kept
-mod Known
+pub mod Known
 pub mod Left
 pub mod ListsOnce
 mod Logs

@@ -24,14 +24,14 @@ use Rattle.lr_looks.specs.Shown.{ShowsLooks}
 use Rattle.lr_looks.specs.Reserved.{reserved_by}
 use Rattle.lr_laws_looks.proofs.Aside.{SawAside, all_aside as aside_seen}
 use Rattle.lr_laws_looks.proofs.Coming.{in_looked}
-use Rattle.lr_laws_looks.proofs.Free.{HasNone}
+use Rattle.lr_laws_looks.proofs.Free.{IsFreeLog, kept_free}
 use Rattle.lr_laws_looks.proofs.Kept.{kept_has_none}
 use Rattle.lr_laws_plan.specs.Ending.{NoneEnds}
 use Rattle.lr_laws_plan.proofs.ReachedActs.{AreAside}
 use Rattle.lr_laws_plan.proofs.Ends.{none_both}
 use Rattle.lr_laws_plan.proofs.Families.{families_none}
 use Rattle.lr_laws_plan.proofs.Gone.{IsGone, all_gone}
-use Rattle.lr_laws_plan.proofs.Kept.{IsFreeLog, kept_free, files_hold, choices_none, kinds_none}
+use Rattle.lr_laws_plan.proofs.Kept.{files_hold, choices_none, kinds_none}
 use Rattle.lr_laws_plan.proofs.ReachedPlanned.{IsOffState, AllOffState, NoneMissed}
 use Rattle.lr_laws_plan.proofs.Words.{words_none}
 
@@ -74,7 +74,7 @@ module _ (state : Path) (rules : List Rule) (sets : List SetLooks) (faults : Lis
     f : (f : FoundLog) × IsIn f s.kept × ((t : Standing) × (looked_in w.0 look ≡ looked_at f t.stand t.tmp))
     f = in_looked s.kept s.entries.second.families.sights (looked_in w.0 look) among
 
-    none : HasNone (reserved_by state) f.0
+    none : IsFreeLog (reserved_by state) f.0
     none = kept_has_none rules sets faults ts s f.0 f.1
 
     name : {path : Path} → look.family.naming.dir ≡ path → path ≡ f.0.log.naming.dir

@@ -1,5 +1,5 @@
 -- A run leaves alone what its logs and its state don't need, whatever failed.
-use Rattle.std.proofs.Common.{◌≡◌, ◌⊎◌, inl, inr, ℤ, false, Option, Some, None, List, [], ◌∷◌, ◌++◌, reverse, refl, sym, ap, ◌∙◌, subst, append_assoc, append-nil}
+use Rattle.std.proofs.Common.{◌≡◌, ◌⊎◌, inl, inr, ℤ, false, Some, List, [], ◌∷◌, ◌++◌, reverse, refl, sym, ap, ◌∙◌, subst, append_assoc, append-nil}
 use Rattle.std.specs.Prelude.{filter}
 use Rattle.std.proofs.lemmas.List.Elements.{filter-append}
 use Rattle.lr_rules.specs.declared.clock.Clock.{Clock}
@@ -25,6 +25,7 @@ use Rattle.lr_host.proofs.Made.{CutAt, cut_one, made_journal, made_on}
 use Rattle.lr_host.proofs.Quiet.{quiet_both, quiet_still, sees_quiet, still_reverse, since_of, made_quiet, quiet_same}
 use Rattle.lr_host.proofs.Steady.{steady_before, none_attached}
 use Rattle.lr_laws.proofs.Stated.{quiet_safe}
+use Rattle.lr_laws.proofs.Reach.{no_key}
 use Rattle.lr_looks.specs.Found.{FoundLog}
 use Rattle.lr_looks.specs.Shown.{ShowsLooks}
 use Rattle.lr_plan.specs.Asked.{Asked}
@@ -63,13 +64,9 @@ use Rattle.lr_laws_plan.proofs.Truth.{file_quiet}
 
 -- ---- sets
 
--- what has a key isn't without one
-some_none : (o : Option ℤ) (k : ℤ) → o ≡ Some k → o ≡ None → ⊥
-some_none o k a b = absurd (cc)
-
 -- over entries that change nothing a member of a steady set names what it named
 pub still_member : (s : LogSet) (p u : Past) (ts : List Entry) → ChangeNothing ts → Made p (reverse ts) u → IsSteady s u → (y : Path) (k : ℤ) → s.key y ≡ Some k → names (world u) y ≡ names (world p) y
-still_member s p u ts still made steady y k key = quiet_same (IsKeyless s) p u y calm (some_none (s.key y) k key)
+still_member s p u ts still made steady y k key = quiet_same (IsKeyless s) p u y calm (no_key (s.key y) k key)
   where
     calm : Quiet (IsKeyless s) p u
     calm = made_quiet (IsKeyless s) p u (reverse ts) (since_of (IsKeyless s) p u (reverse ts) made (none_attached s u steady)) made (still_reverse ts still)

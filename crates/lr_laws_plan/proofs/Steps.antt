@@ -23,6 +23,7 @@ use Rattle.lr_chain.specs.declared.directory.DirStop.TheVariants as unmade
 use Rattle.lr_plan.specs.Outcomes.{Succeeds, Fails, ProgramFailed, badly, not_run, maybe_run, bytes_fault}
 use Rattle.lr_acts.specs.Making.{all_of_each, all_of_set, all_of_sets}
 use Rattle.lr_acts.specs.Taken.{TakesAt, OneTakes, RemovesAt, NoneRemoves, LastTaken}
+use Rattle.lr_acts.proofs.Taking.{one_later, one_first}
 use Rattle.lr_laws_plan.proofs.Naming.{Avoids}
 
 -- ---- steps that give a path a name, or unlink it
@@ -120,14 +121,6 @@ none_takes x (s ∷ ss) n t = ⊎_elim (λ here. n.0 (takes_names x s here)) (λ
 taken_later : (x : Path) (xs ys : List Step) → OnceNamed x (xs ++ ys) → OneTakes x ys → NoneNames x xs
 taken_later x [] ys o t = tt
 taken_later x (s ∷ xs) ys o t = (λ named. none_takes x ys (touch_back x xs ys (o.0 named)) t, taken_later x xs ys o.1 t)
-
-one_first : (x : Path) (xs ys : List Step) → OneTakes x xs → OneTakes x (xs ++ ys)
-one_first x [] ys t = absurd t
-one_first x (s ∷ xs) ys t = ⊎_elim (λ here. inl here) (λ there. inr (one_first x xs ys there)) t
-
-one_later : (x : Path) (xs ys : List Step) → OneTakes x ys → OneTakes x (xs ++ ys)
-one_later x [] ys t = t
-one_later x (s ∷ xs) ys t = inr (one_later x xs ys t)
 
 pub one_split : (x : Path) (xs ys : List Step) → OneTakes x (xs ++ ys) → OneTakes x xs ⊎ OneTakes x ys
 one_split x [] ys t = inr t

@@ -1,5 +1,5 @@
 -- What looks at the members tell of their age lets those go that the run takes for too old.
-use Rattle.std.proofs.Common.{◌≡◌, ◌⊎◌, inl, inr, ⊎_elim, ℕ, suc, ◌*◌, true, refl, sym, ◌∙◌, ap, subst, Option, Some, None, List, reverse, ℤ, pos, ◌-ℤ◌, ◌<ℤ◌, int_lt, arith}
+use Rattle.std.proofs.Common.{◌≡◌, ◌⊎◌, inl, inr, ⊎_elim, ℕ, suc, ◌*◌, true, refl, sym, ◌∙◌, ap, subst, Option, Some, None, List, reverse, ℤ, pos, ◌-ℤ◌, ◌<ℤ◌}
 use Rattle.std.proofs.lemmas.Bool.{or_cases}
 use Rattle.std.proofs.lemmas.List.Elements.{All-contains}
 use Rattle.lr_rules.specs.declared.path.Path.{Path}
@@ -30,6 +30,7 @@ use Rattle.lr_family.specs.Spots.{path_at}
 use Rattle.lr_family.specs.Stands.{number_in}
 use Rattle.lr_family.specs.Looks.{WasSeen}
 use Rattle.lr_chain.specs.Rotation.{is_left, is_expired, going}
+use Rattle.lr_chain.proofs.DatedOrder.{lt_true}
 use Rattle.lr_laws_family.specs.Numbered.{HasName}
 use Rattle.lr_laws_family.specs.Shown.{Shown}
 use Rattle.lr_laws_family.proofs.Numbers.{at_number}
@@ -71,9 +72,6 @@ saw_older s p _ _ x k seen g moment (by_tool {es = es} {q = q} {e = e} m i f) a 
     go further (inl same) = subst (λ (d : Entry). SawOlder (q ▸ d) g moment) (sym same) (inl (before, old))
     go further (inr rest) = further rest
 
-below : (a b : ℤ) → int_lt a b ≡ true → a <ℤ b
-below a b h = grind arith
-
 -- What a member names that a look saw too old a rule lets go by its age, in the run of the look.
 pub goes_by_age : (s : LogSet) (p q : Past) (es : List Entry) (x : Path) (k : ℤ) (m : Member) (rule : Rule) (g : ℕ) → Made p es q → Each IsQuiet es → NoneAttached s q → s.key x ≡ Some k → IsIn (entry.Look x (Some m.seen)) es → is_expired rule.maxage (world q).now m ≡ true
     → names (world q) x ≡ thing.File g → ByAge q g rule
@@ -81,7 +79,7 @@ goes_by_age s p q es x k m rule g made quiet none key look = go rule.maxage refl
   where
     go : (o : Option ℕ) → rule.maxage ≡ o → is_expired o (world q).now m ≡ true → names (world q) x ≡ thing.File g → ByAge q g rule
     go None e old is = absurd (cc)
-    go (Some days) e old is = let moment = (world q).now -ℤ pos (days * 86_400) in (days, e, saw_older s p q es x k m.seen g moment made quiet none key (below m.seen.mtime moment old) look is)
+    go (Some days) e old is = let moment = (world q).now -ℤ pos (days * 86_400) in (days, e, saw_older s p q es x k m.seen g moment made quiet none key (lt_true m.seen.mtime moment old) look is)
 
 -- So does a rule that lets files go by this age.
 pub old_goes : (s : LogSet) (p q : Past) (es : List Entry) (maxage : Option ℕ) (m : Member) (k : ℤ) → Made p es q → Each IsQuiet es → NoneAttached s q → SomeRule (rules_of q) s.log (λ r. r.maxage ≡ maxage) → s.key m.path ≡ Some k → WasSeen (reverse es) m

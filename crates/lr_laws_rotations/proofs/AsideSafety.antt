@@ -41,7 +41,7 @@ use Rattle.lr_laws.proofs.AsidePath.{GivesLogAlone, aside_gives, aside_walk}
 use Rattle.lr_laws.proofs.Calls.{rotation_filter, later_rotation}
 use Rattle.lr_laws.proofs.DatedWalk as dates
 use Rattle.lr_laws.proofs.Going.{safe_on}
-use Rattle.lr_laws.proofs.Reach.{aside_apart, out_log, unplaced_reach}
+use Rattle.lr_laws.proofs.Reach.{aside_apart, out_log, unplaced_reach, keyed_reach}
 use Rattle.lr_laws.proofs.Sound.{sound}
 use Rattle.lr_laws.proofs.Stamps.{room_for_one}
 use Rattle.lr_laws.proofs.Walk.{IsSameRun, same_run_on, IsReached, walk, log_filter}
@@ -63,7 +63,7 @@ use Rattle.lr_laws_rotations.specs.Steps.{unlinks, bare_steps}
 use Rattle.lr_laws_rotations.proofs.Behind.{ahead_of, HasCopy, MayRetire, retires_behind}
 use Rattle.lr_laws_rotations.proofs.LogFitting.{IsNoRename, log_fits_on}
 use Rattle.lr_laws_rotations.proofs.SetMembers.{keyless_no_member}
-use Rattle.lr_laws_rotations.proofs.Weaving.{IsApart, IsApartOrMakes, apart_alike, IsWoven, woven, keyed}
+use Rattle.lr_laws_rotations.proofs.Weaving.{IsApart, IsApartOrMakes, apart_alike, IsWoven, woven}
 use Rattle.lr_laws_rotations.specs.Apart.{HasNames}
 use Rattle.lr_laws_rotations.specs.Rotation.{removal_paths}
 use Rattle.lr_laws_rotations.specs.Seen.{IsLogSeen}
@@ -319,7 +319,7 @@ module _ (clock : Clock) (way : Way) (s : LogSet) (state : Path) (rules : Rules)
         reached = walk s v q r.limit (reverse front) r.numbered up_to (fits_front k.fits) (rotation_filter s r.limit v q (reverse front) up_to (subst (IsRotation s v r.limit) (sym (filter_reverse is_change front)) k.rotation)) none_q here.journal here.safe r.ready
 
         alike : (y : Path) (i : ℤ) → s.key y ≡ Some i → names (world q) y ≡ names_after (names (world v)) (changes_of (reverse ahead)) y
-        alike y i key = reached.alike y i key ∙ (ap (λ (cs : List Change). names_after (names (world v)) cs y) front_changes ∙ sym (k.alike y (keyed s y i key)))
+        alike y i key = reached.alike y i key ∙ (ap (λ (cs : List Change). names_after (names (world v)) cs y) front_changes ∙ sym (k.alike y (keyed_reach s y i key)))
 
         there : names_after (names (world v)) (changes_of (reverse ahead)) target ≡ thing.Nothing → s.key target ≡ Some (pos 0) → AtTurn s v ahead target q
         there free key = record { journal = reached.journal; safe = reached.safe; same_since = reached.same; alike = alike; free_there = alike target (pos 0) key ∙ free; come = inl (r.numbered, key) }
@@ -343,7 +343,7 @@ module _ (clock : Clock) (way : Way) (s : LogSet) (state : Path) (rules : Rules)
             (λ e. room_for_one s v (sound s v here.journal here.safe.none_to_log) here.safe r.dated r.not_begun) (λ e. r.forward)
 
         alike : (y : Path) (i : ℤ) → s.key y ≡ Some i → names (world q) y ≡ names_after (names (world v)) (changes_of (reverse ahead)) y
-        alike y i key = reached.alike y i key ∙ (ap (λ (cs : List Change). names_after (names (world v)) cs y) front_changes ∙ sym (k.alike y (keyed s y i key)))
+        alike y i key = reached.alike y i key ∙ (ap (λ (cs : List Change). names_after (names (world v)) cs y) front_changes ∙ sym (k.alike y (keyed_reach s y i key)))
 
         turned_is : turned_behind s false (reverse front) ≡ turned_behind s false (reverse ahead)
         turned_is = sym (turned_filter s false (reverse front)) ∙ (ap (turned_behind s false) (filter_reverse is_change front) ∙ sym k.turned)
@@ -419,7 +419,7 @@ module _ (clock : Clock) (way : Way) (s : LogSet) (state : Path) (rules : Rules)
           safe_there = safe_on s r copy_step (k.journal, fits) k.safe (may_come s r job.part job.to k.journal k.safe (subst (MayCome s r) (sym to_is) k.come) free_now)
 
           part_apart : (y : Path) (i : ℤ) → s.key y ≡ Some i → y ≢ job.part
-          part_apart y i is same_path = clash (in_reach s job.part) (ap (in_reach s) (sym same_path) ∙ keyed s y i is) (part_out s t names_are same naming job a.job_is)
+          part_apart y i is same_path = clash (in_reach s job.part) (ap (in_reach s) (sym same_path) ∙ keyed_reach s y i is) (part_out s t names_are same naming job a.job_is)
             where
               clash : (b : Bool) → b ≡ true → b ≡ false → ⊥
               clash b x y = cc

@@ -1,7 +1,7 @@
 -- What goes behind a copy of the log, once the copy has the newest name: the members go as they do behind the log's rename, and the copy itself by the count alone.
 use Rattle.std.proofs.Common.{◌≡◌, ◌≢◌, ◌⊎◌, inl, inr, ⊎_elim, ℕ, suc, ◌+◌, ◌≤◌, Bool, true, false, bytes_eq, refl, sym, ◌∙◌, ap, subst, append_assoc, arith, Option, Some, None, List, [], ◌∷◌, ◌++◌, map, reverse, ℤ, pos}
 use Rattle.std.specs.Prelude.{Contains, All}
-use Rattle.std.proofs.lemmas.List.{reverse-append, append-nil, reverse-reverse}
+use Rattle.std.proofs.lemmas.List.{reverse-reverse}
 use Rattle.std.proofs.lemmas.List.Elements.{All-head, All-tail}
 use Rattle.std.proofs.lemmas.Slice.Eq.{bytes_eq-Decides}
 use Rattle.lr_rules.specs.declared.clock.Clock.{Clock}
@@ -16,7 +16,7 @@ use Rattle.lr_rules.specs.Limits.{IsCount}
 use Rattle.lr_stamps.specs.Dated.{clock_seconds}
 use Rattle.lr_host.specs.declared.thing.Thing.TheVariants as thing
 use Rattle.lr_host.specs.declared.entry.Entry.{Entry}
-use Rattle.lr_host.specs.declared.entry.Entry.TheVariants.{Renames, Unlinks, MakesDir}
+use Rattle.lr_host.specs.declared.entry.Entry.TheVariants.{Renames, Unlinks}
 use Rattle.lr_host.specs.Fits.{IsFileAt}
 use Rattle.lr_host.specs.Opening.{IsJournal}
 use Rattle.lr_host.specs.Quiet.{AreQuiet}
@@ -60,7 +60,8 @@ use Rattle.lr_chain.proofs.Either.{ready_numbers, ready_dates}
 use Rattle.lr_chain.proofs.Falling.{falls_all}
 use Rattle.lr_chain.proofs.Going.{going_are}
 use Rattle.lr_chain.proofs.Serials.{is_next}
-use Rattle.lr_chain.proofs.Turned.{run}
+use Rattle.lr_chain.proofs.Turned.{run, run_both, run_is}
+use Rattle.lr_chain.proofs.Whole.{moves}
 use Rattle.lr_laws_family.specs.Members.{IsFamily, NoMemberHas, AreThere}
 use Rattle.lr_laws_family.specs.Numbered.{HasName, HaveNextNames}
 use Rattle.lr_laws_family.specs.Shown.{SawFile, Shown}
@@ -76,29 +77,8 @@ use Rattle.lr_laws_rotations.proofs.Families.{by_places, there_by_places, next_p
 use Rattle.lr_laws_rotations.proofs.Places as places
 use Rattle.lr_laws_rotations.proofs.SetMembers.{set_stands}
 use Rattle.lr_laws_rotations.proofs.Stamped.{day_of, next_free}
-use Rattle.lr_laws_rotations.proofs.Steps.{unlinks_at, moves_at, unlinks_of}
+use Rattle.lr_laws_rotations.proofs.Steps.{unlinks_at, unlinks_of}
 use Rattle.lr_laws_rotations.proofs.Turning.{key_at, HasCome, MayLeave, came, retires_alone}
-
--- ---- the names behind entries, the first of them first
-
-one_more : (m : Names) (done : List Entry) (e : Entry) → names_after m (changes_of (e ∷ done)) ≡ names_after (names_after m (changes_of done)) (changes_of (e ∷ []))
-one_more m done (Renames from to) = refl
-one_more m done (Unlinks x) = refl
-one_more m done (MakesDir x mode) = refl
-one_more m done _ = refl
-
-run_behind : (m : Names) (done es : List Entry) → names_after m (changes_of (reverse es ++ done)) ≡ run (names_after m (changes_of done)) es
-run_behind m done [] = refl
-run_behind m done (e ∷ es) =
-    ap (λ xs. names_after m (changes_of xs)) (ap (λ xs. xs ++ done) (reverse-append (e ∷ []) es) ∙ append_assoc (reverse es) (e ∷ []) done)
-    ∙ (run_behind m (e ∷ done) es ∙ ap (λ (k : Names). run k es) (one_more m done e))
-
-run_is : (m : Names) (es : List Entry) → names_after m (changes_of (reverse es)) ≡ run m es
-run_is m es = ap (λ xs. names_after m (changes_of xs)) (sym (append-nil (reverse es))) ∙ run_behind m [] es
-
-run_both : (m : Names) (es fs : List Entry) → run m (es ++ fs) ≡ run (run m es) fs
-run_both m [] fs = refl
-run_both m (e ∷ es) fs = run_both (names_after m (changes_of (e ∷ []))) es fs
 
 -- ---- the copy is there
 
@@ -209,7 +189,7 @@ module _ (clock : Clock) (s : LogSet) (c : Count) (maxage : Option ℕ) (anew : 
 
     ahead_is : ahead_of ready ≡ ahead
     ahead_is = ap ahead_of (ready_numbers s.log n c maxage clock anew all none)
-        ∙ (ap (λ (xs : List Entry). xs ++ map move_step (map (move_from n) (kept c places_are))) (unlinks_at n (leftovers c places_are)) ∙ ap (λ (xs : List Entry). leftover_steps n c places_are ++ xs) (moves_at n (kept c places_are)))
+        ∙ (ap (λ (xs : List Entry). xs ++ map move_step (map (move_from n) (kept c places_are))) (unlinks_at n (leftovers c places_are)) ∙ ap (λ (xs : List Entry). leftover_steps n c places_are ++ xs) (moves n (kept c places_are)))
 
     retire_is : unlinks ready.retire ≡ retire_steps n c from
     retire_is = ap (λ (x : Ready). unlinks x.retire) (ready_numbers s.log n c maxage clock anew all none) ∙ unlinks_at n (retired c from)

@@ -2,7 +2,6 @@
 use Rattle.std.proofs.Common.{◌≡◌, ◌≢◌, inl, inr, ⊎_elim, ℕ, Bool, true, false, cond, bytes_eq, refl, sym, ◌∙◌, ap, subst, Option, Some, None, List, [], ◌∷◌, ◌++◌}
 use Rattle.std.specs.Prelude.{codes}
 use Rattle.std.specs.List.{flat_map}
-use Rattle.std.proofs.lemmas.List.Elements.{All-cons, All-nil}
 use Rattle.std.proofs.lemmas.Slice.Eq.{bytes_eq-Decides}
 use Rattle.lr_rules.specs.declared.path.Path.{Path}
 use Rattle.lr_rules.specs.declared.rule.Naming.{Naming}
@@ -13,7 +12,7 @@ use Rattle.lr_host.specs.Lists.{IsIn}
 use Rattle.lr_host.specs.Sets.{LogSet, in_reach}
 use Rattle.lr_host.proofs.Lists.{in_append}
 use Rattle.lr_laws.specs.Follow.{changed_paths}
-use Rattle.lr_laws.proofs.Outside.{in_reach_own, no_name_elsewhere, apart_outside}
+use Rattle.lr_laws.proofs.Outside.{in_reach_own, apart_outside, outside}
 use Rattle.lr_copy.specs.declared.job.Job.{Job}
 use Rattle.lr_laws_rotations.specs.AllTurns.{IsStatePath, IsOfState, IsItsDir, AlsoDoes, IsOf, IsOfOther, StandsBetween, job_part_paths, dir_paths, target_paths, paths_of_others, other_paths}
 use Rattle.lr_laws_family.specs.Members.{IsNoMember}
@@ -71,13 +70,10 @@ also_beside s t (entry.Truncates x) log_is naming_is h out p = absurd (clash p.0
     clash b x y = cc
 also_beside s t _ log_is naming_is h out p = absurd p
 
-no_name_out : (s : LogSet) (x : Path) → (IsName s.log s.naming x → ⊥) → in_reach s x ≡ false
-no_name_out s x none = no_name_elsewhere s (entry.Unlinks x) (All-cons (λ y. IsName s.log s.naming y → ⊥) x [] none (All-nil (λ y. IsName s.log s.naming y → ⊥)))
-
 module _ (s : LogSet) (state : Path) (no_state : IsName s.log s.naming state → ⊥) (no_part : IsName s.log s.naming (state ++ codes ".tmp") → ⊥) where
   state_out : (x : Path) → IsStatePath state x → in_reach s x ≡ false
-  state_out x (inl is) = no_name_out s x (λ h. no_state (subst (IsName s.log s.naming) is h))
-  state_out x (inr is) = no_name_out s x (λ h. no_part (subst (IsName s.log s.naming) is h))
+  state_out x (inl is) = outside s x (λ h. no_state (subst (IsName s.log s.naming) is h))
+  state_out x (inr is) = outside s x (λ h. no_part (subst (IsName s.log s.naming) is h))
 
   pub state_beside : (e : Entry) → IsOfState state e → LiesBeside s e
   state_beside (entry.Renames from to) h = ((state_out from h.0, state_out to h.1), tt)

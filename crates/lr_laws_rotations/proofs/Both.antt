@@ -61,7 +61,7 @@ first_changes t us f =
     all_pass is_change us (each_first (λ e. is_change e ≡ true) us f.0 (subst (Each (λ e. is_change e ≡ true)) f.1 (each_turn (λ e. is_change e ≡ true) (λ x. refl) (λ x y. refl) t)))
 
 -- own entries, and then others
-own_first : (P : Entry → Type 0) (us os : List Entry) → Each P os → Weave P us (us ++ os)
+pub own_first : (P : Entry → Type 0) (us os : List Entry) → Each P os → Weave P us (us ++ os)
 own_first P us os a = subst (λ xs. Weave P xs (us ++ os)) (append-nil us) (weave_on P us us [] os (weave_own P us) (weave_others P os a))
 
 -- ---- the run

@@ -15,10 +15,11 @@ use Rattle.std.specs.Prelude.{filter}
 use Rattle.lr_laws.specs.Rotation.{IsAside, LogFits}
 use Rattle.lr_laws.specs.DatedRotation.{turned_behind, IsDatedStep, IsDatedRotationBy}
 use Rattle.lr_laws.proofs.DatedAside.{aside_turned}
+use Rattle.lr_laws.proofs.Reach.{keyed_reach}
 use Rattle.lr_laws_family.specs.Beside.{MakesAt}
 use Rattle.lr_laws_family.specs.Weave.{Weave, none, own, other}
 use Rattle.lr_laws_family.proofs.Weaving.{both_put}
-use Rattle.lr_laws_rotations.proofs.Weaving.{AreAlike, keyed, logged, turn_from, turn_to, turn_as, IsApart, IsApartOrMakes, apart_aside, apart_alike}
+use Rattle.lr_laws_rotations.proofs.Weaving.{AreAlike, logged, turn_from, turn_to, turn_as, IsApart, IsApartOrMakes, apart_aside, apart_alike}
 use Rattle.lr_laws_rotations.specs.BesideSets.{MakesNoDir, IsBesideSet}
 
 -- ---- entries beside the set
@@ -67,7 +68,7 @@ own_turned s first os es _ same = same
 
 later_alike : (s : LogSet) (n n' : Names) (t : ℤ) (ys : List Path) → AreAlike s n n' → AreLaterMembers s.key n t ys → AreLaterMembers s.key n' t ys
 later_alike s n n' t [] alike h = tt
-later_alike s n n' t (y ∷ ys) alike h = (((h.0.0.0, sym (alike y (keyed s y h.0.1.0 h.0.1.1)) ∙ h.0.0.1), h.0.1), later_alike s n n' t ys alike h.1)
+later_alike s n n' t (y ∷ ys) alike h = (((h.0.0.0, sym (alike y (keyed_reach s y h.0.1.0 h.0.1.1)) ∙ h.0.0.1), h.0.1), later_alike s n n' t ys alike h.1)
 
 step_as : (s : LogSet) (p : Past) (newest : ℤ) (b b' : Bool) (n n' : Names) (e : Entry) → b ≡ b' → AreAlike s n n' → IsDatedStep s p newest n b e → IsDatedStep s p newest n' b' e
 step_as s p newest b b' n n' (Renames from to) same alike (unturned, free, turn) = (sym same ∙ unturned, sym (alike to (turn_to s n newest from to turn)) ∙ free, turn_as s n n' newest from to alike turn)
@@ -78,7 +79,7 @@ step_as s p newest b b' n n' (Unlinks x) same alike (inr (turned, k, is, inl l))
   is,
   inl (record { count = l.count; rule = l.rule; later = l.later; distinct = l.distinct; each = later_alike s n n' k l.later alike l.each; enough = l.enough }),
 )
-step_as s p newest b b' n n' (Unlinks x) same alike (inr (turned, k, is, inr old)) = inr (sym same ∙ turned, k, is, inr (λ g names_it. old g (alike x (keyed s x k is) ∙ names_it)))
+step_as s p newest b b' n n' (Unlinks x) same alike (inr (turned, k, is, inr old)) = inr (sym same ∙ turned, k, is, inr (λ g names_it. old g (alike x (keyed_reach s x k is) ∙ names_it)))
 step_as s p newest b b' n n' (Makes x mode) same alike st = st
 step_as s p newest b b' n n' _ same alike st = absurd st
 

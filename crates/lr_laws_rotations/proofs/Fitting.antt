@@ -6,11 +6,8 @@ use Rattle.lr_rules.specs.declared.rule.Count.{Count}
 use Rattle.lr_rules.specs.declared.rule.Naming.{Naming}
 use Rattle.lr_host.specs.declared.thing.Thing.{Thing}
 use Rattle.lr_host.specs.declared.thing.Thing.TheVariants as thing
-use Rattle.lr_host.specs.declared.entry.Entry.{Entry}
-use Rattle.lr_host.specs.declared.entry.Entry.TheVariants as entry
-use Rattle.lr_host.specs.World.{Names, put, names_after}
+use Rattle.lr_host.specs.World.{Names, put}
 use Rattle.lr_host.specs.Fits.{IsFileAt}
-use Rattle.lr_host.specs.Steps.{changes_of}
 use Rattle.lr_host.proofs.Names.{put_here, put_other}
 use Rattle.lr_family.specs.Spots.{path_at}
 use Rattle.lr_family.proofs.Numbers.{Every, every_as, every_from, every_filter, every_passes}
@@ -20,12 +17,6 @@ use Rattle.lr_chain.specs.Rotation.{is_left, leftovers, kept}
 use Rattle.lr_chain.proofs.Kept.{kept_stay}
 use Rattle.lr_laws_rotations.proofs.Places.{IsFamily, AreThere}
 use Rattle.lr_laws_family.specs.Numbered.{HasName}
-
-pub after_one : (m : Names) (done : List Entry) (e : Entry) → names_after (names_after m (changes_of done)) (changes_of (e ∷ [])) ≡ names_after m (changes_of (e ∷ done))
-after_one m done (entry.Renames from to) = refl
-after_one m done (entry.Unlinks x) = refl
-after_one m done (entry.MakesDir x mode) = refl
-after_one m done _ = refl
 
 -- What stands between two steps: these leftovers and these members are still to be taken, and up to the limit no other place names anything.
 pub record Before (log : Path) (n : Naming) (m : Names) (limit : ℕ) (ls ks : List ℕ) : Type 0 where

@@ -18,7 +18,8 @@ use Rattle.lr_host.proofs.Names.{put_other}
 use Rattle.lr_host.specs.Quiet.{AreQuiet}
 use Rattle.lr_host.proofs.Quiet.{looked_names, no_disk_change, quiet_changes}
 use Rattle.lr_laws.proofs.Writing.{attached_before, wrote_member}
-use Rattle.lr_laws_rotations.proofs.Weaving.{IsApart, keyed}
+use Rattle.lr_laws.proofs.Reach.{keyed_reach}
+use Rattle.lr_laws_rotations.proofs.Weaving.{IsApart}
 
 -- an entry apart leaves the names of the set alone
 apart_names : (s : LogSet) (q : Past) (e : Entry) (y : Path) → IsTools e → is_change e ≡ true → IsApart s e → in_reach s y ≡ true → names (world (q ▸ e)) y ≡ names (world q) y
@@ -40,7 +41,7 @@ same_walk s y k key p _ es (by_writer {q = q} {e = e} m i f) a none = wrote_memb
 same_walk s y k key p _ _ (by_tool {es = es} {q = q} {e = e} m i f) a none = go (λ a. same_walk s y k key p q es m a (attached_before s q e none)) (is_change e) refl a
   where
     go : (Each (IsApart s) (filter is_change es) → names (world q) y ≡ names (world p) y) → (b : Bool) → is_change e ≡ b → Each (IsApart s) (cond b (e ∷ filter is_change es) (filter is_change es)) → names (world (q ▸ e)) y ≡ names (world p) y
-    go further true h a = apart_names s q e y i h a.0 (keyed s y k key) ∙ further a.1
+    go further true h a = apart_names s q e y i h a.0 (keyed_reach s y k key) ∙ further a.1
     go further false h a = looked_names q e y i (no_disk_change e h) ∙ further a
 
 -- where the changes behind looks lie apart

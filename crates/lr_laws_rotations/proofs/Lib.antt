@@ -3,7 +3,7 @@ pub mod Alike
 pub mod AsideSafety
 pub mod Behind
 pub mod Beside
-mod Both
+pub mod Both
 pub mod CallsFit
 pub mod CopyFits
 pub mod DatedExample

@@ -1,9 +1,7 @@
 -- The run over both logs whose steps stand between one another: it is a journal, and all that is asked of a rotated family is so.
-use Rattle.std.proofs.Common.{◌≡◌, ◌≢◌, inl, inr, ℕ, zero, suc, ◌≤◌, ◌<◌, Bool, true, false, not, ◌&&◌, bytes_eq, refl, sym, ◌∙◌, ap, subst, arith, Some, None, List, [], ◌∷◌, length, get_or, eqb, eq-eqb, reverse, All, Contains, codes, pos}
+use Rattle.std.proofs.Common.{◌≡◌, ◌≢◌, inl, inr, ℕ, zero, suc, ◌≤◌, ◌<◌, Bool, true, false, bytes_eq, refl, sym, ◌∙◌, ap, subst, arith, Some, None, List, [], ◌∷◌, length, get_or, eqb, eq-eqb, reverse, Contains, codes, pos}
 use Rattle.std.specs.Prelude.{slice_index_or, count_by, ◌==◌, filter}
-use Rattle.std.proofs.lemmas.List.Elements.{All-cons}
 use Rattle.std.proofs.lemmas.Slice.Eq.{bytes_eq-Decides}
-use Rattle.std.proofs.lemmas.Bool.{and_parts}
 use Rattle.lr_rules.specs.declared.path.Path.{Path}
 use Rattle.lr_rules.specs.declared.civil.Moment.{Moment}
 use Rattle.lr_rules.specs.Path.{parent_of, joined}
@@ -12,13 +10,14 @@ use Rattle.lr_host.specs.declared.thing.Thing.TheVariants as thing
 use Rattle.lr_host.specs.declared.entry.Entry.{Entry}
 use Rattle.lr_host.specs.declared.entry.Entry.TheVariants as entry
 use Rattle.lr_host.specs.declared.journal.OpenFile.{OpenFile}
-use Rattle.lr_host.specs.Lists.{IsNotIn, AreDistinct, IsIn}
+use Rattle.lr_host.specs.Lists.{IsIn}
 use Rattle.lr_host.specs.World.{◌▸◌, world, names}
 use Rattle.lr_host.specs.Fits.{IsPart, AreNamesIn}
 use Rattle.lr_host.specs.Opening.{IsValid, opening_paths}
 use Rattle.lr_host.specs.Told.{Made, at_first, by_writer, by_tool}
 use Rattle.lr_host.specs.Quiet.{is_disk_change, from_here, further}
 use Rattle.lr_host.proofs.Lists.{in_from, in_to}
+use Rattle.lr_laws.proofs.Example.{distinct, each}
 use Rattle.lr_chain.specs.Rotation.{places_of}
 use Rattle.lr_chain.specs.Standing.{AreGoing}
 use Rattle.lr_chain.proofs.Going.{going_are}
@@ -42,19 +41,6 @@ use Rattle.lr_laws_rotations.proofs.Seen.{a_falling, a_members, family_of}
 
 differ : (x y : Path) → bytes_eq x y ≡ false → x ≡ y → ⊥
 differ x y e same = let t : bytes_eq x y ≡ true = (bytes_eq-Decides x y).1 same in cc
-
--- ---- lists
-
-none_of : {A : Type 0} (P : A → Type 0) → All P []
-none_of P k d lt = absurd (omega arith)
-
-abbrev EachOf : {A : Type 0} → (A → Type 0) → List A → Type 0
-EachOf P [] = Unit {0}
-EachOf P (x ∷ xs) = P x × EachOf P xs
-
-each : {A : Type 0} (P : A → Type 0) (xs : List A) → EachOf P xs → All P xs
-each P [] h = none_of P
-each P (x ∷ xs) h = All-cons P x xs h.0 (each P xs h.1)
 
 -- ---- what the two directories have
 
@@ -221,25 +207,6 @@ rotates now = among paths a_naming turn (front now) moves refl refl (file, refl,
     (subst (λ steps. Weave (IsBeside paths a_log) steps (filter is_disk_change moves)) (sym (steps_are a_naming a_count a_from a_stand.members a_log a_log Rename family refl family.apart a_members.named next a_going ∙ a_rotation)) woven)
 
 -- ---- the opening
-
-abbrev is_new : Path → List Path → Bool
-is_new x [] = true
-is_new x (y ∷ ys) = not (bytes_eq x y) && is_new x ys
-
-abbrev are_new : List Path → Bool
-are_new [] = true
-are_new (y ∷ ys) = is_new y ys && are_new ys
-
-not_in : (x : Path) (ys : List Path) → is_new x ys ≡ true → IsNotIn x ys
-not_in x [] h = tt
-not_in x (y ∷ ys) h = let s = and_parts (not (bytes_eq x y)) (is_new x ys) h in ((λ same. clash (bytes_eq x y) s.0 ((bytes_eq-Decides x y).1 same)), not_in x ys s.1)
-  where
-    clash : (b : Bool) → not b ≡ true → b ≡ true → ⊥
-    clash b p q = cc
-
-distinct : (ys : List Path) → are_new ys ≡ true → AreDistinct ys
-distinct [] h = tt
-distinct (y ∷ ys) h = let s = and_parts (is_new y ys) (are_new ys) h in (not_in y ys s.0, distinct ys s.1)
 
 -- it is a disk
 pub valid : IsValid stood

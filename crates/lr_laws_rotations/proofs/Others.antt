@@ -24,17 +24,9 @@ use Rattle.lr_laws_family.proofs.Fed.{IsTurn}
 use Rattle.lr_laws_rotations.proofs.Rotating.{each_turn}
 use Rattle.lr_laws_family.proofs.Splitting.{weave_each}
 use Rattle.lr_laws_family.proofs.Weaving.{weave_as, each_in}
+use Rattle.lr_laws_family.proofs.Anew.{on_more}
 
 -- ---- on which paths
-
-pub on_more : (xs ys : List Path) (e : Entry) → ((x : Path) → IsIn x xs → IsIn x ys) → IsOn xs e → IsOn ys e
-on_more xs ys (Renames from to) f h = (f from h.0, f to h.1)
-on_more xs ys (Makes x mode) f h = f x h
-on_more xs ys (MakesDir x mode) f h = f x h
-on_more xs ys (Appends x bytes) f h = f x h
-on_more xs ys (Truncates x) f h = f x h
-on_more xs ys (Unlinks x) f h = f x h
-on_more xs ys _ f h = absurd h
 
 -- a rename or an unlink is on its own paths
 turn_on : (e : Entry) → IsTurn e → IsOn (changed_paths e) e

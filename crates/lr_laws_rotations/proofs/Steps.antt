@@ -13,23 +13,20 @@ use Rattle.lr_family.specs.Spots.{path_at}
 use Rattle.lr_chain.specs.DatedReady.{removal_of, dated_target, all_by, dated_ready}
 use Rattle.lr_chain.specs.DatedRotation.{Ranked, gone, unlink, dated_rotation}
 use Rattle.lr_chain.specs.Prepared.{numbered_ready, ready_of}
-use Rattle.lr_chain.specs.Ready.{removal_at, move_from, move_step}
-use Rattle.lr_chain.specs.Rotation.{places_of, going, leftovers, kept, retired, unlink_at, move_at, rotation}
+use Rattle.lr_chain.specs.Ready.{removal_at}
+use Rattle.lr_chain.specs.Rotation.{places_of, going, leftovers, kept, retired, unlink_at, rotation}
 use Rattle.lr_chain.proofs.DatedSteps.{map_reverse}
 use Rattle.lr_chain.proofs.Either.{ready_numbers, ready_dates}
+use Rattle.lr_chain.proofs.Whole.{moves}
 use Rattle.lr_laws_rotations.specs.Steps.{unlinks, bare_steps}
 
 pub unlinks_at : (n : Naming) (ks : List ℕ) → unlinks (map (removal_at n) ks) ≡ map (unlink_at n) ks
 unlinks_at n [] = refl
 unlinks_at n (k ∷ ks) = ap (λ (es : List Entry). unlink_at n k ∷ es) (unlinks_at n ks)
 
-pub moves_at : (n : Naming) (ks : List ℕ) → map move_step (map (move_from n) ks) ≡ map (move_at n) ks
-moves_at n [] = refl
-moves_at n (k ∷ ks) = ap (λ (es : List Entry). move_at n k ∷ es) (moves_at n ks)
-
 numbered_steps : (log : Path) (n : Naming) (c : Count) (maxage : Option ℕ) (now : ℤ) (anew : Make) (members : List Member)
     → bare_steps (numbered_ready log n c maxage now anew members) ≡ rotation n c log (places_of members) (going c maxage now members)
-numbered_steps log n c maxage now anew members = all (unlinks_at n (leftovers c ks)) (moves_at n (kept c ks)) (unlinks_at n (retired c from))
+numbered_steps log n c maxage now anew members = all (unlinks_at n (leftovers c ks)) (moves n (kept c ks)) (unlinks_at n (retired c from))
   where
     ks : List ℕ
     ks = places_of members

@@ -25,7 +25,7 @@ use Rattle.lr_laws.proofs.Calls.{rotation_filter, later_rotation}
 use Rattle.lr_laws.proofs.DatedWalk as dates
 use Rattle.lr_laws.proofs.Going.{safe_on}
 use Rattle.lr_laws.proofs.Moves.{may_turn, may_put_aside}
-use Rattle.lr_laws.proofs.Reach.{aside_apart, unplaced_no_key}
+use Rattle.lr_laws.proofs.Reach.{aside_apart, unplaced_no_key, keyed_reach}
 use Rattle.lr_laws.proofs.Sound.{IsSound, sound}
 use Rattle.lr_laws.proofs.Stamps.{may_turn_dated}
 use Rattle.lr_laws.proofs.Tame.{tame_moves, forward_on, room_on}
@@ -37,7 +37,7 @@ use Rattle.lr_laws_family.proofs.Weaving.{weave_back}
 use Rattle.lr_laws_rotations.proofs.Aged.{same_run}
 use Rattle.lr_laws_rotations.proofs.Behind.{MayRetire}
 use Rattle.lr_laws_rotations.proofs.LogFitting.{IsNoRename, log_fits_on, log_fits_first}
-use Rattle.lr_laws_rotations.proofs.Weaving.{IsApartOrMakes, IsWoven, woven, keyed}
+use Rattle.lr_laws_rotations.proofs.Weaving.{IsApartOrMakes, IsWoven, woven}
 use Rattle.lr_laws_rotations.proofs.DatedWeaving.{IsDatedWoven, dated_woven, turned_filter, rotation_filter as dated_filter, later_rotation as later_dated}
 
 -- ---- the newest name may be taken
@@ -84,7 +84,7 @@ module _ (s : LogSet) (p q : Past) (to : Path) (acts : List Entry) (journal : Is
     journal = r.journal;
     safe = r.safe;
     same = r.same;
-    alike = λ y k key. r.alike y k key ∙ (ap (λ (cs : List Change). names_after (names (world p)) cs y) (changes_back acts) ∙ sym (v.alike y (keyed s y k key)));
+    alike = λ y k key. r.alike y k key ∙ (ap (λ (cs : List Change). names_after (names (world p)) cs y) (changes_back acts) ∙ sym (v.alike y (keyed_reach s y k key)));
     come = inl (numbered, is);
   }
     where
@@ -103,7 +103,7 @@ module _ (s : LogSet) (p q : Past) (to : Path) (acts : List Entry) (journal : Is
     journal = r.journal;
     safe = r.safe;
     same = r.same;
-    alike = λ y k key. r.alike y k key ∙ (ap (λ (cs : List Change). names_after (names (world p)) cs y) (changes_back acts) ∙ sym (v.alike y (keyed s y k key)));
+    alike = λ y k key. r.alike y k key ∙ (ap (λ (cs : List Change). names_after (names (world p)) cs y) (changes_back acts) ∙ sym (v.alike y (keyed_reach s y k key)));
     come = inr (dated, (t, is, r.room unturned, r.forward unturned));
   }
     where

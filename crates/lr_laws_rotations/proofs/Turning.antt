@@ -27,9 +27,10 @@ use Rattle.lr_chain.specs.Rotation.{is_left, leftovers, kept, retired, unlink_at
 use Rattle.lr_chain.specs.Standing.{AreGoing}
 use Rattle.lr_chain.proofs.Falling.{falls_all}
 use Rattle.lr_chain.proofs.Turned.{run, Renamed, renamed_so, stays_below}
+use Rattle.lr_chain.proofs.Fitting.{after_one}
 use Rattle.lr_laws_rotations.proofs.Places.{IsFamily, AreThere, MayGo}
 use Rattle.lr_laws_family.specs.Numbered.{HasName, HaveNextNames}
-use Rattle.lr_laws_rotations.proofs.Fitting.{Before, unlinked, moved, move_free, log_free, after_one, left_apart, so_standing, above_all, all_below, at_start}
+use Rattle.lr_laws_rotations.proofs.Fitting.{Before, unlinked, moved, move_free, log_free, left_apart, so_standing, above_all, all_below, at_start}
 use Rattle.lr_laws_family.proofs.Numbers.{kept_next, first_named, top_named, next_named, next_at}
 
 pub numbered : (s : LogSet) {log : Path} → IsFamily log s.naming → order s ≡ Numbered

@@ -53,9 +53,6 @@ apart_alike s n es (Unlinks x) out = λ y i. sym (put_other (names_after n (chan
 apart_alike s n es (MakesDir x mode) out = λ y i. sym (put_other (names_after n (changes_of es)) x y thing.Directory (λ same. not_both (in_reach s y) i (ap (in_reach s) same ∙ out)))
 apart_alike s n es _ out = λ y i. refl
 
-pub keyed : (s : LogSet) (x : Path) (k : ℤ) → s.key x ≡ Some k → in_reach s x ≡ true
-keyed s x k is = keyed_reach s x k is
-
 pub logged : (s : LogSet) → in_reach s s.log ≡ true
 logged s = unplaced_reach s s.log (inl refl)
 
@@ -67,9 +64,9 @@ turn_from s n newest from to (taken_up a file pt) = unplaced_reach s from (inr a
 
 -- it goes to a path that the set reaches
 pub turn_to : (s : LogSet) (n : Names) (newest : ℤ) (from to : Path) → IsTurn s n newest from to → in_reach s to ≡ true
-turn_to s n newest from to (straight at_log pt) = keyed s to newest pt
+turn_to s n newest from to (straight at_log pt) = keyed_reach s to newest pt
 turn_to s n newest from to (put_aside at_log a) = unplaced_reach s to (inr a)
-turn_to s n newest from to (taken_up a file pt) = keyed s to newest pt
+turn_to s n newest from to (taken_up a file pt) = keyed_reach s to newest pt
 
 -- the same under names that are alike
 pub turn_as : (s : LogSet) (n n' : Names) (newest : ℤ) (from to : Path) → AreAlike s n n' → IsTurn s n newest from to → IsTurn s n' newest from to
@@ -78,7 +75,7 @@ turn_as s n n' newest from to alike (put_aside at_log a) = put_aside at_log a
 turn_as s n n' newest from to alike (taken_up a file pt) = taken_up a (file.0, sym (alike from (unplaced_reach s from (inr a))) ∙ file.1) pt
 
 from_in : (s : LogSet) (p : Past) (l : ℕ) (n : Names) (from to : Path) → IsStep s p l n (Renames from to) → in_reach s from ≡ true
-from_in s p l n from to (free, inl (k, lt, pf, pt)) = keyed s from (pos k) pf
+from_in s p l n from to (free, inl (k, lt, pf, pt)) = keyed_reach s from (pos k) pf
 from_in s p l n from to (free, inr turn) = turn_from s n (pos 0) from to turn
 
 own_alike : (s : LogSet) (p : Past) (l : ℕ) (n : Names) (os es : List Entry) (e : Entry) → IsAside s e ⊎ IsStep s p l (names_after n (changes_of os)) e → AreAlike s (names_after n (changes_of os)) (names_after n (changes_of es))
@@ -110,11 +107,11 @@ own_limit s limit os es _ same = same
 -- ---- a rotation with others between its steps
 
 step_as : (s : LogSet) (p : Past) (l l' : ℕ) (n n' : Names) (e : Entry) → l ≡ l' → AreAlike s n n' → IsStep s p l n e → IsStep s p l' n' e
-step_as s p l l' n n' (Renames from to) same alike (free, inl (k, lt, pf, pt)) = (sym (alike to (keyed s to _ pt)) ∙ free, inl (k, subst (λ m. k < m) same lt, pf, pt))
+step_as s p l l' n n' (Renames from to) same alike (free, inl (k, lt, pf, pt)) = (sym (alike to (keyed_reach s to _ pt)) ∙ free, inl (k, subst (λ m. k < m) same lt, pf, pt))
 step_as s p l l' n n' (Renames from to) same alike (free, inr turn) = (sym (alike to (turn_to s n (pos 0) from to turn)) ∙ free, inr (turn_as s n n' (pos 0) from to alike turn))
 step_as s p l l' n n' (Unlinks x) same alike (inl a) = inl a
 step_as s p l l' n n' (Unlinks x) same alike (inr (k, pl, inl count)) = inr (k, pl, inl count)
-step_as s p l l' n n' (Unlinks x) same alike (inr (k, pl, inr old)) = inr (k, pl, inr (λ g is. old g (alike x (keyed s x (pos k) pl) ∙ is)))
+step_as s p l l' n n' (Unlinks x) same alike (inr (k, pl, inr old)) = inr (k, pl, inr (λ g is. old g (alike x (keyed_reach s x (pos k) pl) ∙ is)))
 step_as s p l l' n n' (Makes x mode) same alike st = st
 step_as s p l l' n n' _ same alike st = absurd st
 

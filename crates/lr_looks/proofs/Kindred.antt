@@ -21,6 +21,7 @@ use Rattle.lr_host.specs.declared.thing.Seen.{Seen}
 use Rattle.lr_rules.specs.Match.{is_wildcard}
 use Rattle.lr_rules.proofs.FromWord.{slashed}
 use Rattle.lr_glob.specs.declared.found.Found.{Found as Match}
+use Rattle.lr_family.proofs.Paths.{unbarred}
 use Rattle.lr_looks.specs.declared.found.Found.{Found}
 use Rattle.lr_looks.specs.Asked.{word_of}
 use Rattle.lr_looks.specs.Found.{FoundLog, found_in}
@@ -40,12 +41,12 @@ drop_clean f zero xs h = h
 drop_clean f (suc k) [] h = refl
 drop_clean f (suc k) (x ∷ xs) h = drop_clean f k xs (or_parts (f x) (list_any f xs) h).1
 
-unbarred : (xs : List ℕ) → list_any is_slash xs ≡ false → list_any is_bad_byte xs ≡ false → list_any is_barred xs ≡ false
-unbarred [] s b = refl
-unbarred (x ∷ xs) s b =
+none_barred : (xs : List ℕ) → list_any is_slash xs ≡ false → list_any is_bad_byte xs ≡ false → list_any is_barred xs ≡ false
+none_barred [] s b = refl
+none_barred (x ∷ xs) s b =
     let p = or_parts (is_slash x) (list_any is_slash xs) s in
     let q = or_parts (is_bad_byte x) (list_any is_bad_byte xs) b in
-    or_from (is_barred x) (list_any is_barred xs) (or_from (is_slash x) (is_bad_byte x) p.0 q.0) (unbarred xs p.1 q.1)
+    or_from (is_barred x) (list_any is_barred xs) (or_from (is_slash x) (is_bad_byte x) p.0 q.0) (none_barred xs p.1 q.1)
 
 take_within : (k : ℕ) (xs : List ℕ) → length (take k xs) ≤ length xs
 take_within k xs = let e : length (take k xs) ≡ min k (length xs) = length-take k xs in omega (arith, e)
@@ -170,7 +171,7 @@ end_plain ext h =
     let two = and_parts (nat_le (length ext) 128) _ one in
     let three = and_parts (not (list_any is_slash ext)) _ two.1 in
     let four = and_parts (not (has_bad_byte ext)) _ three.1 in
-    record { short = leb-true (length ext) 128 two.0; clean = unbarred ext (not-true (list_any is_slash ext) three.0) (not-true (list_any is_bad_byte ext) four.0) }
+    record { short = leb-true (length ext) 128 two.0; clean = none_barred ext (not-true (list_any is_slash ext) three.0) (not-true (list_any is_bad_byte ext) four.0) }
 
 own_end : (ext name : List ℕ) → IsPlainEnd ext → IsPlainEnd (cond (ends_with ext name) ext [])
 own_end ext name h = go (ends_with ext name)
@@ -207,12 +208,6 @@ base_is ext name h = go (ends_with ext name)
 
 -- ---- no member is the log
 
-plain_of : (xs : List ℕ) → list_any is_barred xs ≡ false → list_any is_slash xs ≡ false
-plain_of [] h = refl
-plain_of (x ∷ xs) h =
-    let p = or_parts (is_barred x) (list_any is_barred xs) h in
-    or_from (is_slash x) (list_any is_slash xs) (or_parts (is_slash x) (is_bad_byte x) p.0).0 (plain_of xs p.1)
-
 -- its name is longer than the log's
 apart : (n : Naming) (log : List ℕ) (place : ℕ) → IsPlainEnd n.ext → IsBase n.base n.ext (last_of log) → IsMemberAt n place log → ⊥
 apart n log place e b m = longer same
@@ -222,7 +217,7 @@ apart n log place e b m = longer same
 
     plain : list_any is_slash (n.base ++ 46 ∷ decimal number ++ n.ext) ≡ false
     plain = let bound : number ≤ 4294967295 = m.bound in
-        plain_both (n.base ++ 46 ∷ decimal number) n.ext (plain_both n.base (46 ∷ decimal number) (plain_of n.base b.clean) (decimal_plain number (omega (arith, bound)))) (plain_of n.ext e.clean)
+        plain_both (n.base ++ 46 ∷ decimal number) n.ext (plain_both n.base (46 ∷ decimal number) (unbarred n.base b.clean) (decimal_plain number (omega (arith, bound)))) (unbarred n.ext e.clean)
 
     same : last_of log ≡ n.base ++ 46 ∷ decimal number ++ n.ext
     same = ap (λ (x : List ℕ). last_of x) m.named ∙ last_joined n.dir (n.base ++ 46 ∷ decimal number ++ n.ext) plain
@@ -249,7 +244,7 @@ kin_of rule log limits p a b = record {
     name = last_of log
 
     clean : list_any is_barred (last_of log) ≡ false
-    clean = unbarred (last_of log) (last_plain log p) (drop_clean is_bad_byte (last_start_of log) log (no_bad log p))
+    clean = none_barred (last_of log) (last_plain log p) (drop_clean is_bad_byte (last_start_of log) log (no_bad log p))
 
     ext : IsPlainEnd (ext_of rule.addextension rule.extension (last_of log))
     ext = ext_plain rule.addextension rule.extension (last_of log) (addextension_fine rule limits) (extension_fine rule limits)

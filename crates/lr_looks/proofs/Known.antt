@@ -19,7 +19,7 @@ pub read_last : (xs : List Listing) (y : Listing) → slice_get (xs ++ y ∷ [])
 read_last [] y = refl
 read_last (x ∷ xs) y = read_last xs y
 
-read_before : (xs : List Listing) (y x : Listing) (k : ℕ) → slice_get xs k ≡ Some x → slice_get (xs ++ y ∷ []) k ≡ Some x
+pub read_before : (xs : List Listing) (y x : Listing) (k : ℕ) → slice_get xs k ≡ Some x → slice_get (xs ++ y ∷ []) k ≡ Some x
 read_before [] y x zero h = absurd (cc h)
 read_before [] y x (suc k) h = absurd (cc h)
 read_before (z ∷ xs) y x zero h = h
@@ -69,7 +69,7 @@ at_end known after dir place l e a p = (l, subst (λ (ls : List Listing). slice_
 pub at_before : (known : List Listing) (places : List ℕ → Option ℕ) (dir : Path) (place : ℕ) → ArePlaces known places → Some place ≡ places dir → IsListedAt known place dir
 at_before known places dir place so e = so.there dir place (sym e)
 
-none_listed : (dir : Path) (l : Listing) → WasListed [] dir l → ⊥
+pub none_listed : (dir : Path) (l : Listing) → WasListed [] dir l → ⊥
 none_listed dir l w = absurd (cc w.there)
 
 pub places_none : (known : List Listing) (found : List Found) → known ≡ [] → found ≡ [] → ArePlaces known (place_in found)

@@ -2,7 +2,7 @@ pub mod Kindred
 mod AskedBy
 mod Looking
 mod Choosing
-mod Known
+pub mod Known
 mod AsideLook
 pub mod Behind
 mod Adding

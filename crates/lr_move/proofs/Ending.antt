@@ -21,10 +21,11 @@ use Rattle.lr_copy.specs.Fits.{ArePaths, CanCopy}
 use Rattle.lr_copy.specs.Stops.{CopyStopped}
 use Rattle.lr_laws.proofs.Lists.{made_prefix, prefix_on}
 use Rattle.lr_laws_family.specs.Whole.{Named}
+use Rattle.lr_laws_family.proofs.Logs.{LeavesLog}
 use Rattle.lr_move.specs.Finishing.{Finished, IsLastStop, FinishStopped, at_copy, at_last}
 use Rattle.lr_move.specs.Waiting.{StaysWaiting, KeepsWaiting}
 use Rattle.lr_move.proofs.LettingGo.{EndsThere}
-use Rattle.lr_move.proofs.Sparing.{Spares, spared_named, spared_stopped, uncut_named}
+use Rattle.lr_move.proofs.Sparing.{spared_named, spared_stopped, uncut_named}
 use Rattle.lr_move.proofs.Waits.{named_on, whole_spared, whole_waits}
 
 -- ---- the unlink fits behind the copy
@@ -36,8 +37,8 @@ can_let_go job count paths uncut can (is_told {j = j} {k = k} {es = es} m h) = r
     stood : IsFileAt (names (world (past j))) job.from
     stood = can.place.0.log
 
-    spared : Each (Spares job.from) es
-    spared = each_in_order (Spares job.from) es (spared_named job paths count (reverse es) (uncut_named job count (reverse es) uncut h))
+    spared : Each (LeavesLog job.from) es
+    spared = each_in_order (LeavesLog job.from) es (spared_named job paths count (reverse es) (uncut_named job count (reverse es) uncut h))
 
 -- ---- what is left
 
@@ -70,7 +71,7 @@ ends_stopped job why paths uncut l = left_as l (λ ts h. stop_ends job why paths
 
 module _ (job : Job) (why : CopyStop) (paths : ArePaths job) (g : ℕ) (p q : Past) (es : List Entry) (m : Made p es q) (j : IsJournal p) (n : names (world p) job.from ≡ thing.File g) where
   -- it was spared
-  waits_spared : Each (Spares job.from) es → StaysWaiting job why g p q
+  waits_spared : Each (LeavesLog job.from) es → StaysWaiting job why g p q
   waits_spared a = record { whole = λ h. whole_spared job.from g p q es j m a n h; named = inl (named_on job.from g p q es m a n) }
 
   -- behind its whole copy
@@ -80,8 +81,8 @@ module _ (job : Job) (why : CopyStop) (paths : ArePaths job) (g : ℕ) (p q : Pa
       es_are : es ≡ reverse h.back ++ reverse h.front
       es_are = sym (reverse-reverse es) ∙ (ap reverse h.joined ∙ reverse-append h.front h.back)
 
-      spared : Each (Spares job.from) (reverse h.front)
-      spared = each_reverse (Spares job.from) h.front (spared_named job paths count h.front h.first)
+      spared : Each (LeavesLog job.from) (reverse h.front)
+      spared = each_reverse (LeavesLog job.from) h.front (spared_named job paths count h.front h.first)
 
       at_mid : Cut p q (reverse h.back) (reverse h.front) → StaysWaiting job why g p q
       at_mid c = ⊎_elim (λ none. still (subst (λ (ts : List Entry). Made c.mid (reverse ts) q) none c.second)) (λ one. gone (subst (λ (ts : List Entry). Made c.mid (reverse ts) q) one c.second)) h.second
@@ -105,7 +106,7 @@ module _ (job : Job) (why : CopyStop) (paths : ArePaths job) (g : ℕ) (p q : Pa
               d = cut_one c.mid q (Unlinks job.from ∷ []) [] (Unlinks job.from) refl l
 
   waits : job.cut ≡ false → FinishStopped job why (reverse es) → StaysWaiting job why g p q
-  waits uncut (at_copy h) = waits_spared (each_in_order (Spares job.from) es (spared_stopped job paths uncut why (reverse es) h))
+  waits uncut (at_copy h) = waits_spared (each_in_order (LeavesLog job.from) es (spared_stopped job paths uncut why (reverse es) h))
   waits uncut (at_last count is h) = waits_last count is h
 
 pub waits_by : (job : Job) (why : CopyStop) {o n : Option Journal} → ArePaths job → job.cut ≡ false → Left (FinishStopped job why) o n → KeepsWaiting job why o n

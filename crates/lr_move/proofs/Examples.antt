@@ -1,8 +1,7 @@
 -- A log that is let go too early.
-use Rattle.std.proofs.Common.{◌≡◌, ◌≢◌, ◌⊎◌, inl, inr, ⊎_elim, ℕ, zero, suc, ◌<◌, ◌≤◌, Bool, true, false, refl, sym, ◌∙◌, subst, arith, List, [], ◌∷◌, length, codes, bytes_eq}
-use Rattle.std.specs.Prelude.{slice_index_or, All, Contains, count_by, ◌==◌}
+use Rattle.std.proofs.Common.{◌≡◌, ◌⊎◌, inl, inr, ⊎_elim, ℕ, zero, suc, ◌<◌, ◌≤◌, refl, sym, ◌∙◌, subst, arith, List, [], ◌∷◌, length, codes}
+use Rattle.std.specs.Prelude.{slice_index_or, Contains, count_by, ◌==◌}
 use Rattle.std.proofs.lemmas.List.Elements.{All-cons}
-use Rattle.std.proofs.lemmas.Slice.Eq.{bytes_eq-Decides}
 use Rattle.lr_rules.specs.declared.path.Path.{Path}
 use Rattle.lr_rules.specs.Names.{aside_path}
 use Rattle.lr_rules.specs.Path.{parent_of}
@@ -17,23 +16,16 @@ use Rattle.lr_host.specs.World.{Past, ◌▸◌, world, names}
 use Rattle.lr_laws.specs.Chain.{log, first, worked_file}
 use Rattle.lr_laws_family.specs.Whole.{Has}
 use Rattle.lr_laws.proofs.Parts.{named_drawn}
+use Rattle.lr_laws.proofs.Example.{none_of}
+use Rattle.lr_laws.proofs.DurableExamples.{other}
 use Rattle.lr_move.specs.Moved.{IsLetGo, LetsGoWhole}
 use Rattle.lr_move.specs.Worked.{tmp, part, waiting, start, filled, bytes_pending, before_file_sync, name_pending, before_dir_sync}
 
-apart : (x y : Path) → bytes_eq x y ≡ false → x ≢ y
-apart x y e same = let yes : bytes_eq x y ≡ true = (bytes_eq-Decides x y).1 same in clash (bytes_eq x y) e yes
-  where
-    clash : (b : Bool) → b ≡ false → b ≡ true → ⊥
-    clash b e f = cc
-
 -- ---- the opening is a disk
-
-none_of : {A : Type 0} (P : A → Type 0) → All P []
-none_of P k d lt = absurd (omega arith)
 
 waiting_valid : IsValid waiting
 waiting_valid = record {
-  once = ((apart tmp (codes "/") refl, (apart tmp (codes "/v") refl, tt)), ((apart (codes "/") (codes "/v") refl, tt), (tt, tt)));
+  once = ((other tmp (codes "/") refl, (other tmp (codes "/v") refl, tt)), ((other (codes "/") (codes "/v") refl, tt), (tt, tt)));
   root = (0, omega arith, refl);
   inside = All-cons In tmp (codes "/" ∷ codes "/v" ∷ []) in_v (All-cons In (codes "/") (codes "/v" ∷ []) in_root (All-cons In (codes "/v") [] in_root (none_of In)));
   named = one;
@@ -65,13 +57,13 @@ filled_journal : IsJournal filled
 filled_journal = ((((waiting_valid, (refl, refl)), record { part = refl; ended = λ e. absurd (cc) }), (1, refl)), record { part = refl; ended = λ e. omega arith })
 
 bytes_journal : IsJournal bytes_pending
-bytes_journal = ((filled_journal, ((1, refl), λ e. cc, λ e. cc, refl, apart part first refl)), refl)
+bytes_journal = ((filled_journal, ((1, refl), λ e. cc, λ e. cc, refl, other part first refl)), refl)
 
 pub file_sync_journal : IsJournal before_file_sync
 file_sync_journal = ((bytes_journal, (0, refl)), (1, refl))
 
 name_journal : IsJournal name_pending
-name_journal = ((filled_journal, (1, refl)), ((1, refl), λ e. cc, λ e. cc, refl, apart part first refl))
+name_journal = ((filled_journal, (1, refl)), ((1, refl), λ e. cc, λ e. cc, refl, other part first refl))
 
 pub dir_sync_journal : IsJournal before_dir_sync
 dir_sync_journal = ((name_journal, (0, refl)), refl)

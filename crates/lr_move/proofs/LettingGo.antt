@@ -23,8 +23,9 @@ use Rattle.lr_laws.proofs.Parts.{named_once}
 use Rattle.lr_laws_family.specs.Whole.{Named, WritersSpareCopy, IsCopyWhole}
 use Rattle.lr_laws_family.proofs.Moments.{IsLast, is_last}
 use Rattle.lr_laws_family.proofs.Named.{whole}
+use Rattle.lr_laws_family.proofs.Logs.{LeavesLog}
 use Rattle.lr_move.specs.Moved.{IsLetGo, LetsGoWhole, CopiesAside, LetsGo}
-use Rattle.lr_move.proofs.Sparing.{Spares, spared_named}
+use Rattle.lr_move.proofs.Sparing.{spared_named}
 
 -- the file of a whole copy is another
 other_file : (x to : Path) (p q : Past) → IsJournal q → to ≢ x → (w : IsCopyWhole x to p q) → w.copy ≢ w.log
@@ -44,7 +45,7 @@ may_go s job count p q es m j paths only of_set n = record { to = job.to; member
 
 -- No entry of these touches the log; or they are a copy of it, up to the sync of its directory, and then its unlink, or nothing.
 abbrev pub EndsThere : Job → List Entry → Type 0
-EndsThere job ts = Each (Spares job.from) ts ⊎ ((count : ℕ) × Then (Named job count) (Maybe (Unlinks job.from)) ts)
+EndsThere job ts = Each (LeavesLog job.from) ts ⊎ ((count : ℕ) × Then (Named job count) (Maybe (Unlinks job.from)) ts)
 
 -- what stands in none of the first entries, and of the others is the first or none
 found_last : (P : Entry → Type 0) (e : Entry) (ns ms xs ys : List Entry) → (P e → ⊥) → Each P ns → Maybe e ms → ns ++ ms ≡ xs ++ (e ∷ ys) → xs ≡ ns
@@ -66,19 +67,19 @@ module _ (s : LogSet) (job : Job) (p q : Past) (es : List Entry) (m : Made p es 
   last = Unlinks job.from
 
   -- it is none that spares it
-  never_spared : Spares job.from last → ⊥
+  never_spared : LeavesLog job.from last → ⊥
   never_spared spares = spares.1 (inl refl)
 
   -- just before it
   just : (u : Past) (w : IsOnWay p (u ▸ last) q es) → IsLast p u last w.old → EndsThere job (reverse es) → IsLetGo s p u
-  just u w k ends = ⊎_elim (λ a. absurd (never_spared (each_last (Spares job.from) (reverse k.front) (last ∷ reverse w.new) (subst (Each (Spares job.from)) all_are a)).0)) (λ l. at_end l.0 l.1) ends
+  just u w k ends = ⊎_elim (λ a. absurd (never_spared (each_last (LeavesLog job.from) (reverse k.front) (last ∷ reverse w.new) (subst (Each (LeavesLog job.from)) all_are a)).0)) (λ l. at_end l.0 l.1) ends
     where
       all_are : reverse es ≡ reverse k.front ++ (last ∷ reverse w.new)
       all_are = ap reverse (w.es_are ∙ ap (λ us. w.new ++ us) k.es_are) ∙ (reverse-append w.new (last ∷ k.front) ∙ (ap (λ us. us ++ reverse w.new) (reverse-append (last ∷ []) k.front) ∙ append_assoc (reverse k.front) (last ∷ []) (reverse w.new)))
 
       at_end : (count : ℕ) → Then (Named job count) (Maybe last) (reverse es) → IsLetGo s p u
       at_end count n =
-          let same : reverse k.front ≡ n.front = found_last (Spares job.from) last n.front n.back (reverse k.front) (reverse w.new) never_spared (spared_named job paths count n.front n.first) n.second (sym n.joined ∙ all_are) in
+          let same : reverse k.front ≡ n.front = found_last (LeavesLog job.from) last n.front n.back (reverse k.front) (reverse w.new) never_spared (spared_named job paths count n.front n.first) n.second (sym n.joined ∙ all_are) in
           let one : Made u (last ∷ []) (u ▸ last) = by_tool at_first tt k.fits in
           may_go s job count p u k.front k.made j paths (since_before _ p u q k.front (w.new ++ last ∷ []) k.made (made_on u (u ▸ last) q (last ∷ []) w.new one w.behind) only) of_set (subst (Named job count) (sym same) n.first)
 

@@ -1,6 +1,5 @@
 -- The entries of a copy, which take no file from the log's path and write to none there.
-use Rattle.std.proofs.Common.{◌≡◌, ⊎_elim, ℕ, Bool, true, false, cond, sym, ◌∙◌, ap, subst, List, [], ◌∷◌, ◌++◌}
-use Rattle.lr_rules.specs.declared.path.Path.{Path}
+use Rattle.std.proofs.Common.{◌≡◌, ⊎_elim, ℕ, Bool, true, false, cond, sym, ◌∙◌, ap, List, [], ◌∷◌, ◌++◌}
 use Rattle.lr_rules.specs.declared.fault.CallKind.TheVariants as call
 use Rattle.lr_host.specs.declared.entry.Entry.{Entry}
 use Rattle.lr_host.specs.declared.entry.Entry.TheVariants.{Reads, Renames, Makes, Appends, Truncates, Unlinks, SyncsFile, SyncsDir}
@@ -17,20 +16,13 @@ use Rattle.lr_copy.specs.Copying.{Copies, clearing, opening, Fills, naming, Copi
 use Rattle.lr_copy.specs.Fits.{ArePaths}
 use Rattle.lr_copy.specs.Stops.{OpenStopped, FillStopped, NameStopped, CutStopped, CloseStopped, at_name, at_cut, CopyStopped, at_open, at_fill, at_close}
 use Rattle.lr_copy.proofs.EachOfBytes.{each_both, each_are, each_all, each_broke}
+use Rattle.lr_copy.proofs.Keeping.{each_maybe}
 use Rattle.lr_laws_family.specs.Whole.{Named}
-use Rattle.lr_laws.specs.StateWhole.{renamed_paths}
-use Rattle.lr_laws.proofs.Files.{LeavesFile}
-
--- the entry takes no file from the path, gives it none, and writes to none there
-abbrev pub Spares : Path → Entry → Type 0
-Spares x e = LeavesFile x e × (IsIn x (renamed_paths e) → ⊥)
-
-each_maybe : (P : Entry → Type 0) (e : Entry) (ts : List Entry) → P e → Maybe e ts → Each P ts
-each_maybe P e ts p m = ⊎_elim (λ none. subst (Each P) (sym none) tt) (λ one. subst (Each P) (sym one) (p, tt)) m
+use Rattle.lr_laws_family.proofs.Logs.{LeavesLog}
 
 module _ (job : Job) (paths : ArePaths job) where
   abbrev P : Entry → Type 0
-  P e = Spares job.from e
+  P e = LeavesLog job.from e
 
   -- ---- each kind of them
 

@@ -15,11 +15,11 @@ use Rattle.lr_laws.proofs.Counting.{IsWritten, whole_on}
 use Rattle.lr_laws.proofs.Files.{LeavesFile}
 use Rattle.lr_laws.proofs.Parts.{named_once}
 use Rattle.lr_laws.proofs.Walks.{tool_same}
-use Rattle.lr_move.proofs.Sparing.{Spares}
+use Rattle.lr_laws_family.proofs.Logs.{LeavesLog}
 
 -- ---- it has its path
 
-pub named_on : (x : Path) (g : ℕ) (p q : Past) (es : List Entry) → Made p es q → Each (Spares x) es → names (world p) x ≡ thing.File g → names (world q) x ≡ thing.File g
+pub named_on : (x : Path) (g : ℕ) (p q : Past) (es : List Entry) → Made p es q → Each (LeavesLog x) es → names (world p) x ≡ thing.File g → names (world q) x ≡ thing.File g
 named_on x g p _ _ at_first a n = n
 named_on x g p _ es (by_writer {q = q} {e = e} m i f) a n =
     let r = named_on x g p q es m a n in ⊎_elim (λ same. same ∙ r) (λ new. absurd (nothing_no_file (names (world q) x) g new.0 r)) (wrote_names q e x i)
@@ -41,7 +41,7 @@ spared_written q x g (entry.Appends y piece) j n l w = l (named_once q y x g j w
 spared_written q x g (entry.Truncates y) j n l w = l (named_once q y x g j w n)
 spared_written q x g _ j n l w = w
 
-pub whole_spared : (x : Path) (g : ℕ) (p q : Past) (es : List Entry) → IsJournal p → Made p es q → Each (Spares x) es → names (world p) x ≡ thing.File g → IsWhole p g → IsWhole q g
+pub whole_spared : (x : Path) (g : ℕ) (p q : Past) (es : List Entry) → IsJournal p → Made p es q → Each (LeavesLog x) es → names (world p) x ≡ thing.File g → IsWhole p g → IsWhole q g
 whole_spared x g p _ _ j at_first a n h = h
 whole_spared x g p _ es j (by_writer {q = q} {e = e} m i f) a n h = whole_on q e g (λ w. none_written (world q) e g i w) (whole_spared x g p q es j m a n h)
 whole_spared x g p _ _ j (by_tool {es = es} {q = q} {e = e} m i f) a n h =

@@ -11,7 +11,7 @@ use Rattle.lr_plan.specs.Course.{Part, Nothing, Course, StepFails, StepThen, Unb
 pub part_as : (P : Part) {t t' : List Mark} {f f' : List Fault} {ts ts' : List Entry} → t ≡ t' → f ≡ f' → ts ≡ ts' → P t f ts → P t' f' ts'
 part_as P {t} {t'} {f} {f'} {ts} {ts'} a b c p = subst (λ x. P x f' ts') a (subst (λ x. P t x ts') b (subst (λ x. P t f x) c p))
 
-one_none : {A : Type 0} (x : A) (xs : List A) → xs ≡ x ∷ [] → xs ≡ [] → ⊥
+pub one_none : {A : Type 0} (x : A) (xs : List A) → xs ≡ x ∷ [] → xs ≡ [] → ⊥
 one_none x xs a b = cc
 
 pub nothing_then : (P : Part) (t t' : List Mark) (f f' : List Fault) (ts ts' : List Entry) → Nothing t f ts → P t' f' ts' → P (t ++ t') (f ++ f') (ts ++ ts')

@@ -1,5 +1,5 @@
 pub mod Adding
-mod Hindrances
+pub mod Hindrances
 mod Making
 mod Short
 mod Standing

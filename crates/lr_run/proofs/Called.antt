@@ -57,7 +57,7 @@ none_copied_before : (xs ys : List Fault) → NoneOfCopy (xs ++ ys) → NoneOfCo
 none_copied_before [] ys n = tt
 none_copied_before (x ∷ xs) ys n = (n.0, none_copied_before xs ys n.1)
 
-none_copied_behind : (xs ys : List Fault) → NoneOfCopy (xs ++ ys) → NoneOfCopy ys
+pub none_copied_behind : (xs ys : List Fault) → NoneOfCopy (xs ++ ys) → NoneOfCopy ys
 none_copied_behind [] ys n = n
 none_copied_behind (x ∷ xs) ys n = none_copied_behind xs ys n.1
 

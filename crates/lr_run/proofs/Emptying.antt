@@ -50,6 +50,7 @@ use Rattle.lr_laws_rotations.specs.Seen.{IsLogSeen, AreLogsSeen}
 use Rattle.lr_laws_rotations.proofs.CallsFit.{log_paths}
 use Rattle.lr_laws_rotations.proofs.LogSeen.{any_names}
 use Rattle.lr_laws_acts.specs.Planned.{AreReadyFor, HaveLogs}
+use Rattle.lr_laws_acts.proofs.Stands.{job_has}
 use Rattle.lr_laws_looks.specs.Targets.{groups_of, all_targets}
 use Rattle.lr_laws_looks.proofs.Apart.{kept_at}
 use Rattle.lr_laws_looks.proofs.Coming.{Comes, comes_from, was_looked, IsFrom, came_from}
@@ -77,16 +78,11 @@ record IsOfTarget (ts : List Target) (job : Job) : Type 0 where
   one : IsIn target ts
   is : target.job ≡ Some job
 
-in_one : (o : Option Job) (job : Job) → IsIn job (option_to_list o) → o ≡ Some job
-in_one None job i = absurd i
-in_one (Some j) job (inl e) = ap Some e
-in_one (Some j) job (inr none) = absurd none
-
 of_logs : (ts : List Target) (logs : List LogPlan) (job : Job) → AreReadyFor ts logs → IsIn job (jobs_in logs) → IsOfTarget ts job
 of_logs [] [] job r i = absurd i
 of_logs [] (l ∷ ls) job r i = absurd r
 of_logs (t ∷ ts) [] job r i = absurd r
-of_logs (t ∷ ts) (l ∷ ls) job r i = ⊎_elim (λ a. record { target = t; one = inl refl; is = sym r.0.job_is ∙ in_one l.job job a }) (λ b. further (of_logs ts ls job r.1 b)) (in_append job (option_to_list l.job) (jobs_in ls) i)
+of_logs (t ∷ ts) (l ∷ ls) job r i = ⊎_elim (λ a. record { target = t; one = inl refl; is = sym r.0.job_is ∙ job_has l.job job a }) (λ b. further (of_logs ts ls job r.1 b)) (in_append job (option_to_list l.job) (jobs_in ls) i)
   where
     further : IsOfTarget ts job → IsOfTarget (t ∷ ts) job
     further o = record { target = o.target; one = inr o.one; is = o.is }

@@ -33,7 +33,7 @@ use Rattle.lr_laws_family.specs.Weave.{Weave, FirstWoven, Among}
 use Rattle.lr_laws_family.proofs.Weaving.{weave_on, weave_others}
 use Rattle.lr_laws_rotations.specs.Runs.{AllTurnsBy, AllTurnedBy, started, IsWholeRunBy}
 use Rattle.lr_laws_rotations.specs.Seen.{AreLogsSeen}
-use Rattle.lr_laws_acts.proofs.Parting.{done_turns, cut_turns}
+use Rattle.lr_laws_acts.proofs.Parting.{done_turns, cut_turns, others_behind}
 use Rattle.lr_laws_acts.proofs.Planning.{ready_planned}
 use Rattle.lr_laws_looks.specs.Targets.{groups_of, all_targets}
 use Rattle.lr_laws_rotations.proofs.Shapes.{quiet_run_by}
@@ -93,9 +93,6 @@ ended_whole state clock rules ts t = record {
 pub woven_behind : (P : Entry → Type 0) (steps xs ys : List Entry) → Weave P steps xs → Each P ys → Weave P steps (xs ++ ys)
 woven_behind P steps xs ys w a = subst (λ (zs : List Entry). Weave P zs (xs ++ ys)) (append-nil steps) (weave_on P steps xs [] ys w (weave_others P ys a))
 
-pub first_behind : (P : Entry → Type 0) (steps xs ys : List Entry) → FirstWoven P steps xs → Each P ys → FirstWoven P steps (xs ++ ys)
-first_behind P steps xs ys f a = record { made = f.made; first = f.first; woven = woven_behind P f.made xs ys f.woven a }
-
 abbrev pub written : (state : Path) (clock : Clock) (rules : Rules) (ts us : List Entry) → AllTurnsBy state clock rules ts → Each (IsOfState state) (filter is_change us) → AllTurnsBy state clock rules (ts ++ us)
 written state clock rules ts us t a = record {
   looks = t.looks;
@@ -107,7 +104,7 @@ written state clock rules ts us t a = record {
   all = subst (Each (λ e. IsOfSome t.targets e ⊎ IsOfState state e)) (sym (filter-append is_change t.acts us))
       (each_append (λ e. IsOfSome t.targets e ⊎ IsOfState state e) (filter is_change t.acts) (filter is_change us) t.all (each_as (IsOfState state) (λ e. IsOfSome t.targets e ⊎ IsOfState state e) (filter is_change us) (λ e h. inr h) a));
   each = λ x h. subst (FirstWoven (StandsBetween state x t.targets) (target_entries x)) (sym (filter-append is_change t.acts us))
-      (first_behind (StandsBetween state x t.targets) (target_entries x) (filter is_change t.acts) (filter is_change us) (t.each x h) (each_as (IsOfState state) (StandsBetween state x t.targets) (filter is_change us) (λ e h. inr (inl h)) a));
+      (others_behind (StandsBetween state x t.targets) (target_entries x) (filter is_change t.acts) (filter is_change us) (t.each x h) (each_as (IsOfState state) (StandsBetween state x t.targets) (filter is_change us) (λ e h. inr (inl h)) a));
 }
 
 abbrev pub written_whole : (state : Path) (clock : Clock) (rules : Rules) (ts us : List Entry) → AllTurnedBy state clock rules ts → Each (IsOfState state) (filter is_change us) → AllTurnedBy state clock rules (ts ++ us)

@@ -9,7 +9,7 @@ entry-at [] k lt = absurd (omega arith)
 entry-at (x ∷ xs) zero lt = (x, refl)
 entry-at (x ∷ xs) (suc k) lt = entry-at xs k (omega arith)
 
-flat-suc : (f : Entry → List ℕ) (es : List Entry) (k : ℕ) (e : Entry) → slice_get es k ≡ Some e → flat_map f (take (suc k) es) ≡ flat_map f (take k es) ++ f e
+pub flat-suc : (f : Entry → List ℕ) (es : List Entry) (k : ℕ) (e : Entry) → slice_get es k ≡ Some e → flat_map f (take (suc k) es) ≡ flat_map f (take k es) ++ f e
 flat-suc f [] k e at = absurd (cc at)
 flat-suc f (x ∷ xs) zero e at =
     let same : x ≡ e = cc at in

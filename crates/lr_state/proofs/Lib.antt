@@ -4,8 +4,8 @@ mod Dates
 mod Decimals
 pub mod Joining
 mod Left
-mod Lengths
-mod Lines
+pub mod Lengths
+pub mod Lines
 pub mod Looks
 mod Names
 mod Numbers

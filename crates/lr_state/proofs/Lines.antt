@@ -12,16 +12,16 @@ use Rattle.lr_state.specs.Table.{Entry, moment_of}
 use Rattle.lr_state.proofs.Names.{named-sound, named-complete}
 use Rattle.lr_state.proofs.Dates.{parts_of, parts-sound, parts-complete}
 
-abbrev Fields : Type 0
+abbrev pub Fields : Type 0
 Fields = ℤ × ℕ × ℕ × ℕ × ℕ × ℕ
 
-abbrev IsValid : Fields → Type 0
+abbrev pub IsValid : Fields → Type 0
 IsValid f = IsMoment f.0 f.1 f.2 f.3 f.4 f.5
 
-abbrev make : (f : Fields) → IsValid f → Civil
+abbrev pub make : (f : Fields) → IsValid f → Civil
 make f v = record { year = f.0; month = f.1; day = f.2; hour = f.3; minute = f.4; second = f.5; valid = v }
 
-valid-same : (f : Fields) (v w : IsValid f) → v ≡ w
+pub valid-same : (f : Fields) (v w : IsValid f) → v ≡ w
 valid-same f v w = let prop : IsProp (IsValid f) = hlevel props in prop v w
 
 same_make : (f g : Fields) → f ≡ g → (v : IsValid f) (w : IsValid g) → make f v ≡ make g w

@@ -13,12 +13,12 @@ use Rattle.lr_state.proofs.Joining.{bytes_more}
 
 -- ---- one look
 
-record SameLook (a b : StateSight) (xs ys : List Entry) : Type 0 where
+pub record SameLook (a b : StateSight) (xs ys : List Entry) : Type 0 where
   pub sight : a ≡ b
   pub rest : xs ≡ ys
 
 -- Behind looks that failed nothing follows, so a look and what follows are known by the entries.
-same_look : (path : Path) (a b : StateSight) (xs ys : List Entry) → (a ≡ Failed → xs ≡ []) → (b ≡ Failed → ys ≡ []) → state_look path a ++ xs ≡ state_look path b ++ ys → SameLook a b xs ys
+pub same_look : (path : Path) (a b : StateSight) (xs ys : List Entry) → (a ≡ Failed → xs ≡ []) → (b ≡ Failed → ys ≡ []) → state_look path a ++ xs ≡ state_look path b ++ ys → SameLook a b xs ys
 same_look path Failed Failed xs ys none none' e = record { sight = refl; rest = e }
 same_look path Failed Nothing xs ys none none' e = absurd (let n : xs ≡ [] = none refl in cc)
 same_look path Failed (Saw t) xs ys none none' e = absurd (let n : xs ≡ [] = none refl in cc)

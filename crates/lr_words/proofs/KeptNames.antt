@@ -5,6 +5,7 @@ use Rattle.std.proofs.lemmas.Bool.{and_right}
 use Rattle.std.proofs.lemmas.Bool.Decides.{nat_tests}
 use Rattle.lr_rules.specs.Path.{is_slash, is_kept, kept_parts, behind_slashes as path_parts}
 use Rattle.lr_rules.specs.Match.{is_wild_sign, has_sign, literal_path}
+use Rattle.lr_rules.proofs.Splits.{Parts, some_parts, split_parts}
 use Rattle.lr_words.specs.Names.{is_path_part, behind_word_slashes, kept_name}
 
 -- ---- backslashes and slashes
@@ -18,19 +19,6 @@ slash_escapes_not c d h = grind (arith, nat_tests)
 
 escaped_no_slash : (c d : ℕ) → escapes c d ≡ true → is_slash d ≡ false
 escaped_no_slash c d h = grind (arith, nat_tests)
-
--- a list of parts has one at least
-data Parts : List (List ℕ) → Type 0 where
-  parts : (q : List ℕ) (qs : List (List ℕ)) → Parts (q ∷ qs)
-
-split_parts : (bs : List ℕ) → Parts (slice_split is_slash bs)
-split_parts [] = parts [] []
-split_parts (b ∷ bs) = by (is_slash b) (slice_split is_slash bs)
-  where
-    by : (s : Bool) (ps : List (List ℕ)) → Parts (cond s ([] ∷ ps) (onto_first b ps))
-    by true ps = parts [] ps
-    by false [] = parts (b ∷ []) []
-    by false (q ∷ qs) = parts (b ∷ q) qs
 
 -- what the first part begins with
 begins_with : (d : ℕ) (cs q : List ℕ) (qs : List (List ℕ)) → slice_split is_slash (d ∷ cs) ≡ q ∷ qs → (e : ℕ) (r : List ℕ) → q ≡ e ∷ r → e ≡ d
@@ -51,17 +39,17 @@ two_signs : (sc sd : Bool) (c d : ℕ) (ps : List (List ℕ)) → Parts ps → s
     ≡ map literal_path (cond sc ([] ∷ cond sd ([] ∷ ps) (onto_first d ps)) (onto_first c (cond sd ([] ∷ ps) (onto_first d ps))))
 two_signs true sd c d ps p hc hd e = absurd (cc)
 two_signs false true c d ps p hc hd e = absurd (cc)
-two_signs false false c d _ (parts q qs) hc hd e = ap (λ b. cond b (d ∷ literal_path q) (c ∷ literal_path (d ∷ q)) ∷ map literal_path qs) (sym e)
+two_signs false false c d _ (some_parts q qs) hc hd e = ap (λ b. cond b (d ∷ literal_path q) (c ∷ literal_path (d ∷ q)) ∷ map literal_path qs) (sym e)
 
 one_sign : (sc : Bool) (c : ℕ) (ps : List (List ℕ)) → Parts ps → ((q : List ℕ) (qs : List (List ℕ)) → ps ≡ q ∷ qs → literal_path (c ∷ q) ≡ c ∷ literal_path q)
     → cond sc ([] ∷ map literal_path ps) (onto_first c (map literal_path ps)) ≡ map literal_path (cond sc ([] ∷ ps) (onto_first c ps))
 one_sign true c ps p h = refl
-one_sign false c _ (parts q qs) h = ap (λ x. x ∷ map literal_path qs) (sym (h q qs refl))
+one_sign false c _ (some_parts q qs) h = ap (λ x. x ∷ map literal_path qs) (sym (h q qs refl))
 
 -- a word without its backslashes has the parts of the word without theirs
 split_literal : (w : List ℕ) → slice_split is_slash (literal_path w) ≡ map literal_path (slice_split is_slash w)
 split_literal [] = refl
-split_literal (c ∷ []) = one_sign (is_slash c) c ([] ∷ []) (parts [] []) (λ q qs h. stays_first c q (λ d r qe. absurd (cc)))
+split_literal (c ∷ []) = one_sign (is_slash c) c ([] ∷ []) (some_parts [] []) (λ q qs h. stays_first c q (λ d r qe. absurd (cc)))
 split_literal (c ∷ d ∷ cs) = by (escapes c d) refl (split_literal cs) (split_literal (d ∷ cs))
   where
     by : (e : Bool) → escapes c d ≡ e → slice_split is_slash (literal_path cs) ≡ map literal_path (slice_split is_slash cs)
@@ -154,7 +142,7 @@ path_of_kept w = literal_parts (slice_split is_slash w) ∙ ap path_parts (sym (
 
 -- ---- signs
 
-or_assoc : (a b c : Bool) → (a || (b || c)) ≡ ((a || b) || c)
+pub or_assoc : (a b c : Bool) → (a || (b || c)) ≡ ((a || b) || c)
 or_assoc true b c = refl
 or_assoc false b c = refl
 
@@ -182,14 +170,14 @@ signs_split e [] = by e
 signs_split true (c ∷ cs) = by (is_slash c) (slice_split is_slash cs) (split_parts cs) (signs_split false cs)
   where
     by : (s : Bool) (ps : List (List ℕ)) → Parts ps → has_sign false cs ≡ in_parts false ps → has_sign false cs ≡ in_parts true (cond s ([] ∷ ps) (onto_first c ps))
-    by true _ (parts q qs) h = h
-    by false _ (parts q qs) h = h
+    by true _ (some_parts q qs) h = h
+    by false _ (some_parts q qs) h = h
 signs_split false (c ∷ cs) = by (is_slash c) refl (slice_split is_slash cs) (split_parts cs) (signs_split false cs) (signs_split (c == 92) cs)
   where
     by : (s : Bool) → is_slash c ≡ s → (ps : List (List ℕ)) → Parts ps → has_sign false cs ≡ in_parts false ps → has_sign (c == 92) cs ≡ in_parts (c == 92) ps
         → (is_wild_sign c || has_sign (c == 92) cs) ≡ in_parts false (cond s ([] ∷ ps) (onto_first c ps))
-    by true is _ (parts q qs) plain own = ap (λ b. b || has_sign (c == 92) cs) (slash_no_sign c is) ∙ ap (λ e. has_sign e cs) (slash_no_escape c is) ∙ plain
-    by false is _ (parts q qs) plain own = ap (λ b. is_wild_sign c || b) own ∙ or_assoc (is_wild_sign c) (has_sign (c == 92) q) (list_any (has_sign false) qs)
+    by true is _ (some_parts q qs) plain own = ap (λ b. b || has_sign (c == 92) cs) (slash_no_sign c is) ∙ ap (λ e. has_sign e cs) (slash_no_escape c is) ∙ plain
+    by false is _ (some_parts q qs) plain own = ap (λ b. is_wild_sign c || b) own ∙ or_assoc (is_wild_sign c) (has_sign (c == 92) q) (list_any (has_sign false) qs)
 
 pub signs_append : (e : Bool) (p rest : List ℕ) → Tail rest → has_sign e (p ++ rest) ≡ (has_sign e p || has_sign false rest)
 signs_append true [] _ ends = refl

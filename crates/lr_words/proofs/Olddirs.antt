@@ -11,7 +11,9 @@ use Rattle.lr_rules.specs.Names.{is_step, word_parts, path_by, path_from}
 use Rattle.lr_rules.specs.Path.{is_bad_byte, is_slash, is_empty, is_dots, is_absolute, has_bad_byte, has_empty_part, has_dot_part}
 use Rattle.lr_rules.proofs.Cleaned.{all_plain, ArePlain}
 use Rattle.lr_rules.proofs.FromWord.{slashed}
+use Rattle.lr_rules.proofs.Splits.{Parts, some_parts, split_parts}
 use Rattle.lr_words.specs.Words.{is_climb, has_climb}
+use Rattle.lr_words.proofs.KeptNames.{or_assoc}
 
 from_root : (word : List ℕ) → path_from (47 ∷ []) word ≡ path_by (word_parts word)
 from_root word = by (is_absolute word)
@@ -25,26 +27,9 @@ from_root word = by (is_absolute word)
 slash_good : (b : ℕ) → is_slash b ≡ true → is_bad_byte b ≡ false
 slash_good b h = grind (arith, nat_tests)
 
-or_assoc : (a b c : Bool) → (a || (b || c)) ≡ ((a || b) || c)
-or_assoc true b c = refl
-or_assoc false b c = refl
-
 bad_joined : (ps : List (List ℕ)) → has_bad_byte (slashed ps) ≡ list_any has_bad_byte ps
 bad_joined [] = refl
 bad_joined (p ∷ ps) = list_any-append is_bad_byte p (slashed ps) ∙ ap (λ b. has_bad_byte p || b) (bad_joined ps)
-
--- a list of parts has one at least
-data Parts : List (List ℕ) → Type 0 where
-  parts : (q : List ℕ) (qs : List (List ℕ)) → Parts (q ∷ qs)
-
-split_parts : (bs : List ℕ) → Parts (slice_split is_slash bs)
-split_parts [] = parts [] []
-split_parts (b ∷ bs) = by (is_slash b) (slice_split is_slash bs)
-  where
-    by : (s : Bool) (ps : List (List ℕ)) → Parts (cond s ([] ∷ ps) (onto_first b ps))
-    by true ps = parts [] ps
-    by false [] = parts (b ∷ []) []
-    by false (q ∷ qs) = parts (b ∷ q) qs
 
 bad_split : (word : List ℕ) → list_any has_bad_byte (slice_split is_slash word) ≡ has_bad_byte word
 bad_split [] = refl
@@ -52,8 +37,8 @@ bad_split (b ∷ bs) = by (is_slash b) refl (slice_split is_slash bs) (split_par
   where
     by : (s : Bool) → is_slash b ≡ s → (ps : List (List ℕ)) → Parts ps → list_any has_bad_byte ps ≡ has_bad_byte bs
         → list_any has_bad_byte (cond s ([] ∷ ps) (onto_first b ps)) ≡ (is_bad_byte b || has_bad_byte bs)
-    by true is _ (parts q qs) h = h ∙ ap (λ x. x || has_bad_byte bs) (sym (slash_good b is))
-    by false is _ (parts q qs) h = sym (or_assoc (is_bad_byte b) (has_bad_byte q) (list_any has_bad_byte qs)) ∙ ap (λ x. is_bad_byte b || x) h
+    by true is _ (some_parts q qs) h = h ∙ ap (λ x. x || has_bad_byte bs) (sym (slash_good b is))
+    by false is _ (some_parts q qs) h = sym (or_assoc (is_bad_byte b) (has_bad_byte q) (list_any has_bad_byte qs)) ∙ ap (λ x. is_bad_byte b || x) h
 
 -- ---- parts that a path drops
 
@@ -116,8 +101,8 @@ split_plain [] = (refl, tt)
 split_plain (b ∷ bs) = by (is_slash b) refl (slice_split is_slash bs) (split_parts bs) (split_plain bs)
   where
     by : (s : Bool) → is_slash b ≡ s → (ps : List (List ℕ)) → Parts ps → ArePlain ps → ArePlain (cond s ([] ∷ ps) (onto_first b ps))
-    by true is _ (parts q qs) plain = (refl, plain)
-    by false is _ (parts q qs) plain = (or_from (is_slash b) (list_any is_slash q) is plain.0, plain.1)
+    by true is _ (some_parts q qs) plain = (refl, plain)
+    by false is _ (some_parts q qs) plain = (or_from (is_slash b) (list_any is_slash q) is plain.0, plain.1)
 
 step_full : (p : List ℕ) → is_step p ≡ true → is_empty p ≡ false
 step_full [] h = absurd (cc)

@@ -76,7 +76,7 @@ if_err (Err e) P Q f p = f p
 
 -- ---- what still fits
 
-none_named : (to : Path) (text : List ℕ) (ts : List Entry) → Appended to text ts → filter is_naming ts ≡ []
+pub none_named : (to : Path) (text : List ℕ) (ts : List Entry) → Appended to text ts → filter is_naming ts ≡ []
 none_named to _ _ no_more = refl
 none_named to _ _ (piece_more p text {ts = ts} a) = none_named to text ts a
 

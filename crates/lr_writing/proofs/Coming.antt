@@ -19,10 +19,11 @@ use Rattle.lr_host.proofs.Counts.{counted_free, free_none, onward_same, onward_o
 use Rattle.lr_plan.proofs.Courses.{course_then}
 use Rattle.lr_acts.specs.Making.{FaultCause}
 use Rattle.lr_acts.proofs.Taking.{made_taken, failed_taken, same_taken, taken_of_more, taken_on}
+use Rattle.lr_acts.proofs.Adding.{counted_one}
 use Rattle.lr_writing.specs.Target.{StateTarget}
 use Rattle.lr_writing.specs.Writes.{IsShort, Writes, ComesTo, AddsCourse, part_steps, name_steps}
 use Rattle.lr_writing.proofs.Buffers.{short_on}
-use Rattle.lr_writing.proofs.Causes.{caused_later, counted_one}
+use Rattle.lr_writing.proofs.Causes.{caused_later}
 
 -- ---- one step
 

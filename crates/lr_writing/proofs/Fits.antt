@@ -22,10 +22,10 @@ use Rattle.lr_host.proofs.More.{IsMore, more_on, made_more, wrote_names, file_sa
 use Rattle.lr_host.proofs.Names.{put_here, put_other}
 use Rattle.lr_host.proofs.Stays.{Stays, left_still, left_one, told_as, told_both, dir_more, file_more, dir_put, no_dir}
 use Rattle.lr_plan.specs.declared.step.Step.TheVariants.{Renames, Takes, Appends, SyncsFile, SyncsDir}
-use Rattle.lr_plan.specs.Appending.{Appended, no_more, piece_more}
 use Rattle.lr_plan.specs.Asking.{CanMake}
 use Rattle.lr_plan.specs.Steps.{state_steps}
 use Rattle.lr_writing.specs.Fits.{AreDirectories, StateHasPlace, CanBegin}
+use Rattle.lr_writing.proofs.Buffers.{none_named}
 
 -- ---- what entries do to facts of names
 
@@ -69,10 +69,6 @@ Full state dirs n = StateHasPlace state dirs n × IsFileAt n (state_part state)
 
 full_more : (state : Path) (dirs : List Path) → Stays (Full state dirs)
 full_more state dirs n n' more h = (place_more state dirs n n' more h.0, file_more (state_part state) n n' more h.1)
-
-none_named : (to : Path) (text : List ℕ) (ts : List Entry) → Appended to text ts → filter is_naming ts ≡ []
-none_named to _ _ no_more = refl
-none_named to _ _ (piece_more p text {ts = ts} a) = none_named to text ts a
 
 -- ---- the steps, from the last
 

@@ -1,4 +1,4 @@
-mod Buffers
+pub mod Buffers
 mod Causes
 mod Coming
 pub mod Fits

@@ -1,5 +1,5 @@
 -- The text of a table, line by line.
-use Rattle.std.proofs.Common.{◌≡◌, refl, sym, ◌∙◌, ap, ℕ, zero, suc, ◌+◌, ◌<◌, ◌≤◌, arith, add-one, List, [], ◌∷◌, ◌++◌, take, drop, length, Some, slice_get, append_assoc, append-nil}
+use Rattle.std.proofs.Common.{◌≡◌, sym, ◌∙◌, ap, ℕ, ◌+◌, ◌≤◌, arith, add-one, List, [], ◌∷◌, ◌++◌, take, drop, length, Some, slice_get, append_assoc}
 use Rattle.std.specs.List.{flat_map}
 use Rattle.std.proofs.lemmas.List.{take_all, take-append-drop, take-append-le, length-take-le}
 use Rattle.std.proofs.Math.Seq.{take-append-add}
@@ -8,22 +8,11 @@ use Rattle.lr_state.specs.Written.{entry_line, text_of}
 use Rattle.lr_state.specs.Grammar.{top_2}
 use borrow.Rule.Slice.PartMut.{put_mid}
 use Rattle.std.proofs.lemmas.Grind.{flat_map-append}
-
-pub entry_at : (es : List Entry) (k : ℕ) → k < length es → (e : Entry) × (slice_get es k ≡ Some e)
-entry_at [] k lt = absurd (omega arith)
-entry_at (x ∷ xs) zero lt = (x, refl)
-entry_at (x ∷ xs) (suc k) lt = entry_at xs k (omega arith)
-
-flat_suc : (f : Entry → List ℕ) (es : List Entry) (k : ℕ) (e : Entry) → slice_get es k ≡ Some e → flat_map f (take (suc k) es) ≡ flat_map f (take k es) ++ f e
-flat_suc f [] k e at = absurd (cc at)
-flat_suc f (x ∷ xs) zero e at =
-    let same : x ≡ e = cc at in
-    append-nil (f x) ∙ ap f same
-flat_suc f (x ∷ xs) (suc k) e at = ap (λ t. f x ++ t) (flat_suc f xs k e at) ∙ sym (append_assoc (f x) (flat_map f (take k xs)) (f e))
+use Rattle.lr_state.proofs.Lengths.{flat-suc}
 
 -- one line more
 pub text_next : (es : List Entry) (k : ℕ) (e : Entry) → slice_get es k ≡ Some e → text_of (take (k + 1) es) ≡ text_of (take k es) ++ entry_line e
-text_next es k e at = ap (λ n. text_of (take n es)) (add-one k) ∙ (ap (λ xs. (top_2 ++ 10 ∷ []) ++ xs) (flat_suc entry_line es k e at) ∙ sym (append_assoc (top_2 ++ 10 ∷ []) (flat_map entry_line (take k es)) (entry_line e)))
+text_next es k e at = ap (λ n. text_of (take n es)) (add-one k) ∙ (ap (λ xs. (top_2 ++ 10 ∷ []) ++ xs) (flat-suc entry_line es k e at) ∙ sym (append_assoc (top_2 ++ 10 ∷ []) (flat_map entry_line (take k es)) (entry_line e)))
 
 -- the lines so far, and those that follow
 pub text_rest : (es : List Entry) (k : ℕ) → text_of (take k es) ++ flat_map entry_line (drop k es) ≡ text_of es

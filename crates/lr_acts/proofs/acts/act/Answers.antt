@@ -1,6 +1,7 @@
 use Rattle.std.proofs.Common.{◌≡◌, ◌+◌, List, [], ◌∷◌, ◌++◌, length, Err, refl, sym, ◌∙◌, ap, subst, rules, arith, append_assoc}
 use Rattle.std.proofs.lemmas.List.{length-append}
 use Rattle.std.specs.Vec.Iter.{into_iter_items}
+use Rattle.lr_rules.proofs.Results.{on_err}
 use Rattle.lr_plan.specs.declared.step.SetSteps.{SetSteps}
 use Rattle.lr_plan.specs.declared.step.Step.{Step}
 use Rattle.lr_plan.specs.Asking.{CanSets}
@@ -12,7 +13,7 @@ use Rattle.lr_acts.specs.Adding.{AddsSteps, HasRoom}
 use Rattle.lr_acts.specs.Making.{HasProgram, EndsSo, all_of_set, all_of_sets}
 use Rattle.lr_acts.proofs.Adding.{adds_on, adds_of_more, adds_none, fills_none, fills_on, room_part, room_rest}
 use Rattle.lr_acts.proofs.Parts.{leads, sets_next, sets_rest}
-use Rattle.lr_acts.proofs.Programs.{program_first, program_later, at_error}
+use Rattle.lr_acts.proofs.Programs.{program_first, program_later}
 use Rattle.lr_acts.proofs.acts.act.Goals as goal
 
 pub loop-set-init : goal.loop-set-init
@@ -71,7 +72,7 @@ returns-in_err-make_set-clause-memory g c =
     let same : into_iter_items c.into_iter-set-iterator.result ≡ c.args.sets = c.into_iter-set-iterator.ensures.into_iter_gives.0 ∙ c.into_vec-set-items.ensures in
     let all : at.yielded ++ x ∷ rest ≡ c.args.sets = sym (ap (λ xs. at.yielded ++ xs) steps) ∙ (at.invariant.all ∙ same) in
     let parts : (all_of_sets at.yielded ++ all_of_set x) ++ all_of_sets rest ≡ all_of_sets c.args.sets = sym (sets_rest at.yielded x rest) ∙ ap all_of_sets all in
-    at_error c.from_residual.result (HasProgram (all_of_sets c.args.sets))
+    on_err c.from_residual.result (HasProgram (all_of_sets c.args.sets))
     (subst HasProgram parts (program_first (all_of_sets at.yielded ++ all_of_set x) (all_of_sets rest) (program_later (all_of_sets at.yielded) (all_of_set x) c.in_err-make_set.ensures.memory)))
 
 pub loop-set-preserved : goal.loop-set-preserved

@@ -1,6 +1,7 @@
 use Rattle.std.proofs.Common.{◌≡◌, inl, true, false, ◌+◌, List, [], ◌∷◌, ◌++◌, length, Err, refl, sym, ◌∙◌, ap, subst, rules, arith, append_assoc}
 use Rattle.std.proofs.lemmas.List.{length-append}
 use Rattle.std.specs.Vec.Iter.{into_iter_items}
+use Rattle.lr_rules.proofs.Results.{on_err}
 use Rattle.lr_host.specs.Told.{Left}
 use Rattle.lr_host.proofs.Left.{left_as}
 use Rattle.lr_plan.specs.declared.step.Step.{Step}
@@ -12,7 +13,7 @@ use Rattle.lr_plan.proofs.Cuts.{course_cut}
 use Rattle.lr_acts.specs.Adding.{AddsSteps, HasRoom}
 use Rattle.lr_acts.specs.Making.{HasProgram, WasMade, StepsEnd}
 use Rattle.lr_acts.proofs.Adding.{adds_on, adds_of_more, adds_none, fills_none, fills_on, room_rest}
-use Rattle.lr_acts.proofs.Programs.{program_later, at_error}
+use Rattle.lr_acts.proofs.Programs.{program_later}
 use Rattle.lr_acts.proofs.acts.make_all.Goals as goal
 
 pub loop-step-init : goal.loop-step-init
@@ -49,7 +50,7 @@ returns-in_err-went-clause-memory g c =
     let steps : into_iter_items at.step-iterator ≡ x ∷ rest = c.in-Some.ensures.steps.0 in
     let same : into_iter_items c.into_iter-step-iterator.result ≡ c.args.steps = c.into_iter-step-iterator.ensures.into_iter_gives.0 ∙ c.into_vec-step-items.ensures in
     let all : at.yielded ++ x ∷ rest ≡ c.args.steps = sym (ap (λ xs. at.yielded ++ xs) steps) ∙ (at.invariant.all ∙ same) in
-    at_error c.from_residual.result (HasProgram c.args.steps) (subst HasProgram all (program_later at.yielded (x ∷ rest) (inl c.in_err-went.ensures.memory)))
+    on_err c.from_residual.result (HasProgram c.args.steps) (subst HasProgram all (program_later at.yielded (x ∷ rest) (inl c.in_err-went.ensures.memory)))
 
 pub returns-then-not-went-clause-told : goal.returns-then-not-went-clause-told
 returns-then-not-went-clause-told g c =

@@ -1,6 +1,7 @@
 use Rattle.std.proofs.Common.{◌≡◌, ◌+◌, List, [], ◌∷◌, ◌++◌, length, Err, refl, sym, ◌∙◌, ap, subst, rules, arith, append_assoc}
 use Rattle.std.proofs.lemmas.List.{length-append}
 use Rattle.std.specs.Vec.Iter.{into_iter_items}
+use Rattle.lr_rules.proofs.Results.{on_err}
 use Rattle.lr_plan.specs.declared.step.Step.{Step}
 use Rattle.lr_plan.specs.Asking.{CanEach}
 use Rattle.lr_plan.specs.Cut.{CourseCut, ListCut}
@@ -12,7 +13,7 @@ use Rattle.lr_acts.specs.Adding.{AddsSteps, HasRoom}
 use Rattle.lr_acts.specs.Making.{HasProgram, EndsSo, all_of_each}
 use Rattle.lr_acts.proofs.Adding.{adds_on, adds_of_more, adds_none, fills_none, fills_on, room_part, room_rest}
 use Rattle.lr_acts.proofs.Parts.{course_of, leads, each_next, each_rest}
-use Rattle.lr_acts.proofs.Programs.{program_first, program_later, at_error}
+use Rattle.lr_acts.proofs.Programs.{program_first, program_later}
 use Rattle.lr_acts.proofs.acts.make_each.Goals as goal
 
 pub loop-steps-init : goal.loop-steps-init
@@ -71,7 +72,7 @@ returns-in_err-_went-clause-memory g c =
     let same : into_iter_items c.into_iter-steps-iterator.result ≡ c.args.each = c.into_iter-steps-iterator.ensures.into_iter_gives.0 ∙ c.into_vec-steps-items.ensures in
     let all : at.yielded ++ x ∷ rest ≡ c.args.each = sym (ap (λ xs. at.yielded ++ xs) steps) ∙ (at.invariant.all ∙ same) in
     let parts : (all_of_each at.yielded ++ x) ++ all_of_each rest ≡ all_of_each c.args.each = sym (each_rest at.yielded x rest) ∙ ap all_of_each all in
-    at_error c.from_residual.result (HasProgram (all_of_each c.args.each))
+    on_err c.from_residual.result (HasProgram (all_of_each c.args.each))
     (subst HasProgram parts (program_first (all_of_each at.yielded ++ x) (all_of_each rest) (program_later (all_of_each at.yielded) x c.in_err-_went.ensures.memory)))
 
 pub loop-steps-preserved : goal.loop-steps-preserved

@@ -1,5 +1,6 @@
 use Rattle.std.proofs.Common.{◌≡◌, ◌++◌, length, true, false, Err, Ok, refl, sym, ◌∙◌, ap, subst, rules, arith}
 use Rattle.std.proofs.lemmas.List.{length-append}
+use Rattle.lr_rules.proofs.Results.{on_err}
 use Rattle.lr_plan.specs.Course.{Course}
 use Rattle.lr_plan.specs.Cut.{CourseCut, LogsCut, in_each, in_last}
 use Rattle.lr_plan.specs.Done.{LogsDone}
@@ -7,7 +8,7 @@ use Rattle.lr_acts.specs.Adding.{AddsSteps}
 use Rattle.lr_acts.specs.Making.{EndsSo, HasProgram, StepsEnd, all_of_each}
 use Rattle.lr_acts.proofs.Adding.{adds_as, adds_of_more, fills_more, fills_on, room_part, room_rest}
 use Rattle.lr_acts.proofs.Parts.{any_added, logs_last, logs_alone, course_of}
-use Rattle.lr_acts.proofs.Programs.{program_first, program_later, at_error}
+use Rattle.lr_acts.proofs.Programs.{program_first, program_later}
 use Rattle.lr_acts.proofs.acts.make_logs.Goals as goal
 
 pub make_each-requires-clause-room : goal.make_each-requires-clause-room
@@ -68,8 +69,8 @@ returns-else-any_rotated-clause-fills g c =
 
 pub returns-in_err-make_each-clause-memory : goal.returns-in_err-make_each-clause-memory
 returns-in_err-make_each-clause-memory g c =
-    at_error c.from_residual.result (HasProgram (all_of_each c.args.each ++ c.args.last)) (program_first (all_of_each c.args.each) c.args.last c.in_err-make_each.ensures.memory)
+    on_err c.from_residual.result (HasProgram (all_of_each c.args.each ++ c.args.last)) (program_first (all_of_each c.args.each) c.args.last c.in_err-make_each.ensures.memory)
 
 pub returns-in_err-_went-clause-memory : goal.returns-in_err-_went-clause-memory
 returns-in_err-_went-clause-memory g c =
-    at_error c.from_residual-in_err-_went.result (HasProgram (all_of_each c.args.each ++ c.args.last)) (program_later (all_of_each c.args.each) c.args.last c.in_err-_went.ensures.memory)
+    on_err c.from_residual-in_err-_went.result (HasProgram (all_of_each c.args.each ++ c.args.last)) (program_later (all_of_each c.args.each) c.args.last c.in_err-_went.ensures.memory)

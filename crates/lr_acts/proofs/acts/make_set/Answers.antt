@@ -1,13 +1,14 @@
 use Rattle.std.proofs.Common.{◌≡◌, ◌++◌, length, true, false, Err, refl, sym, subst, rules, arith}
 use Rattle.std.proofs.lemmas.List.{length-append}
 use Rattle.std.proofs.lemmas.Result.{IfErr-weaker}
+use Rattle.lr_rules.proofs.Results.{on_err}
 use Rattle.lr_plan.specs.Cut.{SetCut, in_first}
 use Rattle.lr_plan.specs.Done.{SetDone, broke_off}
 use Rattle.lr_acts.specs.Adding.{AddsSteps}
 use Rattle.lr_acts.specs.Making.{EndsSo, HasProgram, all_of_each, all_of_set}
 use Rattle.lr_acts.proofs.Adding.{adds_as, adds_of_more, fills_more, fills_on, room_part, room_rest}
 use Rattle.lr_acts.proofs.Parts.{set_ends, leads, course_of}
-use Rattle.lr_acts.proofs.Programs.{program_first, program_later, at_error}
+use Rattle.lr_acts.proofs.Programs.{program_first, program_later}
 use Rattle.lr_acts.proofs.acts.make_set.Goals as goal
 
 pub make_all-requires-clause-room : goal.make_all-requires-clause-room
@@ -59,7 +60,7 @@ returns-clause-fills g c =
 
 pub returns-in_err-went-clause-memory : goal.returns-in_err-went-clause-memory
 returns-in_err-went-clause-memory g c =
-    at_error c.from_residual.result (HasProgram (all_of_set c.args.set)) (program_first c.args.set.first (all_of_each c.args.set.each ++ c.args.set.last) c.in_err-went.ensures.memory)
+    on_err c.from_residual.result (HasProgram (all_of_set c.args.set)) (program_first c.args.set.first (all_of_each c.args.set.each ++ c.args.set.last) c.in_err-went.ensures.memory)
 
 pub returns-clause-memory : goal.returns-clause-memory
 returns-clause-memory g c =

@@ -1,6 +1,7 @@
 use Rattle.std.proofs.Common.{rules}
 use Rattle.std.proofs.lemmas.Fn.{dedup_same}
-use Rattle.lr_audit.proofs.Ordering.{is_same, dirs_once}
+use Rattle.lr_family.proofs.PartNames.{is_same}
+use Rattle.lr_audit.proofs.Ordering.{dirs_once}
 use Rattle.lr_audit.proofs.dirs.each_once.Goals as goal
 
 pub returns : goal.returns

@@ -5,8 +5,9 @@ use Rattle.lr_rules.specs.declared.rule.Rule.{Rule}
 use Rattle.lr_plan.specs.declared.looks.LogLook.{LogLook}
 use Rattle.lr_plan.specs.declared.looks.SetLooks.{SetLooks}
 use Rattle.lr_plan.specs.Planned.{CanPlan}
+use Rattle.lr_planning.proofs.Hindrances.{as_many}
 use Rattle.lr_audited.specs.Lines.{rule_lines, sets_lines}
-use Rattle.lr_audited.proofs.Telling.{as_many, can_at, sets_more}
+use Rattle.lr_audited.proofs.Telling.{can_at, sets_more}
 use Rattle.lr_audited.proofs.lines.add_sets.Goals as goal
 
 pub bounds-sets-at : goal.bounds-sets-at

@@ -1,5 +1,6 @@
 use Rattle.std.proofs.Common.{sym, subst}
 use Rattle.std.specs.Prelude.{All}
+use Rattle.lr_rules.proofs.Results.{on_err}
 use Rattle.lr_conf.specs.Meaning.{Meaning}
 use Rattle.lr_conf.specs.Plain.{IsPlainRule}
 use Rattle.lr_conf.proofs.Plain.{all_plain}
@@ -9,7 +10,6 @@ use Rattle.lr_include.specs.Readers.{IsConfOrCall}
 use Rattle.lr_include.proofs.Allowed.{only_those}
 use Rattle.lr_include.proofs.Calls.{told_rose_by, told_rose}
 use Rattle.lr_include.proofs.Lacking.{lacks_here}
-use Rattle.lr_include.proofs.Texts.{on_err}
 use Rattle.lr_include.proofs.all.read_all.Goals as goal
 
 pub returns-clause-told : goal.returns-clause-told

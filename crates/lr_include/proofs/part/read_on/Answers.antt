@@ -1,6 +1,7 @@
 use Rattle.std.proofs.Common.{take, arith}
 use Rattle.std.proofs.lemmas.List.{length-take}
-use Rattle.lr_include.proofs.Texts.{on_err, take_short}
+use Rattle.lr_rules.proofs.Results.{on_err}
+use Rattle.lr_include.proofs.Texts.{take_short}
 use Rattle.lr_include.proofs.Going.{goes_failed, goes_on, goes_lacking, on_ok, short_none, short_one}
 use Rattle.lr_include.proofs.part.read_on.Goals as goal
 

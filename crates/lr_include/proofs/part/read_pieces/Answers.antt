@@ -1,8 +1,8 @@
 use Rattle.std.proofs.Common.{Ok, Option, refl, ap, ◌∙◌, subst, arith, rules}
+use Rattle.lr_rules.proofs.Results.{on_err}
 use Rattle.lr_host.proofs.Left.{can_stay}
 use Rattle.lr_include.specs.declared.part.TextEnd.{TextEnd}
 use Rattle.lr_include.specs.Taken.{ReadGoesOn}
-use Rattle.lr_include.proofs.Texts.{on_err}
 use Rattle.lr_include.proofs.Going.{short_unnamed}
 use Rattle.lr_include.proofs.part.read_pieces.Goals as goal
 

@@ -1,13 +1,9 @@
 use Rattle.std.proofs.Common.{◌≡◌, ◌<◌, ◌∙◌, ap, length, arith, subst, sym, true}
-use Rattle.std.specs.Prelude.{Result, Ok, Err, OnErr}
+use Rattle.lr_rules.proofs.Results.{on_err}
 use Rattle.lr_host.specs.World.{past}
 use Rattle.lr_memhost.specs.Acts.{ActsCame}
 use Rattle.lr_memhost.proofs.TurnLemmas.{act_stays, act_comes, all_came, stopped_there}
 use Rattle.lr_memhost.proofs.turn.take_acts.Goals as goal
-
-on_err : {T E : Type 0} (r : Result T E) (P : Type 0) → P → OnErr r P
-on_err (Ok x) P p = tt
-on_err (Err x) P p = p
 
 pub loop-at-preserved-then-index-number : goal.loop-at-preserved-then-index-number
 loop-at-preserved-then-index-number c =

@@ -5,8 +5,9 @@ use Rattle.lr_host.specs.declared.entry.Entry.{Entry}
 use Rattle.lr_host.specs.declared.entry.Entry.TheVariants.{Appends}
 use Rattle.lr_host.specs.Steps.{is_naming}
 use Rattle.lr_host.proofs.Left.{left_first, left_then, can_stay}
+use Rattle.lr_copy.proofs.Pieces.{rest_is}
 use Rattle.lr_plan.specs.Appending.{no_more, AppendBroke}
-use Rattle.lr_acts.proofs.Texts.{append_stops, one_broke, take_two, rest_is}
+use Rattle.lr_acts.proofs.Texts.{append_stops, one_broke, take_two}
 use Rattle.lr_writing.specs.Buffer.{Wrote}
 use Rattle.lr_writing.proofs.Buffers.{wrote_more, broke_short, short_on}
 use Rattle.lr_writing.proofs.text.append_all.Goals as goal

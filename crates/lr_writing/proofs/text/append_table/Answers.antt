@@ -3,9 +3,10 @@ use Rattle.std.specs.Prelude.{OnErr}
 use Rattle.std.specs.List.{flat_map}
 use Rattle.lr_host.specs.Told.{Left}
 use Rattle.lr_state.specs.Written.{entry_line, text_of}
+use Rattle.lr_state.proofs.Lengths.{entry-at}
 use Rattle.lr_writing.specs.Buffer.{Wrote, WriteBroke, HoldsBack}
 use Rattle.lr_writing.proofs.Buffers.{holds_all, holds_more, holds_on, holds_end, holds_broke, holds_stay, broke_more, if_ok, if_err}
-use Rattle.lr_writing.proofs.Tables.{entry_at, text_next, text_rest, text_all}
+use Rattle.lr_writing.proofs.Tables.{text_next, text_rest, text_all}
 use Rattle.lr_writing.proofs.text.append_table.Goals as goal
 
 pub loop-k-init : goal.loop-k-init
@@ -35,7 +36,7 @@ loop-k-preserved g c =
     let table = c.args.table.now in
     let path = c.args.path.now in
     let lt : at.k < length table = omega arith in
-    let e = entry_at table at.k lt in
+    let e = entry-at table at.k lt in
     let line = c.add_line-held.ensures.line e.0 e.1 in
     let left = take c.in_ok-left.left at.buffer in record {
       size = c.add_line-held.ensures.same ∙ at.invariant.size;

@@ -1,18 +1,14 @@
-use Rattle.std.proofs.Common.{sym, subst, OnErr, Result, Ok, Err}
+use Rattle.std.proofs.Common.{sym, subst}
+use Rattle.lr_rules.proofs.Results.{on_err}
 use Rattle.lr_host.specs.World.{effect}
 use Rattle.lr_disk.specs.State.{ShowsWorld}
 use Rattle.lr_disk.proofs.again.Replay.follow.Goals as goal
-
--- what holds whether a call failed or not
-whenever : {T E : Type 0} (r : Result T E) (P : Type 0) → P → OnErr r P
-whenever (Ok x) P p = tt
-whenever (Err e) P p = p
 
 pub invariant_of-self : goal.invariant_of-self
 invariant_of-self c = (c.self.invariant.0, c.prepare.ensures.same c.self.invariant.0 c.self.invariant.1)
 
 pub returns-in_err-prepare-clause-err : goal.returns-in_err-prepare-clause-err
-returns-in_err-prepare-clause-err c = whenever c.from_residual.result _ (λ w shows. c.prepare.ensures.same w (subst (λ s. ShowsWorld s w) (sym c.self.view_is) shows))
+returns-in_err-prepare-clause-err c = on_err c.from_residual.result _ (λ w shows. c.prepare.ensures.same w (subst (λ s. ShowsWorld s w) (sym c.self.view_is) shows))
 
 pub apply-requires-clause-tree : goal.apply-requires-clause-tree
 apply-requires-clause-tree c = (c.prepare.ensures.same c.self.invariant.0 c.self.invariant.1).tree

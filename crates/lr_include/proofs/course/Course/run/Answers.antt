@@ -1,7 +1,7 @@
 use Rattle.std.proofs.Common.{rules}
+use Rattle.lr_rules.proofs.Results.{on_err}
 use Rattle.lr_include.proofs.Stages.{stayed, goes_on}
 use Rattle.lr_include.proofs.Lacking.{lacks_on, lacks_behind}
-use Rattle.lr_include.proofs.Texts.{on_err}
 use Rattle.lr_include.proofs.course.Course.run.Goals as goal
 
 pub loop-turn-init : goal.loop-turn-init

@@ -1,7 +1,7 @@
 use Rattle.std.proofs.Common.{refl}
+use Rattle.lr_rules.proofs.Results.{on_err}
 use Rattle.lr_include.proofs.Stages.{stepped, popped_none}
 use Rattle.lr_include.proofs.Lacking.{lacks_stepped}
-use Rattle.lr_include.proofs.Texts.{on_err}
 use Rattle.lr_include.proofs.course.Course.step.Goals as goal
 
 pub returns-in_ok-turn-in-Some-clause-told : goal.returns-in_ok-turn-in-Some-clause-told

@@ -1,4 +1,5 @@
 use Rattle.std.proofs.Common.{◌∷◌, sym, subst}
+use Rattle.lr_rules.proofs.Results.{on_err}
 use Rattle.lr_include.specs.declared.task.Task.{Task}
 use Rattle.lr_include.specs.Course.{GoesOn}
 use Rattle.lr_include.proofs.Readers.{on_ok_as}
@@ -6,7 +7,6 @@ use Rattle.lr_include.proofs.Stages.{line_turned}
 use Rattle.lr_host.specs.Told.{Left}
 use Rattle.lr_include.specs.Lacking.{LacksFrom}
 use Rattle.lr_include.proofs.Lacking.{on_err_as, lacks_here}
-use Rattle.lr_include.proofs.Texts.{on_err}
 use Rattle.lr_include.proofs.course.Course.turn.Goals as goal
 
 pub returns-in-Line-clause-told : goal.returns-in-Line-clause-told

@@ -1,8 +1,8 @@
+use Rattle.lr_rules.proofs.Results.{on_err}
 use Rattle.lr_include.proofs.Readers.{on_ok_as}
 use Rattle.lr_include.proofs.Stages.{ask_turned, shown_at}
 use Rattle.lr_include.specs.Stages.{is_shallow, room_for}
 use Rattle.lr_include.proofs.Lacking.{ask_lacks, part_at, ask_made_lacks}
-use Rattle.lr_include.proofs.Texts.{on_err}
 use Rattle.lr_include.proofs.course.Course.turn_ask.Goals as goal
 
 pub returns-clause-told : goal.returns-clause-told

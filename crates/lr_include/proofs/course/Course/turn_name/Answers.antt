@@ -1,10 +1,10 @@
 use Rattle.std.proofs.Common.{false, refl, ◌∷◌}
+use Rattle.lr_rules.proofs.Results.{on_err}
 use Rattle.lr_include.specs.declared.task.Task.TheVariants as task
 use Rattle.lr_include.proofs.Readers.{on_ok_as}
 use Rattle.lr_include.proofs.Stages.{name_turned, name_barred, shown_at}
 use Rattle.lr_include.specs.Stages.{room_for}
 use Rattle.lr_include.proofs.Lacking.{lacks_here, name_lacks, part_at, name_made_lacks}
-use Rattle.lr_include.proofs.Texts.{on_err}
 use Rattle.lr_include.proofs.course.Course.turn_name.Goals as goal
 
 pub returns-then-barred-clause-told : goal.returns-then-barred-clause-told
