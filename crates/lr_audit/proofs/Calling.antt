@@ -41,13 +41,13 @@ use Rattle.lr_audited.specs.declared.line.Audit.{Audit}
 use Rattle.lr_audit.specs.declared.told.Told.{Told}
 use Rattle.lr_audit.specs.declared.words.Wanted.{Wanted}
 use Rattle.lr_command.specs.Words.{mail_program}
+use Rattle.lr_clock.proofs.Quiet.{clock_quiet, lost_quiet}
 use Rattle.lr_audited.specs.Audits.{IsAudit}
 use Rattle.lr_audit.specs.Audits.{AddsSaw, Audits}
 use Rattle.lr_audit.specs.Came.{Came, ShowsConfs, ShowsCame, answer_of, audit_told, CallEnds, no_clock, no_memory, audited}
 use Rattle.lr_audit.specs.Internal.{CameTo, RulesCame, ConfsCame}
 use Rattle.lr_audit.proofs.Answering.{notices_in, faults_in}
 use Rattle.lr_audit.proofs.Filing.{went_by}
-use Rattle.lr_audit.proofs.Still.{clock_quiet, lost_quiet}
 use Rattle.lr_audit.proofs.Summing.{saw_quiet}
 
 -- ---- the logs of rules

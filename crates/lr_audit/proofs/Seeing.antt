@@ -21,12 +21,13 @@ use Rattle.lr_laws_looks.specs.True.{AreTrue}
 use Rattle.lr_laws_looks.proofs.All.{looks_true}
 use Rattle.lr_clock.specs.Came.{WhereCame}
 use Rattle.lr_report.specs.declared.outcome.Outcome.{Outcome}
+use Rattle.lr_clock.proofs.Quiet.{clock_quiet}
 use Rattle.lr_audited.specs.declared.line.Audit.{Audit}
 use Rattle.lr_audit.specs.declared.words.Wanted.{Wanted}
 use Rattle.lr_audit.specs.Came.{Came, call_entries, ShowsCame, CallEnds, no_clock, no_memory, audited}
 use Rattle.lr_audit.specs.Truth.{AreTrueFiles, SawTruly}
 use Rattle.lr_audit.proofs.Directories.{dirs_have_paths}
-use Rattle.lr_audit.proofs.Still.{clock_quiet, came_quiet}
+use Rattle.lr_audit.proofs.Still.{came_quiet}
 use Rattle.lr_audit.proofs.Truly.{true_files}
 
 module _ (w : Wanted) (zone : Zone) (seconds : ℤ) (c : Came) (p q : Past) (es : List Entry) (m : Made p es q) (journal : IsJournal p) (joined : reverse es ≡ call_entries c) (s : ShowsCame w zone seconds c) where

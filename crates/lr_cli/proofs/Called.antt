@@ -42,13 +42,14 @@ use Rattle.lr_cli.specs.Asked.{AskFor, planned_text}
 use Rattle.lr_cli.specs.Internal.{CameTo, TurnsByClock, only_looked, ran}
 use Rattle.lr_cli.specs.Safe.{HadClock, KeepsSafeByClock, no_clock as safe_without, by_clock}
 use Rattle.lr_report.specs.Outcome.{outcome_text}
+use Rattle.lr_clock.proofs.Quiet.{clock_quiet, stop_quiet}
 use Rattle.lr_cli.specs.Printed.{without_out, printed_of}
 use Rattle.lr_cli.specs.Says.{asked_text, Prints, Says}
 use Rattle.lr_cli.proofs.OutAside.{report_with}
 use Rattle.lr_cli.proofs.Reading.{no_out_among, run_behind}
 use Rattle.lr_cli.proofs.Reached.{left_before}
 use Rattle.lr_cli.proofs.Result.{came_so, came_whole, came_copied}
-use Rattle.lr_cli.proofs.Still.{clock_quiet, stop_quiet, same_request}
+use Rattle.lr_cli.proofs.Still.{same_request}
 
 -- ---- a run where there is no clock
 

@@ -40,8 +40,9 @@ use Rattle.lr_cli.specs.Before.{AreStill, IsOfZone, MayEndCall, MayEndDry, SaysW
 use Rattle.lr_cli.specs.Called.{Came, asked_in, answer_by, ConfsHalt, no_reading, no_plan, CallHalts, no_clock, no_zone, behind_clock, CallEnds, halted, called, CallShows, not_read, read}
 use Rattle.lr_clock.specs.Clock.{LacksClock, out_of_range, no_text, refused}
 use Rattle.lr_clock.specs.Zone.{LacksText, not_file, too_big, look_failed as text_look_failed, read_failed as text_read_failed}
+use Rattle.lr_clock.proofs.Quiet.{clock_quiet, stop_quiet}
 use Rattle.lr_laws_plan.proofs.Known.{ends_as}
-use Rattle.lr_cli.proofs.Still.{clock_quiet, stop_quiet, same_request, halt_still}
+use Rattle.lr_cli.proofs.Still.{same_request, halt_still}
 
 -- ---- the configuration's faults end no run
 

@@ -1,2 +1,3 @@
 pub mod Clocked
+pub mod Quiet
 pub mod Zoned
