@@ -1,7 +1,6 @@
 -- What a call prints, and so answers.
-use Rattle.std.proofs.Common.{◌≡◌, ◌≢◌, ◌≤◌, ◌⊎◌, inl, inr, ⊎_elim, ℕ, List, [], ◌∷◌, ◌++◌, Option, Some, None, Result, Ok, Err, OnOk, OnErr, refl, sym, ap, ◌∙◌, subst, arith}
+use Rattle.std.proofs.Common.{◌≡◌, ◌≢◌, ◌≤◌, ◌⊎◌, inl, inr, ℕ, List, ◌++◌, Option, Some, None, Result, Ok, Err, OnOk, OnErr, refl, sym, ap, ◌∙◌, subst}
 use Rattle.std.specs.Prelude.{Contains, IfOk}
-use Rattle.std.proofs.lemmas.List.Elements.{Contains-append_cases, Contains-push_cases}
 use Rattle.lr_rules.specs.declared.fault.Fault.{Fault}
 use Rattle.lr_rules.specs.declared.fault.Fault.TheVariants as fault
 use Rattle.lr_rules.specs.declared.fault.Notice.{Notice}
@@ -9,11 +8,12 @@ use Rattle.lr_rules.specs.declared.memory.Memory.{Memory}
 use Rattle.lr_host.specs.declared.sink.SinkFault.{SinkFault}
 use Rattle.lr_host.specs.Told.{Counts, Rose}
 use Rattle.lr_report.specs.declared.outcome.Outcome.{Outcome}
-use Rattle.lr_report.specs.declared.outcome.Outcome.TheVariants.{Done, BadWords, Held, OutOfMemory}
+use Rattle.lr_report.specs.declared.outcome.Outcome.TheVariants.{BadWords, Held, OutOfMemory}
 use Rattle.lr_report.specs.declared.outcome.Report.{Report}
 use Rattle.lr_report.specs.Outcome.{outcome_text}
 use Rattle.lr_report.specs.Puts.{Took, TookPart}
-use Rattle.lr_report.specs.Reported.{IsOut, HasNoOut}
+use Rattle.lr_report.specs.Reported.{HasNoOut}
+use Rattle.lr_report.proofs.Reported.{no_out_among, notices_in, faults_in}
 use Rattle.lr_shown.specs.Puts.{Puts}
 use Rattle.lr_audited.specs.declared.line.Audit.{Audit}
 use Rattle.lr_audit.specs.declared.told.Told.{Told}
@@ -34,14 +34,6 @@ memory_answers run e outcome x y low high is same part whole_ = subst (λ (r : R
 
 -- ---- what the answer tells
 
-abbrev pub notices_in : Outcome → List Notice
-notices_in (Done report) = report.notices
-notices_in _ = []
-
-abbrev pub faults_in : Outcome → List Fault
-faults_in (Done report) = report.faults
-faults_in _ = []
-
 pub where_done : (r : Result Told Memory) (P : List Notice → List Fault → Type 0) → IfOk r (λ told. P told.notices told.faults.items) → WhereDone (answer_of r) (λ report. P report.notices report.faults)
 where_done (Err e) P h = λ report e. absurd (cc)
 where_done (Ok told) P h = λ report e. subst (λ (ns : List Notice). P ns report.faults) (ap notices_in e) (subst (λ (fs : List Fault). P told.notices fs) (ap faults_in e) h)
@@ -52,13 +44,6 @@ not_bad (Ok told) text outcome x y low high (whole same took) = ((λ e. absurd (
 not_bad (Ok told) text outcome x y low high (broken_off same part rose) = ((λ e. absurd (cc)), (λ e. absurd (cc)))
 not_bad (Err w) text outcome x y low high (whole same took) = ((λ e. absurd (cc)), (λ e. absurd (cc)))
 not_bad (Err w) text outcome x y low high (broken_off same part rose) = ((λ e. absurd (cc)), (λ e. absurd (cc)))
-
-is_out : (f : Fault) → f ≡ fault.Out → IsOut f
-is_out f e = subst IsOut (sym e) tt
-
-no_out_among : (fs : List Fault) → HasNoOut fs → Contains fs fault.Out → ⊥
-no_out_among [] h c = omega (arith, c.1)
-no_out_among (f ∷ fs) h c = ⊎_elim (λ (a : Contains (f ∷ []) fault.Out). h.0 (is_out f (⊎_elim (λ (b : Contains [] fault.Out). absurd (omega (arith, b.1))) (λ e. e) (Contains-push_cases [] f fault.Out a)))) (λ b. no_out_among fs h.1 b) (Contains-append_cases (f ∷ []) fs fault.Out c)
 
 pub out_rose : (text : List ℕ) (said outcome : Outcome) (x y : Option (List ℕ)) (low high : ℕ) → PrintsAnswer text said outcome x y low high → WhereDone said (λ report. HasNoOut report.faults) → WhereDone outcome (λ report. Contains report.faults fault.Out → Rose low high)
 out_rose text said outcome x y low high (broken_off same part rose) none = λ report e c. rose

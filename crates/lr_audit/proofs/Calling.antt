@@ -1,13 +1,10 @@
 -- What the parts of a call came to, put together.
-use Rattle.std.proofs.Common.{◌≡◌, ◌≢◌, ◌≤◌, ◌+◌, ◌⊎◌, inl, inr, ℕ, true, List, [], ◌∷◌, ◌++◌, Option, Some, None, Result, Ok, Err, OnOk, OnErr, refl, sym, ap, ◌∙◌, subst, arith, append_assoc}
+use Rattle.std.proofs.Common.{◌≡◌, ◌≢◌, ◌≤◌, ◌⊎◌, inl, inr, ℕ, true, List, [], ◌∷◌, ◌++◌, Option, Some, None, Result, Ok, Err, OnOk, OnErr, refl, sym, ap, ◌∙◌, subst, arith, append_assoc}
 use Rattle.std.specs.Prelude.{ℤ, All, IfOk, IfErr}
-use Rattle.std.specs.List.{AllByRecursion as Every}
 use Rattle.std.proofs.lemmas.List.{append-nil}
 use Rattle.std.proofs.lemmas.List.Elements.{recursion_from_All}
 use Rattle.lr_rules.specs.declared.clock.Clock.{Clock}
-use Rattle.lr_rules.specs.declared.fault.CallKind.TheVariants as call
 use Rattle.lr_rules.specs.declared.fault.Fault.{Fault}
-use Rattle.lr_rules.specs.declared.fault.Fault.TheVariants as fault
 use Rattle.lr_rules.specs.declared.fault.Notice.{Notice}
 use Rattle.lr_rules.specs.declared.memory.Memory.{Memory}
 use Rattle.lr_rules.specs.declared.path.Path.{Path}
@@ -15,7 +12,7 @@ use Rattle.lr_rules.specs.declared.rule.Rule.{Rule}
 use Rattle.lr_rules.specs.declared.rules.Rules.{Rules}
 use Rattle.lr_host.specs.declared.entry.Entry.{Entry}
 use Rattle.lr_host.specs.declared.journal.Journal.{Journal}
-use Rattle.lr_host.specs.Counted.{calls_in, scripts_in, IsAround, NoneAround, RoseBy, AreCounted, Went, WentBy}
+use Rattle.lr_host.specs.Counted.{calls_in, RoseBy, AreCounted, Went, WentBy}
 use Rattle.lr_host.specs.Quiet.{AreQuiet}
 use Rattle.lr_host.specs.Told.{Counts, Left, NoneFell, Onward, Then, not_told, is_told}
 use Rattle.lr_host.proofs.Counts.{counted_on}
@@ -36,17 +33,18 @@ use Rattle.lr_clock.specs.declared.clock.ClockStop.TheVariants as stop
 use Rattle.lr_clock.specs.Clock.{ShowsClock, LacksClock, ClockStopped, HasClock, IsClockFault, IsClocked, with_clock, without_clock, clock_answer}
 use Rattle.lr_report.specs.declared.outcome.Outcome.{Outcome}
 use Rattle.lr_report.specs.declared.outcome.Outcome.TheVariants.{Done, OutOfMemory}
-use Rattle.lr_report.specs.Reported.{IsOut, HasNoOut, AreReported}
+use Rattle.lr_report.specs.Reported.{AreReported}
 use Rattle.lr_audited.specs.declared.line.Audit.{Audit}
 use Rattle.lr_audit.specs.declared.told.Told.{Told}
 use Rattle.lr_audit.specs.declared.words.Wanted.{Wanted}
 use Rattle.lr_command.specs.Words.{mail_program}
+use Rattle.lr_report.proofs.Reported.{no_out_of, notices_in, faults_in}
+use Rattle.lr_include.proofs.Scriptless.{none_scripted}
 use Rattle.lr_clock.proofs.Quiet.{clock_quiet, lost_quiet}
 use Rattle.lr_audited.specs.Audits.{IsAudit}
 use Rattle.lr_audit.specs.Audits.{AddsSaw, Audits}
 use Rattle.lr_audit.specs.Came.{Came, ShowsConfs, ShowsCame, answer_of, audit_told, CallEnds, no_clock, no_memory, audited}
 use Rattle.lr_audit.specs.Internal.{CameTo, RulesCame, ConfsCame}
-use Rattle.lr_audit.proofs.Answering.{notices_in, faults_in}
 use Rattle.lr_audit.proofs.Filing.{went_by}
 use Rattle.lr_audit.proofs.Summing.{saw_quiet}
 
@@ -128,32 +126,11 @@ reading_behind confs r o m n l k = left_then l k (λ ts us p q. quiet_both ts us
 
 -- ---- the faults, and the counts
 
-no_more : (fs : List Fault) → scripts_in fs ≡ 0 → 0 + scripts_in fs ≡ 0
-no_more fs z = omega (arith, z)
-
--- those of a reading tell of no script, and of nothing around a run
-none_scripted : (fs : List Fault) → Every IsConfOrCall fs → (scripts_in fs ≡ 0) × NoneAround fs
-none_scripted [] h = (refl, tt)
-none_scripted (fault.Conf file line kind ∷ fs) h = (no_more fs (none_scripted fs h.1).0, ((λ x. x), (none_scripted fs h.1).1))
-none_scripted (fault.Call call.Look path ∷ fs) h = (no_more fs (none_scripted fs h.1).0, ((λ x. x), (none_scripted fs h.1).1))
-none_scripted (fault.Call call.List path ∷ fs) h = (no_more fs (none_scripted fs h.1).0, ((λ x. x), (none_scripted fs h.1).1))
-none_scripted (fault.Call call.Read path ∷ fs) h = (no_more fs (none_scripted fs h.1).0, ((λ x. x), (none_scripted fs h.1).1))
-none_scripted (_ ∷ fs) h = absurd h.0
-
 pub confs_counted : (fs start all : List Fault) (j k l : Counts) → start ≡ fs → All IsConfOrCall fs → RoseBy (calls_in fs) j.faults k.faults → NoneFell j k → Went start all k l → AreCounted all j l
 confs_counted fs start all j k l same only rose le went =
     let n = none_scripted fs (recursion_from_All IsConfOrCall fs only) in
     subst (λ (gs : List Fault). AreCounted gs j l) (sym (went.adds.after_is ∙ ap (λ gs. gs ++ went.adds.added) same))
     (counted_on fs went.adds.added j k l (record { calls = rose; scripts = (let z = n.0 in let fell : j.bad_ends ≤ k.bad_ends = le.1 in omega (arith, z, fell)); none_around = n.1 }) went.adds.are_counted)
-
--- none of the output among them
-out_around : (f : Fault) → (IsAround f → ⊥) → IsOut f → ⊥
-out_around fault.Out other i = other tt
-out_around _ other i = i
-
-no_out_of : (fs : List Fault) → NoneAround fs → HasNoOut fs
-no_out_of [] none = tt
-no_out_of (f ∷ fs) none = (out_around f none.0, no_out_of fs none.1)
 
 -- the counts rose as much since a moment before
 pub clock_reported : (r : Result Told Memory) (j k l : Counts) → NoneFell j k → IfOk r (λ told. AreCounted told.faults.items k l) → IfOk r (λ told. AreReported told.faults.items j l)

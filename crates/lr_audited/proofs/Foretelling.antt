@@ -29,6 +29,7 @@ use Rattle.lr_state.specs.Table.{Entry as Row, moment_of}
 use Rattle.lr_family.specs.declared.stand.Member.{Member}
 use Rattle.lr_family.specs.declared.stand.Stand.{Stand}
 use Rattle.lr_family.specs.Parts.{IsMember}
+use Rattle.lr_family.proofs.Names.{member_own}
 use Rattle.lr_scripts.specs.declared.removal.Removal.{Removal}
 use Rattle.lr_scripts.specs.Commands.{with_programs}
 use Rattle.lr_copy.specs.declared.job.Job.{Job}
@@ -56,7 +57,7 @@ use Rattle.lr_laws_rotations.specs.AllTurns.{job_part_paths}
 use Rattle.lr_laws_rotations.specs.Apart.{HasNames, TargetsHaveNames}
 use Rattle.lr_laws_rotations.specs.Rotation.{removal_paths}
 use Rattle.lr_laws_rotations.specs.Target.{Target, HasWay}
-use Rattle.lr_laws_rotations.proofs.Own.{member_own, named_own, target_member, part_file_own}
+use Rattle.lr_laws_rotations.proofs.Own.{named_own, target_member, part_file_own}
 use Rattle.lr_laws_rotations.proofs.PartFile.{job_part, job_no_member}
 use Rattle.lr_laws_rotations.proofs.Way.{first_own}
 use Rattle.lr_laws_acts.specs.Fitting.{NoneMeets, DontMeet}

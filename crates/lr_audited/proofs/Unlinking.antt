@@ -14,6 +14,7 @@ use Rattle.lr_rules.proofs.Beside.{beside_other}
 use Rattle.lr_host.specs.Lists.{IsIn, AreDistinct}
 use Rattle.lr_host.proofs.Lists.{in_to, of_flat}
 use Rattle.lr_family.specs.Parts.{part_of, IsMember}
+use Rattle.lr_family.proofs.Names.{member_own}
 use Rattle.lr_scripts.specs.declared.command.Command.{Command}
 use Rattle.lr_scripts.specs.declared.removal.Removal.{Removal}
 use Rattle.lr_scripts.specs.Commands.{with_programs}
@@ -27,7 +28,7 @@ use Rattle.lr_laws_family.specs.Members.{IsNoMember}
 use Rattle.lr_laws_rotations.specs.Apart.{HasNames}
 use Rattle.lr_laws_rotations.specs.Rotation.{removal_paths}
 use Rattle.lr_laws_rotations.specs.Target.{Target}
-use Rattle.lr_laws_rotations.proofs.Own.{member_own, named_own, family_members, target_member, part_file_own}
+use Rattle.lr_laws_rotations.proofs.Own.{named_own, family_members, target_member, part_file_own}
 use Rattle.lr_laws_rotations.proofs.PartFile.{part_no_waiting, job_part, job_no_member}
 use Rattle.lr_laws_rotations.proofs.Way.{not_aside, aside_is, stays_first, first_apart, aside_apart, first_own, aside_own}
 use Rattle.lr_laws_acts.proofs.Fits.{NamesOf}

@@ -15,7 +15,7 @@ use Rattle.lr_host.specs.Opening.{IsJournal}
 use Rattle.lr_host.specs.Told.{Counts, NoneFell, Left, Rose, WhereTold}
 use Rattle.lr_host.proofs.Left.{left_as, left_first, left_then}
 use Rattle.lr_due.specs.declared.tz.Zone.{Zone}
-use Rattle.lr_host.specs.Counted.{AreCounted, IsAround, NoneAround, Went, WentBy}
+use Rattle.lr_host.specs.Counted.{AreCounted, Went, WentBy}
 use Rattle.lr_laws_rotations.proofs.Safety.{quiet_call_safe}
 use Rattle.lr_laws_rotations.specs.Runs.{IsWholeRunBy}
 use Rattle.lr_laws_rotations.proofs.RunSafety.{all_safe}
@@ -36,17 +36,18 @@ use Rattle.lr_command.specs.declared.request.Request.{Request}
 use Rattle.lr_command.specs.Words.{asked}
 use Rattle.lr_cli.specs.Called.{Came, CallEnds, CallShows, not_read, read}
 use Rattle.lr_clock.specs.Clock.{ShowsClock, ClockStopped, HasClock, IsClockFault, IsClocked, with_clock, without_clock, clock_answer}
-use Rattle.lr_report.specs.Reported.{IsOut, HasNoOut, AreReported}
+use Rattle.lr_report.specs.Reported.{AreReported}
 use Rattle.lr_cli.specs.Faults.{answer_of, told_faults, HasCounted, HasFault}
 use Rattle.lr_cli.specs.Asked.{AskFor, planned_text}
 use Rattle.lr_cli.specs.Internal.{CameTo, TurnsByClock, only_looked, ran}
 use Rattle.lr_cli.specs.Safe.{HadClock, KeepsSafeByClock, no_clock as safe_without, by_clock}
 use Rattle.lr_report.specs.Outcome.{outcome_text}
+use Rattle.lr_report.proofs.Reported.{no_out_among, no_out_of, notices_in, faults_in}
 use Rattle.lr_clock.proofs.Quiet.{clock_quiet, stop_quiet}
 use Rattle.lr_cli.specs.Printed.{without_out, printed_of}
 use Rattle.lr_cli.specs.Says.{asked_text, Prints, Says}
 use Rattle.lr_cli.proofs.OutAside.{report_with}
-use Rattle.lr_cli.proofs.Reading.{no_out_among, run_behind}
+use Rattle.lr_cli.proofs.Reading.{run_behind}
 use Rattle.lr_cli.proofs.Reached.{left_before}
 use Rattle.lr_cli.proofs.Result.{came_so, came_whole, came_copied}
 use Rattle.lr_cli.proofs.Still.{same_request}
@@ -57,14 +58,6 @@ pub stop_shape : (zone : Zone) (s seconds : ℤ) (why : ClockStop) {o n : Option
 stop_shape zone s seconds why l = only_looked (left_as l (λ ts h. stop_quiet zone s why ts h))
 
 -- the one fault that is told
-abbrev notices_in : Outcome → List Notice
-notices_in (Done report) = report.notices
-notices_in _ = []
-
-abbrev faults_in : Outcome → List Fault
-faults_in (Done report) = report.faults
-faults_in _ = []
-
 faults_alone : (told : Told) (f : Fault) → answer_of (Ok told) ≡ clock_answer (clock_stop.Fault f) → (told.notices ≡ []) × (told.faults.items ≡ f ∷ [])
 faults_alone told f e = (ap notices_in e, ap faults_in e)
 
@@ -88,15 +81,6 @@ counted_told told k l w = subst (λ (fs : List Fault). AreCounted fs k l) (sym w
 pub clock_clocked : (zone : Zone) (s seconds : ℤ) (clock : Clock) (r : Result Told RunStop) (k l : Counts) → s ≡ seconds → HasClock zone s clock → WentBy r [] (told_faults r) k l → IfOk r (λ told. IsClocked zone seconds told.notices told.faults.items)
 clock_clocked zone s seconds clock (Ok told) k l same h w = with_clock clock (subst (λ (z : ℤ). HasClock zone z clock) same h) (counted_told told k l w).none_around
 clock_clocked zone s seconds clock (Err why) k l same h w = tt
-
--- none of the output among them
-out_around : (f : Fault) → (IsAround f → ⊥) → IsOut f → ⊥
-out_around fault.Out other i = other tt
-out_around _ other i = i
-
-no_out_of : (fs : List Fault) → NoneAround fs → HasNoOut fs
-no_out_of [] none = tt
-no_out_of (f ∷ fs) none = (out_around f none.0, no_out_of fs none.1)
 
 -- the counts rose as much since a moment before
 pub clock_reported : (r : Result Told RunStop) (j k l : Counts) → NoneFell j k → WentBy r [] (told_faults r) k l → IfOk r (λ told. AreReported told.faults.items j l)

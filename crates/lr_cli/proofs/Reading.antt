@@ -1,12 +1,9 @@
 -- What the reading of a configuration and the run behind it leave together.
-use Rattle.std.proofs.Common.{◌≡◌, ◌≤◌, ◌+◌, ⊎_elim, List, [], ◌∷◌, ◌++◌, Option, All, Contains, refl, sym, ap, ◌∙◌, subst, append_assoc, arith}
-use Rattle.std.specs.List.{AllByRecursion as Every}
-use Rattle.std.proofs.lemmas.List.Elements.{recursion_from_All, Contains-append_cases}
+use Rattle.std.proofs.Common.{◌≡◌, ◌≤◌, List, [], ◌++◌, Option, All, sym, ap, ◌∙◌, append_assoc, arith}
+use Rattle.std.proofs.lemmas.List.Elements.{recursion_from_All}
 use Rattle.lr_rules.specs.declared.path.Path.{Path}
 use Rattle.lr_rules.specs.declared.clock.Clock.{Clock}
-use Rattle.lr_rules.specs.declared.fault.CallKind.TheVariants as call
 use Rattle.lr_rules.specs.declared.fault.Fault.{Fault}
-use Rattle.lr_rules.specs.declared.fault.Fault.TheVariants as fault
 use Rattle.lr_host.specs.declared.entry.Entry.{Entry}
 use Rattle.lr_host.specs.declared.journal.Journal.{Journal}
 use Rattle.lr_host.specs.Told.{Counts, NoneFell, Onward, Left}
@@ -14,30 +11,17 @@ use Rattle.lr_host.proofs.Left.{left_as, left_then}
 use Rattle.lr_conf.specs.Meaning.{Meaning}
 use Rattle.lr_host.specs.Quiet.{AreQuiet}
 use Rattle.lr_host.proofs.Quiet.{quiet_both}
-use Rattle.lr_host.specs.Counted.{calls_in, scripts_in, NoneAround, RoseBy, AreCounted, Went}
+use Rattle.lr_host.specs.Counted.{calls_in, RoseBy, AreCounted, Went}
 use Rattle.lr_host.proofs.Counts.{went_on}
 use Rattle.lr_include.specs.Readers.{IsConfOrCall}
 use Rattle.lr_include.specs.Stages.{Reads}
 use Rattle.lr_include.specs.Lacking.{LacksReading}
 use Rattle.lr_include.proofs.AllQuiet.{reads_quiet as confs_quiet, lacking_quiet}
+use Rattle.lr_include.proofs.Scriptless.{none_scripted}
 use Rattle.lr_laws_rotations.specs.Runs.{IsWholeRunBy}
 use Rattle.lr_laws_rotations.proofs.Shapes.{quiet_run_by}
-use Rattle.lr_report.specs.Reported.{IsOut, HasNoOut}
-use Rattle.lr_cli.proofs.OutAside.{Contains-only}
 
 -- ---- the faults, and the counts
-
-no_more : (fs : List Fault) → scripts_in fs ≡ 0 → 0 + scripts_in fs ≡ 0
-no_more fs z = omega (arith, z)
-
--- they tell of no script, and of nothing around a run
-none_scripted : (fs : List Fault) → Every IsConfOrCall fs → (scripts_in fs ≡ 0) × NoneAround fs
-none_scripted [] h = (refl, tt)
-none_scripted (fault.Conf file line kind ∷ fs) h = (no_more fs (none_scripted fs h.1).0, ((λ x. x), (none_scripted fs h.1).1))
-none_scripted (fault.Call call.Look path ∷ fs) h = (no_more fs (none_scripted fs h.1).0, ((λ x. x), (none_scripted fs h.1).1))
-none_scripted (fault.Call call.List path ∷ fs) h = (no_more fs (none_scripted fs h.1).0, ((λ x. x), (none_scripted fs h.1).1))
-none_scripted (fault.Call call.Read path ∷ fs) h = (no_more fs (none_scripted fs h.1).0, ((λ x. x), (none_scripted fs h.1).1))
-none_scripted (_ ∷ fs) h = absurd h.0
 
 -- a reading tells no more failed calls than the count of them rose by
 pub reading_counted : (fs : List Fault) (j k : Counts) → All IsConfOrCall fs → RoseBy (calls_in fs) j.faults k.faults → NoneFell j k → AreCounted fs j k
@@ -52,14 +36,6 @@ reading_counted fs j k only rose le =
 -- and then the run went so
 pub both_went : (earlier faults all : List Fault) (j k l : Counts) → earlier ≡ faults → AreCounted faults j k → Onward j k → Went earlier all k l → Went [] all j l
 both_went earlier faults all j k l e a h w = went_on [] earlier all j k l (record { adds = record { added = faults; after_is = e; are_counted = a }; onward = h }) w
-
-is_out : (f : Fault) → f ≡ fault.Out → IsOut f
-is_out f e = subst IsOut (sym e) tt
-
--- none of the faults is of the output
-pub no_out_among : (fs : List Fault) → HasNoOut fs → Contains fs fault.Out → ⊥
-no_out_among [] h c = omega (arith, c.1)
-no_out_among (f ∷ fs) h c = ⊎_elim (λ (a : Contains (f ∷ []) fault.Out). h.0 (is_out f (Contains-only f fault.Out a))) (λ b. no_out_among fs h.1 b) (Contains-append_cases (f ∷ []) fs fault.Out c)
 
 -- ---- the shape of the whole
 

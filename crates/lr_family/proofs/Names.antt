@@ -1,5 +1,5 @@
 -- The names of members: which place each has.
-use Rattle.std.proofs.Common.{◌≡◌, inl, inr, ⊎_elim, ℕ, ℤ, ◌+◌, true, List, ◌∷◌, ◌++◌, Option, Some, None, refl, sym, ap, ◌∙◌, subst, append_assoc}
+use Rattle.std.proofs.Common.{◌≡◌, inl, inr, ⊎_elim, ℕ, ℤ, ◌+◌, true, List, ◌∷◌, ◌++◌, Option, Some, None, refl, sym, ap, ◌∙◌, subst, append_assoc, ◌≤◌, arith}
 use Rattle.std.specs.Prelude.{◌↔◌, MatchOption, decimal}
 use Rattle.std.specs.Option.{is_some}
 use Rattle.lr_rules.specs.declared.path.Path.{Path}
@@ -7,8 +7,11 @@ use Rattle.lr_rules.specs.declared.rule.Format.{Format}
 use Rattle.lr_rules.specs.declared.rule.Naming.{Naming}
 use Rattle.lr_rules.specs.Dated.{IsDatedAt}
 use Rattle.lr_rules.specs.Path.{joined}
+use Rattle.lr_rules.specs.Names.{IsMemberAt, IsMiddleShape, IsOwnName, a_member}
+use Rattle.lr_rules.proofs.Digits.{decimal_run}
 use Rattle.lr_stamps.specs.Dated.{IsNamedBy}
 use Rattle.lr_stamps.proofs.Members.{by_path}
+use Rattle.lr_stamps.proofs.StampShapes.{dated_shape}
 use Rattle.lr_family.specs.declared.place.Place.{Place}
 use Rattle.lr_family.specs.declared.place.Place.TheVariants as at
 use Rattle.lr_family.specs.Named.{IsNamedAt}
@@ -50,3 +53,17 @@ not_stamped n f name r d h none m = ⊎_elim (λ a. no_format n.dated a.0 d) (λ
 pub is_place : (n : Naming) (x : Path) (r : Option Place) → MatchOption r (IsMember n x → ⊥) (λ place. IsPlaceOf n place x) → (is_some r ≡ true) ↔ IsMember n x
 is_place n x None h = (λ e. absurd (cc), λ m. absurd (h m))
 is_place n x (Some place) h = (λ e. placed_member n place x h, λ m. refl)
+
+pub numbered_name : (log : Path) (n : Naming) (place : ℕ) (x : Path) → n.dated ≡ None → IsMemberAt n place x → IsOwnName log n x
+numbered_name log n place x numbered m = a_member (n.base ++ (46 ∷ decimal (n.start + place)) ++ n.ext) (46 ∷ decimal (n.start + place), middle, refl) m.named
+  where
+    bound : n.start + place ≤ 4294967295
+    bound = m.bound
+
+    middle : IsMiddleShape n.dated (46 ∷ decimal (n.start + place))
+    middle = subst (λ (d : Option Format). IsMiddleShape d (46 ∷ decimal (n.start + place))) (sym numbered) (decimal (n.start + place), refl, decimal_run (n.start + place) (omega arith))
+
+-- a member is a name of the family
+pub member_own : (log : Path) (n : Naming) (x : Path) → IsMember n x → IsOwnName log n x
+member_own log n x (inl m) = numbered_name log n m.1.0 x m.0 m.1.1
+member_own log n x (inr m) = let h = dated_shape n m.0 m.1 x m.2 in a_member h.0 h.1 h.2

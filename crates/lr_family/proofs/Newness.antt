@@ -1,5 +1,5 @@
 -- The newest member first: members with different paths have different places.
-use Rattle.std.proofs.Common.{◌≡◌, inl, inr, ℕ, ℤ, pos, neg_ℤ, ◌+◌, ◌<◌, ◌≤◌, ◌<ℤ◌, true, false, cond, List, [], ◌∷◌, ◌++◌, map, Option, Some, None, Ordering, Less, Equal, Greater, refl, sym, ap, ◌∙◌, subst, arith}
+use Rattle.std.proofs.Common.{◌≡◌, ℕ, ℤ, pos, neg_ℤ, ◌+◌, ◌<◌, ◌≤◌, ◌<ℤ◌, true, false, cond, List, [], ◌∷◌, ◌++◌, map, Option, Some, None, Ordering, Less, Equal, Greater, refl, sym, ap, ◌∙◌, subst, arith}
 use Rattle.std.specs.Prelude.{All, flat_map}
 use Rattle.std.specs.Ordering.{MatchOrdering, nat_cmp, int_cmp, is_eq, eq_by_cmp}
 use Rattle.std.specs.Cmp.{IsTotalOrder, nat_cmp_is}
@@ -12,11 +12,11 @@ use Rattle.std.proofs.lemmas.List.Kept.{IsStrictlySortedBy-dedup}
 use Rattle.std.proofs.lemmas.Map.Keys.{IsDistinct-from_sorted, IsDistinct-IsPermutation, IsStrictlyIncreasing-from_sorted}
 use Rattle.std.proofs.lemmas.Slice.Eq.{bytes_eq-Decides}
 use Rattle.lr_rules.specs.declared.path.Path.{Path}
-use Rattle.lr_rules.specs.declared.rule.Format.{Format}
 use Rattle.lr_rules.specs.declared.rule.Naming.{Naming}
-use Rattle.lr_rules.specs.Dated.{stamp_key, IsSerial, IsDatedAt}
+use Rattle.lr_rules.specs.Dated.{stamp_key, IsDatedAt}
 use Rattle.lr_rules.specs.Limits.{is_format, or_none}
 use Rattle.lr_rules.specs.Path.{joined}
+use Rattle.lr_rules.proofs.Counts.{serial_small}
 use Rattle.lr_stamps.proofs.Naming.{one_member}
 use Rattle.lr_host.specs.declared.thing.Seen.{Seen}
 use Rattle.lr_family.specs.declared.place.Place.{Place}
@@ -55,10 +55,6 @@ pub newest : (old sorted : List Member) → HaveOwnPlaces old → IsPermutation 
 newest old sorted d p up = strictly by_newness_total sorted up (IsDistinct-IsPermutation (eq_by_cmp by_newness) (λ x y. (eq_by_cmp_equiv by_newness_total).symm x y) old sorted p d)
 
 -- ---- different paths, different keys
-
-serial_small : (f : Format) (k : ℕ) → IsSerial f k → k ≤ 4294967295
-serial_small f k (inl zero) = omega arith
-serial_small f k (inr some) = some.1
 
 pub dated_small : (n : Naming) (t : ℤ) (k : ℕ) (x : Path) → IsDatedAt n t k x → k ≤ 4294967295
 dated_small n t k x a = serial_small a.format k a.is.numbered

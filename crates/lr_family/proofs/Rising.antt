@@ -21,6 +21,7 @@ use Rattle.lr_family.specs.declared.spot.Spot.{Spot}
 use Rattle.lr_family.specs.Parts.{by_bytes}
 use Rattle.lr_family.specs.Spots.{IsListed, HasPath, IsAmong, HasSpots, AreSpots, by_path}
 use Rattle.lr_family.proofs.Ordered.{AreAmong, same_rising}
+use Rattle.lr_family.specs.Stands.{AreNewestFirst}
 
 -- the same path
 abbrev pub is_same : Spot → Spot → Bool
@@ -97,3 +98,7 @@ same_paths n names spots others are be = same_rising {R = by_bytes} nat_list_cmp
 -- and are as many
 pub as_many_spots : (n : Naming) (names : List (List ℕ)) (spots others : List Spot) → AreSpots n names spots → AreSpots n names others → length spots ≡ length others
 as_many_spots n names spots others are be = sym (length-map spots (λ (d : Spot). d.path)) ∙ (ap length (same_paths n names spots others are be) ∙ length-map others (λ (d : Spot). d.path))
+
+pub none_fall : AreNewestFirst []
+unfolding IsStrictlySortedBy
+none_fall = tt

@@ -1,5 +1,5 @@
 -- What a list has.
-use Rattle.std.proofs.Common.{◌≡◌, ◌⊎◌, inl, inr, ⊎_elim, ℕ, zero, suc, ◌<◌, List, [], ◌∷◌, ◌++◌, length, get_or, map, reverse, refl, sym, ap, subst, arith, Contains}
+use Rattle.std.proofs.Common.{◌≡◌, ◌⊎◌, inl, inr, ⊎_elim, ℕ, zero, suc, ◌<◌, List, [], ◌∷◌, ◌++◌, length, get_or, map, reverse, refl, sym, ap, subst, arith, Contains, ◌∙◌, append_assoc, Bool, true, false, cond, filter}
 use Rattle.std.proofs.lemmas.List.{reverse-append, reverse-reverse}
 use Rattle.std.specs.List.{flat_map}
 use Rattle.lr_host.specs.Lists.{IsIn}
@@ -63,3 +63,18 @@ to_flat f (z ∷ zs) x y (inr i) j = in_back y (f z) (flat_map f zs) (to_flat f 
 pub of_flat : {A B : Type 0} (f : A → List B) (xs : List A) (y : B) → IsIn y (flat_map f xs) → (x : A) × IsIn x xs × IsIn y (f x)
 of_flat f [] y h = absurd h
 of_flat f (x ∷ xs) y h = ⊎_elim (λ a. (x, inl refl, a)) (λ b. let r = of_flat f xs y b in (r.0, inr r.1, r.2)) (in_append y (f x) (flat_map f xs) h)
+
+pub grown : {A : Type 0} (a b c x y z : List A) → b ≡ a ++ x → c ≡ b ++ y → z ≡ x ++ y → c ≡ a ++ z
+grown a b c x y z e f g = f ∙ (ap (λ l. l ++ y) e ∙ (append_assoc a x y ∙ ap (λ l. a ++ l) (sym g)))
+
+pub from_filter : {X : Type 0} (test : X → Bool) (x : X) (xs : List X) → IsIn x (filter test xs) → IsIn x xs × (test x ≡ true)
+from_filter test x [] h = absurd h
+from_filter {X = X} test x (y ∷ ys) h = by (test y) refl (from_filter test x ys) h
+  where
+    more : IsIn x ys × (test x ≡ true) → IsIn x (y ∷ ys) × (test x ≡ true)
+    more h = (inr h.0, h.1)
+
+    by : (b : Bool) → test y ≡ b → (IsIn x (filter test ys) → IsIn x ys × (test x ≡ true)) → IsIn x (cond b (y ∷ filter test ys) (filter test ys)) → IsIn x (y ∷ ys) × (test x ≡ true)
+    by true passes rest (inl same) = (inl same, sym (ap test same) ∙ passes)
+    by true passes rest (inr i) = more (rest i)
+    by false passes rest i = more (rest i)

@@ -4,6 +4,7 @@ pub mod Calls
 pub mod Going
 pub mod Lacking
 pub mod Readers
+pub mod Scriptless
 pub mod Stages
 pub mod Telling
 pub mod Texts

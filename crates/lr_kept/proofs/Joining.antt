@@ -1,17 +1,12 @@
 -- Which matches of wildcards are passed over, pair by pair.
-use Rattle.std.proofs.Common.{◌≡◌, ◌≢◌, ◌∙◌, sym, ap, subst, refl, inl, inr, ⊎_elim, ◌⊎◌, ◌↔◌, ℕ, ◌<◌, ◌≤◌, ◌+◌, min, List, ◌∷◌, ◌++◌, length, set, length-set, Bool, true, Option, Some, None, slice_get, arith}
-use Rattle.std.specs.Prelude.{decimal}
+use Rattle.std.proofs.Common.{◌≡◌, ◌≢◌, ◌∙◌, sym, ap, subst, refl, inl, inr, ⊎_elim, ◌⊎◌, ◌↔◌, ℕ, ◌<◌, ◌≤◌, ◌+◌, min, List, length, set, length-set, Bool, true, Some, slice_get, arith}
 use Rattle.std.specs.Borrow.{Bor}
 use Rattle.std.proofs.lemmas.Bool.{cases_lt, cases_eq, cases_order}
 use Rattle.std.proofs.lemmas.Option.{slice_get_within, slice_get-get_or}
-use Rattle.lr_rules.specs.declared.rule.Naming.{Naming}
-use Rattle.lr_rules.specs.declared.rule.Format.{Format}
-use Rattle.lr_rules.specs.declared.path.Path.{Path}
-use Rattle.lr_rules.specs.Names.{IsMemberAt, IsMiddleShape, IsOwnName, the_log, a_member}
-use Rattle.lr_rules.proofs.Digits.{decimal_run}
-use Rattle.lr_stamps.proofs.StampShapes.{dated_shape}
+use Rattle.lr_rules.specs.Names.{the_log}
 use Rattle.lr_family.specs.declared.family.Family.{Family}
 use Rattle.lr_family.specs.Parts.{IsMember}
+use Rattle.lr_family.proofs.Names.{member_own}
 use Rattle.lr_kept.specs.declared.choice.Choice.{Choice}
 use Rattle.lr_kept.specs.declared.choice.Choice.TheVariants.{Kept, Again, MemberOf, Reserved, Meets}
 use Rattle.lr_kept.specs.declared.pair.Pair.{Pair}
@@ -25,26 +20,13 @@ use Rattle.lr_kept.proofs.Pairing.{back_at}
 
 -- ---- a log meets its members
 
-numbered_name : (log : Path) (n : Naming) (place : ℕ) (x : Path) → n.dated ≡ None → IsMemberAt n place x → IsOwnName log n x
-numbered_name log n place x numbered m = a_member (n.base ++ (46 ∷ decimal (n.start + place)) ++ n.ext) (46 ∷ decimal (n.start + place), middle, refl) m.named
-  where
-    bound : n.start + place ≤ 4294967295
-    bound = m.bound
-
-    middle : IsMiddleShape n.dated (46 ∷ decimal (n.start + place))
-    middle = subst (λ (d : Option Format). IsMiddleShape d (46 ∷ decimal (n.start + place))) (sym numbered) (decimal (n.start + place), refl, decimal_run (n.start + place) (omega arith))
-
-member_name : (log : Path) (n : Naming) (x : Path) → IsMember n x → IsOwnName log n x
-member_name log n x (inl m) = numbered_name log n m.1.0 x m.0 m.1.1
-member_name log n x (inr m) = let h = dated_shape n m.0 m.1 x m.2 in a_member h.0 h.1 h.2
-
 member_meets : (logs : List (Bor Family)) (i k : ℕ) → IsMemberOf logs i k → MeetAt logs i k
 member_meets logs i k m = record {
   one = m.one;
   other = m.other;
   at_one = m.at_one;
   at_other = m.at_other;
-  holds = (m.other.now.log, inl (member_name m.one.now.log m.one.now.naming m.other.now.log m.holds, inl (the_log refl)));
+  holds = (m.other.now.log, inl (member_own m.one.now.log m.one.now.naming m.other.now.log m.holds, inl (the_log refl)));
 }
 
 -- of two logs that are read it is known whether the path of the one is a member's of the other

@@ -4,8 +4,8 @@ use Rattle.std.proofs.lemmas.Bool.{cases_lt}
 use Rattle.std.proofs.lemmas.Int.{ints}
 use Rattle.lr_rules.specs.declared.clock.Clock.{Clock}
 use Rattle.lr_rules.specs.declared.path.Path.{Path}
-use Rattle.lr_rules.specs.declared.rule.Format.{Format}
-use Rattle.lr_rules.specs.Dated.{stamp_key, IsSerial, IsDatedAt}
+use Rattle.lr_rules.specs.Dated.{stamp_key, IsDatedAt}
+use Rattle.lr_rules.proofs.Counts.{serial_small}
 use Rattle.lr_host.specs.declared.entry.Entry.{Entry}
 use Rattle.lr_host.specs.Fits.{IsFileAt}
 use Rattle.lr_host.specs.Forward.{IsForward}
@@ -18,10 +18,6 @@ use Rattle.lr_laws.proofs.Disk.{KeepsClosed}
 use Rattle.lr_laws.specs.Forward.{IsForwardBy, IsForwardFor, IsNextSerial}
 use Rattle.lr_laws.proofs.Tame.{IsTame, had_before, closed_writer, tame_writer, closed_quiet, tame_quiet}
 use Rattle.lr_laws.proofs.Reach.{no_key}
-
-serial_small : (f : Format) (k : ℕ) → IsSerial f k → k ≤ 4294967295
-serial_small f k (inl zero) = omega arith
-serial_small f k (inr some) = some.1
 
 -- of two numbers with a sign the one that isn't above is below, or they are the same
 below_or : (t u : ℤ) → t ≤ℤ u → (t <ℤ u) ⊎ (t ≡ u)

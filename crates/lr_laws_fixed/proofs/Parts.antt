@@ -13,8 +13,9 @@ use Rattle.lr_host.specs.Looks.{PathSight, look_of}
 use Rattle.lr_host.proofs.Fronts.{front_same, saw_same}
 use Rattle.lr_family.specs.declared.stand.StandStop.TheVariants as stop
 use Rattle.lr_family.specs.Among.{StopsBehind}
-use Rattle.lr_family.specs.Parts.{IsPartAmong, AreParts, part_in, PartsAmong, StopsBefore, ShowsNoParts}
+use Rattle.lr_family.specs.Parts.{IsPartAmong, AreParts, part_in, PartsAmong, StopsBefore}
 use Rattle.lr_family.proofs.Ordered.{same_rising}
+use Rattle.lr_family.proofs.PartLooks.{never_no_file}
 use Rattle.lr_laws_looks.proofs.OneWord.{sight_same}
 
 -- ---- part files among names
@@ -69,9 +70,5 @@ before_never [] path e = cc
 before_never (x ∷ xs) path (inl e) = cc
 before_never (x ∷ xs) path (inr e) = cc
 
-shown_never : (n : Naming) (names : List (List ℕ)) (path : Path) (ts : List Entry) → ShowsNoParts n names (stop.NotFile path) ts → ⊥
-shown_never n names path ts (inl h) = let e = h.0 in cc
-shown_never n names path ts (inr s) = before_never s.after path s.stopped
-
 pub behind_never : (n : Naming) (names : List (List ℕ)) (path : Path) (ts : List Entry) → StopsBehind n names (stop.NotFile path) ts → ⊥
-behind_never n names path ts s = shown_never n names path s.1.back s.1.second
+behind_never n names path ts s = never_no_file n names path s.1.back s.1.second

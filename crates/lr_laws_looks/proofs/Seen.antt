@@ -1,7 +1,6 @@
 -- Each log that a plan rotates was seen, with its members.
 use Rattle.std.proofs.Common.{◌≡◌, ◌≢◌, inl, inr, ℕ, ◌+◌, ◌&&◌, ◌||◌, bytes_eq, Bool, true, false, not, if◌then◌else◌, true≢false, List, [], ◌∷◌, ◌++◌, Option, Some, None, slice_get, refl, sym, ap, ◌∙◌, subst, arith}
 use Rattle.std.specs.List.{list_any}
-use Rattle.std.specs.List.Sorted.{IsStrictlySortedBy}
 use Rattle.std.proofs.lemmas.Bool.{and_parts, not-true, or_left, or_right}
 use Rattle.std.proofs.lemmas.Slice.Eq.{bytes_eq-Decides}
 use Rattle.lr_rules.specs.declared.clock.Clock.{Clock}
@@ -26,8 +25,8 @@ use Rattle.lr_host.proofs.Lists.{in_to, in_front, in_back}
 use Rattle.lr_host.proofs.Looking.{dir_kind}
 use Rattle.lr_family.specs.Kin.{IsKin}
 use Rattle.lr_family.specs.Parts.{part_of}
-use Rattle.lr_family.specs.Stands.{AreNewestFirst}
 use Rattle.lr_glob.proofs.Seeking.{found_were_seen}
+use Rattle.lr_family.proofs.Rising.{none_fall}
 use Rattle.lr_kept.specs.declared.choice.Choice.TheVariants.{Kept}
 use Rattle.lr_kept.proofs.Elements.{same_read}
 use Rattle.lr_chain.specs.Hindrances.{what_hinders}
@@ -161,10 +160,6 @@ to_make rule look is =
       other = λ e. true≢false (sym (or_left (bytes_eq n.dir look.path) (n.aside && bytes_eq n.dir (aside_path look.path)) ((bytes_eq-Decides n.dir look.path).1 e)) ∙ apart);
       beside = λ on e. true≢false (sym (or_right (bytes_eq n.dir look.path) (n.aside && bytes_eq n.dir (aside_path look.path)) (ap (λ b. b && bytes_eq n.dir (aside_path look.path)) on ∙ (bytes_eq-Decides n.dir (aside_path look.path)).1 e)) ∙ apart);
     }
-
-none_fall : AreNewestFirst []
-unfolding IsStrictlySortedBy
-none_fall = tt
 
 -- a directory that is missing has no member
 none_shown : (n : Naming) (ts : List Entry) → IsIn (entry.Look n.dir None) ts → Shown n [] ts

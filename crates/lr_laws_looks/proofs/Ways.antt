@@ -6,9 +6,9 @@ use Rattle.std.proofs.lemmas.Bool.{not-false}
 use Rattle.std.proofs.lemmas.Bool.Decides.{Decides-eqb}
 use Rattle.std.proofs.lemmas.Str.{IsUtf8-from_is_utf8}
 use Rattle.lr_rules.specs.declared.path.Path.{Path}
-use Rattle.lr_rules.specs.Path.{path_fault, joined, parent_of, is_absolute, has_bad_byte, root}
+use Rattle.lr_rules.specs.Path.{path_fault, joined, parent_of, is_absolute, root}
 use Rattle.lr_rules.proofs.ParentPath.{parent_path}
-use Rattle.lr_rules.proofs.PathLemmas.{none_of, parent_front, joined_parts, last_start_is, empty_none}
+use Rattle.lr_rules.proofs.PathLemmas.{none_of, parent_front, joined_parts, last_start_is, empty_none, absolute}
 use Rattle.lr_rules.proofs.Splits.{Parts, some_parts, split_parts}
 use Rattle.lr_host.specs.declared.thing.Thing.{Thing}
 use Rattle.lr_host.specs.declared.thing.Thing.TheVariants as thing
@@ -28,14 +28,6 @@ use Rattle.lr_laws.proofs.StandsIn.{stands_in}
 pub text_path : (x : List ℕ) → path_fault x ≡ None → IsUtf8 x
 unfolding path_fault
 text_path x none = IsUtf8-from_is_utf8 x (not-false (is_utf8 x) (none_of (not (is_utf8 x)) _ _ none).0)
-
-pub absolute_path : (x : List ℕ) → path_fault x ≡ None → is_absolute x ≡ true
-unfolding path_fault
-absolute_path x none =
-    let text = none_of (not (is_utf8 x)) _ _ none in
-    let bytes = none_of (has_bad_byte x) _ _ text.1 in
-    let size = none_of (nat_lt 4096 (length x)) _ _ bytes.1 in
-    not-false (is_absolute x) (none_of (not (is_absolute x)) _ _ size.1).0
 
 -- ---- the way
 
@@ -66,7 +58,7 @@ parent_at zero d name at part path =
 parent_at (suc k) [] name at part path = absurd (let none : 0 ≡ suc k = at.1 in omega (arith, none))
 parent_at (suc k) (b ∷ bs) name at part path =
     let is : joined (b ∷ bs) name ≡ (b ∷ bs) ++ 47 ∷ name = ap (λ t. cond t [] (b ∷ bs) ++ 47 ∷ name) at.0 in
-    ap (λ y. parent_of y) is ∙ parent_front (b ∷ bs) name (absolute_path ((b ∷ bs) ++ 47 ∷ name) (subst (λ y. path_fault y ≡ None) is path)) part.1
+    ap (λ y. parent_of y) is ∙ parent_front (b ∷ bs) name (absolute ((b ∷ bs) ++ 47 ∷ name) (subst (λ y. path_fault y ≡ None) is path)) part.1
 
 module _ (n : Names) (x : Path) (path : path_fault x ≡ None) (named : n x ≢ thing.Nothing) (stand : AllStand n) where
   one_more : (k : ℕ) (d : Path) (name : List ℕ) (rest : List (List ℕ)) → IsAt k d → IsPart name → IsUtf8 name → Begins n x (joined d name) rest → Begins n x d (name ∷ rest)
@@ -89,7 +81,7 @@ module _ (n : Names) (x : Path) (path : path_fault x ≡ None) (named : n x ≢ 
 
   -- `/` stands in itself
   no_root : (g : ℕ) → n x ≡ thing.File g → 2 ≤ length x
-  no_root g file = by x (absolute_path x path) refl
+  no_root g file = by x (absolute x path) refl
     where
       by : (y : List ℕ) → is_absolute y ≡ true → y ≡ x → 2 ≤ length y
       by [] a e = absurd (cc)
@@ -99,16 +91,16 @@ module _ (n : Names) (x : Path) (path : path_fault x ≡ None) (named : n x ≢ 
       by (b ∷ c ∷ bs) a e = omega arith
 
   way_to : (g : ℕ) → n x ≡ thing.File g → Way n x root (parts_in x)
-  way_to g file = (way_from 0 root (parts_in x) refl parts (parts_utf8 x (text_path x path) absolute) (by (parts_in x) (split_parts (drop 1 x)) refl)).way
+  way_to g file = (way_from 0 root (parts_in x) refl parts (parts_utf8 x (text_path x path) from_slash) (by (parts_in x) (split_parts (drop 1 x)) refl)).way
     where
-      absolute : is_absolute x ≡ true
-      absolute = absolute_path x path
+      from_slash : is_absolute x ≡ true
+      from_slash = absolute x path
 
       parts : AreParts (parts_in x)
-      parts = word_parts x absolute (no_root g file) (empty_none x path)
+      parts = word_parts x from_slash (no_root g file) (empty_none x path)
 
       by : (ps : List (List ℕ)) → Parts ps → parts_in x ≡ ps → under root (parts_in x) ≡ x
-      by _ (some_parts q qs) e = ap (under root) e ∙ (under_root q qs (subst AreParts e parts) ∙ (ap behind (sym e) ∙ sym (word_behind x absolute)))
+      by _ (some_parts q qs) e = ap (under root) e ∙ (under_root q qs (subst AreParts e parts) ∙ (ap behind (sym e) ∙ sym (word_behind x from_slash)))
 
 -- ---- in a journal
 

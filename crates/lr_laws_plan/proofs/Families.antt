@@ -5,8 +5,7 @@ use Rattle.lr_rules.specs.declared.fault.CallKind.{CallKind}
 use Rattle.lr_rules.specs.declared.fault.CallKind.TheVariants as call
 use Rattle.lr_rules.specs.declared.path.Path.{Path}
 use Rattle.lr_rules.specs.declared.rule.Naming.{Naming}
-use Rattle.lr_rules.specs.Names.{IsOwnName, a_member, aside_path}
-use Rattle.lr_stamps.proofs.StampShapes.{dated_shape}
+use Rattle.lr_rules.specs.Names.{aside_path}
 use Rattle.lr_host.specs.declared.entry.Entry.{Entry}
 use Rattle.lr_host.specs.Lists.{IsIn}
 use Rattle.lr_host.specs.Looks.{Sees, IsNoFile}
@@ -20,10 +19,9 @@ use Rattle.lr_family.specs.Listed.{NotListedAt, NotListed}
 use Rattle.lr_family.specs.Looks.{ShowsTo}
 use Rattle.lr_family.specs.Parts.{IsMember, StopsBefore, ShowsNoParts}
 use Rattle.lr_family.specs.Spots.{HasPath, AreSpots}
-use Rattle.lr_family.proofs.Names.{placed_member}
+use Rattle.lr_family.proofs.Names.{placed_member, member_own}
 use Rattle.lr_looks.specs.Families.{FamilySight, Stood, Stopped, ShowsNoAside, ShowsMembersIn, ShowsFamily, behind_listing, with_listing, not_listed, ShowFamilies, stop_fault, family_fault, family_faults}
 use Rattle.lr_looks.specs.Found.{FoundLog, Hold}
-use Rattle.lr_laws_rotations.proofs.Outside.{place_name}
 use Rattle.lr_looks.specs.Reserved.{reserved_by}
 use Rattle.lr_laws_looks.proofs.Free.{IsFreeLog}
 use Rattle.lr_laws_plan.specs.Ending.{NoneEnds}
@@ -36,11 +34,6 @@ use Rattle.lr_laws_plan.proofs.Kept.{free_ends}
 to_member : (n : Naming) (names : List (List ℕ)) (spots : List Spot) (path : Path) (P : List Entry → Type 0) (ts : List Entry) → AreSpots n names spots → ShowsTo spots path P ts → IsMember n path
 to_member n names spots path P ts a s = subst (IsMember n) s.is (placed_member n s.spot.place s.spot.path (All-contains (HasPath n) spots s.spot a.has.places
     (in_to s.spot spots (subst (IsIn s.spot) (sym s.each) (in_back s.spot (map (λ sight. sight.spot) s.before) (s.spot ∷ s.after) (inl refl))))))
-
--- its path is a name of the log
-member_own : (log : Path) (n : Naming) (path : Path) → IsMember n path → IsOwnName log n path
-member_own log n path (inl (numbered, (place, m))) = subst (IsOwnName log n) (sym m.named) (place_name log n place numbered m.bound)
-member_own log n path (inr (seconds, serial, m)) = let h = dated_shape n seconds serial path m in a_member h.0 h.1 h.2
 
 -- ---- part files
 

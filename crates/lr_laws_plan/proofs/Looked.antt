@@ -1,5 +1,5 @@
 -- No fault of the looks is one that ends a run, and a directory that a plan lacks was missed by one of them.
-use Rattle.std.proofs.Common.{◌≡◌, ◌≢◌, inl, inr, ⊎_elim, ◌+◌, ℕ, Bool, true, false, cond, eqb, List, [], ◌∷◌, ◌++◌, Some, None, refl, sym, ap, ◌∙◌, subst}
+use Rattle.std.proofs.Common.{◌≡◌, ◌≢◌, inl, inr, ◌+◌, ℕ, Bool, true, false, List, [], ◌∷◌, ◌++◌, Some, None, refl, sym, ap, ◌∙◌, subst}
 use Rattle.std.specs.Prelude.{codes}
 use Rattle.std.specs.List.{flat_map, AllByRecursion}
 use Rattle.lr_rules.specs.declared.fault.Fault.{Fault}
@@ -11,7 +11,7 @@ use Rattle.lr_host.specs.declared.thing.Seen.{Seen}
 use Rattle.lr_host.specs.declared.entry.Entry.{Entry}
 use Rattle.lr_host.specs.declared.entry.Entry.TheVariants as entry
 use Rattle.lr_host.specs.Lists.{IsIn}
-use Rattle.lr_host.proofs.Lists.{in_append, in_back, in_map}
+use Rattle.lr_host.proofs.Lists.{in_back, in_map}
 use Rattle.lr_plan.specs.declared.looks.LogLook.{LogLook}
 use Rattle.lr_plan.specs.declared.looks.SetLooks.{SetLooks}
 use Rattle.lr_looks.specs.declared.standing.Standing.{Standing}
@@ -19,11 +19,11 @@ use Rattle.lr_looks.specs.Asked.{asked_by}
 use Rattle.lr_looks.specs.Choices.{choice_faults, kind_fault, kept_of}
 use Rattle.lr_looks.specs.Families.{LookedLog, looked_at, looked_of, family_faults}
 use Rattle.lr_looks.specs.Found.{FoundLog, Hold}
-use Rattle.lr_looks.specs.Sets.{where_in, of_set, looked_in, HaveLooksFrom}
+use Rattle.lr_looks.specs.Sets.{looked_in, HaveLooksFrom}
 use Rattle.lr_looks.specs.Shown.{ShowsLooks}
 use Rattle.lr_looks.specs.Reserved.{reserved_by}
 use Rattle.lr_laws_looks.proofs.Aside.{SawAside, all_aside as aside_seen}
-use Rattle.lr_laws_looks.proofs.Coming.{in_looked}
+use Rattle.lr_laws_looks.proofs.Coming.{in_looked, in_set}
 use Rattle.lr_laws_looks.proofs.Free.{IsFreeLog, kept_free}
 use Rattle.lr_laws_looks.proofs.Kept.{kept_has_none}
 use Rattle.lr_laws_plan.specs.Ending.{NoneEnds}
@@ -37,18 +37,9 @@ use Rattle.lr_laws_plan.proofs.Words.{words_none}
 
 -- ---- a log of the plan was looked at whole
 
-in_flat : (k : ℕ) (logs : List LookedLog) (x : LookedLog) → IsIn x (of_set k logs) → IsIn x logs
-in_flat k [] x h = absurd h
-in_flat k (l ∷ ls) x h = ⊎_elim (λ a. inl (one (eqb k l.set) a)) (λ b. inr (in_flat k ls x b)) (in_append x (where_in k l) (of_set k ls) h)
-  where
-    one : (b : Bool) → IsIn x (cond b (l ∷ []) []) → l ≡ x
-    one true (inl e) = e
-    one true (inr none) = absurd none
-    one false none = absurd none
-
 was_looked : (k : ℕ) (logs : List LookedLog) (sets : List SetLooks) (set : SetLooks) (look : LogLook) → HaveLooksFrom k logs sets → IsIn set sets → IsIn look set.logs → (n : ℕ) × IsIn (looked_in n look) logs
 was_looked k logs [] set look h at i = absurd at
-was_looked k logs (s ∷ ss) set look h (inl e) i = (k, in_flat k logs (looked_in k look) (subst (IsIn (looked_in k look)) h.0 (in_map (looked_in k) look s.logs (subst (λ (x : SetLooks). IsIn look x.logs) (sym e) i))))
+was_looked k logs (s ∷ ss) set look h (inl e) i = (k, in_set k logs (looked_in k look) (subst (IsIn (looked_in k look)) h.0 (in_map (looked_in k) look s.logs (subst (λ (x : SetLooks). IsIn look x.logs) (sym e) i))))
 was_looked k logs (s ∷ ss) set look h (inr at) i = was_looked (k + 1) logs ss set look h.1 at i
 
 -- ---- the looks

@@ -11,6 +11,7 @@ use Rattle.lr_host.specs.declared.entry.Entry.TheVariants as entry
 use Rattle.lr_host.specs.Lists.{IsIn}
 use Rattle.lr_host.specs.Sets.{LogSet, in_reach}
 use Rattle.lr_host.proofs.Lists.{in_append}
+use Rattle.lr_family.proofs.Names.{member_own}
 use Rattle.lr_laws.specs.Follow.{changed_paths}
 use Rattle.lr_laws.proofs.Outside.{in_reach_own, apart_outside, outside}
 use Rattle.lr_copy.specs.declared.job.Job.{Job}
@@ -21,7 +22,7 @@ use Rattle.lr_laws_rotations.proofs.Others.{IsFileChange, own_turns, no_job}
 use Rattle.lr_laws_rotations.specs.BesideSets.{LiesBeside, IsBesideSet}
 use Rattle.lr_laws_rotations.specs.Own.{ChangesNames, LieOutside}
 use Rattle.lr_laws_rotations.specs.Apart.{HasNames, TargetsHaveNames}
-use Rattle.lr_laws_rotations.proofs.Own.{member_own, any_change}
+use Rattle.lr_laws_rotations.proofs.Own.{any_change}
 
 -- ---- beside a set
 

@@ -34,6 +34,7 @@ use Rattle.lr_host.proofs.Quiet.{IsAny, Moment, moment, quiet_more, quiet_still,
 use Rattle.lr_family.specs.declared.stand.Member.{Member}
 use Rattle.lr_family.specs.Parts.{IsMember}
 use Rattle.lr_family.specs.Spots.{path_at}
+use Rattle.lr_family.proofs.Names.{member_own}
 use Rattle.lr_scripts.specs.declared.removal.Removal.{Removal}
 use Rattle.lr_copy.specs.declared.job.Job.{Job}
 use Rattle.lr_copy.specs.Fits.{ArePaths, CopyHasPlace, IsStale}
@@ -63,7 +64,7 @@ use Rattle.lr_laws_rotations.specs.Seen.{IsLogSeen}
 use Rattle.lr_laws_rotations.specs.Target.{Target, source_by, IsMissingDir, IsDirSeenBy, IsJob}
 use Rattle.lr_laws_rotations.proofs.Directories.{dir_now, log_dir, missing_free}
 use Rattle.lr_laws_rotations.proofs.LogSeen.{any_names}
-use Rattle.lr_laws_rotations.proofs.Own.{target_member, family_members, member_own, named_own}
+use Rattle.lr_laws_rotations.proofs.Own.{target_member, family_members, named_own}
 use Rattle.lr_laws_rotations.proofs.PartFile.{member_parent, job_no_member, job_no_dir, job_paths, part_no_first}
 use Rattle.lr_laws_rotations.proofs.Way.{aside_is, stays_first, first_apart, first_own, aside_apart, aside_own, family_at}
 use Rattle.lr_laws_rotations.proofs.Rotating.{steps_turn, unlinks_turn, moves_turn}

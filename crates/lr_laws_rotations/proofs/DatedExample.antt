@@ -2,7 +2,6 @@
 use Rattle.std.proofs.Common.{◌≡◌, inl, inr, zero, suc, refl, arith, subst, None, Some, [], ◌∷◌, ◌++◌, codes, true}
 use Rattle.std.specs.Prelude.{IsAscii}
 use Rattle.std.specs.List.{list_all}
-use Rattle.std.specs.List.Sorted.{IsStrictlySortedBy}
 use Rattle.std.specs.Str.{is_utf8}
 use Rattle.std.proofs.lemmas.Str.{is_utf8-from_IsUtf8, IsUtf8-from_ascii}
 use Rattle.lr_rules.specs.declared.clock.Clock.{Clock}
@@ -16,7 +15,7 @@ use Rattle.lr_host.specs.Lists.{IsIn}
 use Rattle.lr_host.specs.Looks.{Sees, IsFile}
 use Rattle.lr_host.proofs.Lists.{in_from}
 use Rattle.lr_family.specs.Kin.{IsKin}
-use Rattle.lr_family.specs.Stands.{AreNewestFirst}
+use Rattle.lr_family.proofs.Rising.{none_fall}
 use Rattle.lr_laws_family.specs.Weave.{Among, none, own, FirstWoven}
 use Rattle.lr_laws_rotations.specs.AllTurns.{StandsBetween}
 use Rattle.lr_laws_rotations.specs.Target.{IsGiven, Target, target_entries}
@@ -70,13 +69,9 @@ kin = record { dir = omega arith; size = omega arith; base = refl; ext = refl; a
 family : IsFamily log naming
 family = record { kin = kin; format = format_good; dir = path_w; apart = no_member rule log format_good kin }
 
-none_sorted : AreNewestFirst []
-unfolding IsStrictlySortedBy
-none_sorted = tt
-
 shown : Shown naming stand.members looks
 shown = record {
-  newest_first = none_sorted;
+  newest_first = none_fall;
   named = λ k d lt. absurd (omega arith);
   files = λ k d lt. absurd (omega arith);
   others = λ x is free. unlisted [] (inr (inr (inl refl))) (λ name c. absurd (in_from name [] c));

@@ -1,22 +1,13 @@
 -- The members that go behind the moves are some of those that stand.
-use Rattle.std.proofs.Common.{◌≡◌, inl, inr, ℕ, suc, Bool, true, false, not, ◌||◌, cond, refl, sym, ap, ◌∙◌, subst, Option, List, [], ◌∷◌, map, ℤ}
+use Rattle.std.proofs.Common.{◌≡◌, ℕ, suc, Bool, true, false, not, ◌||◌, refl, sym, ap, ◌∙◌, subst, Option, List, map, ℤ}
 use Rattle.std.specs.Prelude.{Contains, filter}
 use Rattle.std.proofs.lemmas.Bool.{and_parts}
 use Rattle.lr_rules.specs.declared.rule.Count.{Count}
 use Rattle.lr_host.specs.Lists.{IsIn}
-use Rattle.lr_host.proofs.Lists.{in_from, in_unmap, from_reverse}
+use Rattle.lr_host.proofs.Lists.{in_from, in_unmap, from_reverse, from_filter}
 use Rattle.lr_family.specs.declared.stand.Member.{Member}
 use Rattle.lr_family.specs.Stands.{number_in}
 use Rattle.lr_chain.specs.Rotation.{is_left, is_expired, goes, going}
-
-in_filter : {X : Type 0} (p : X → Bool) (x : X) (xs : List X) → IsIn x (filter p xs) → IsIn x xs × (p x ≡ true)
-in_filter p x [] h = absurd h
-in_filter p x (y ∷ ys) h = go (p y) refl (in_filter p x ys) h
-  where
-    go : (b : Bool) → p y ≡ b → (IsIn x (filter p ys) → IsIn x ys × (p x ≡ true)) → IsIn x (cond b (y ∷ filter p ys) (filter p ys)) → IsIn x (y ∷ ys) × (p x ≡ true)
-    go true e further (inl same) = (inl same, ap p (sym same) ∙ e)
-    go true e further (inr rest) = let r = further rest in (inr r.0, r.1)
-    go false e further rest = let r = further rest in (inr r.0, r.1)
 
 -- the member that comes from a place, and why it goes
 pub record Goer (c : Count) (maxage : Option ℕ) (now : ℤ) (members : List Member) (place : ℕ) : Type 0 where
@@ -47,7 +38,7 @@ goer c maxage now members place h = record {
     m = it.0
 
     found : IsIn m members × (goes c maxage now m ≡ true)
-    found = in_filter (goes c maxage now) m members it.1
+    found = from_filter (goes c maxage now) m members it.1
 
     parts : (not (is_left c (number_in m.place)) ≡ true) × ((is_left c (suc (number_in m.place)) || is_expired maxage now m) ≡ true)
     parts = and_parts (not (is_left c (number_in m.place))) (is_left c (suc (number_in m.place)) || is_expired maxage now m) found.1

@@ -4,7 +4,7 @@ use Rattle.std.specs.Prelude.{All}
 use Rattle.std.proofs.lemmas.List.Elements.{All-head, All-tail}
 use Rattle.lr_rules.specs.declared.path.Path.{Path}
 use Rattle.lr_rules.specs.declared.rule.Naming.{Naming}
-use Rattle.lr_rules.specs.Names.{IsOwnName, the_log, a_member, a_part, set_aside}
+use Rattle.lr_rules.specs.Names.{IsOwnName, the_log, a_part, set_aside}
 use Rattle.lr_stamps.proofs.StampShapes.{dated_shape}
 use Rattle.lr_host.specs.declared.entry.Entry.{Entry}
 use Rattle.lr_host.specs.declared.entry.Entry.TheVariants as entry
@@ -14,6 +14,7 @@ use Rattle.lr_host.specs.Told.{Each}
 use Rattle.lr_host.proofs.Each.{each_append, each_as}
 use Rattle.lr_family.specs.Named.{member_name}
 use Rattle.lr_family.specs.Parts.{part_of, IsMember}
+use Rattle.lr_family.proofs.Names.{member_own}
 use Rattle.lr_scripts.specs.declared.removal.Removal.{Removal}
 use Rattle.lr_copy.specs.declared.job.Job.{Job}
 use Rattle.lr_copy.specs.Copying.{clearing}
@@ -35,11 +36,6 @@ use Rattle.lr_laws_rotations.proofs.Rotating.{each_part}
 use Rattle.lr_laws_family.proofs.Core.{newest_own}
 
 -- ---- members and their part files
-
--- a member is a name of the family
-pub member_own : (log : Path) (n : Naming) (x : Path) → IsMember n x → IsOwnName log n x
-member_own log n x (inl m) = a_member (member_name n (n.start + m.1.0)) (place_shape n m.1.0 m.0 m.1.1.bound) m.1.1.named
-member_own log n x (inr d) = let h = dated_shape n d.0 d.1 x d.2 in a_member h.0 h.1 h.2
 
 -- and so is its part file
 part_own : (log : Path) (n : Naming) (x member : Path) → IsMember n member → x ≡ part_of member → IsOwnName log n x

@@ -212,3 +212,9 @@ line_part h is all e =
     drop_front : (p x : List ℕ) → drop (length p) (p ++ x) ≡ x
     drop_front [] x = refl
     drop_front (b ∷ p) x = drop_front p x
+
+pub not_memory : (k : LexKind) → (k ≡ kind.NoEndscript) ⊎ ((k ≡ kind.LineTooLong) ⊎ ((k ≡ kind.NotUtf8) ⊎ (k ≡ kind.OpenQuote))) → k ≡ kind.Memory → ⊥
+not_memory k (inl a) e = cc (a, e)
+not_memory k (inr (inl a)) e = cc (a, e)
+not_memory k (inr (inr (inl a))) e = cc (a, e)
+not_memory k (inr (inr (inr a))) e = cc (a, e)

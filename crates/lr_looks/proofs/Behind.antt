@@ -25,6 +25,7 @@ use Rattle.lr_looks.specs.declared.found.Found.{Found}
 use Rattle.lr_looks.specs.declared.standing.Standing.{Standing}
 use Rattle.lr_host.specs.Counted.{WentBy}
 use Rattle.lr_host.proofs.Counts.{free_none, went_free, went_call, none_more}
+use Rattle.lr_host.proofs.Lists.{grown}
 use Rattle.lr_looks.specs.Found.{FoundLog, found_in, all_found_in, Hold}
 use Rattle.lr_looks.specs.Families.{ShowFamilies, HadMemory, AllHadMemory, stop_fault, family_fault, family_faults, LookedLog, looked_at, looked_by, looked_of, LookedAtFamilies, LookedAtSomeFamilies, FamilySight, Stood, Stopped, sight_of, ShowsAside, ShowsNoAside, ShowsMembersIn, ShowsFamily, behind_listing, with_listing, not_listed}
 use Rattle.lr_looks.specs.Internal.{TakesListing, before, taken, LacksListing, IsListedAt, NoListing, lacks, unadded, FamilyPart, AddsLooked, AddsFamily, AddsFamilies, LooksBySets}
@@ -162,9 +163,6 @@ looked_on [] gs [] rs e = refl
 looked_on [] gs (s ∷ ss) rs e = absurd (omega (arith, e))
 looked_on (f ∷ fs) gs [] rs e = absurd (omega (arith, e))
 looked_on (f ∷ fs) gs (s ∷ ss) rs e = ap (λ ls. looked_by f s ++ ls) (looked_on fs gs ss rs (omega (arith, e))) ∙ sym (append_assoc (looked_by f s) (looked_of fs ss) (looked_of gs rs))
-
-grown : {A : Type 0} (a b c x y z : List A) → b ≡ a ++ x → c ≡ b ++ y → z ≡ x ++ y → c ≡ a ++ z
-grown a b c x y z e f g = f ∙ (ap (λ l. l ++ y) e ∙ (append_assoc a x y ∙ ap (λ l. a ++ l) (sym g)))
 
 all_had_memory : (ss rs : List FamilySight) → AllHadMemory ss → AllHadMemory rs → AllHadMemory (ss ++ rs)
 all_had_memory [] rs h g = g

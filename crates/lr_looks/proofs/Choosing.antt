@@ -10,6 +10,7 @@ use Rattle.lr_rules.specs.declared.fault.Fault.{Fault}
 use Rattle.lr_rules.specs.declared.path.Path.{Path}
 use Rattle.lr_rules.specs.declared.rule.Naming.{Naming}
 use Rattle.lr_rules.specs.Limits.{is_format, or_none}
+use Rattle.lr_host.proofs.Lists.{grown}
 use Rattle.lr_family.specs.declared.family.Family.{Family}
 use Rattle.lr_kept.specs.declared.choice.Choice.{Choice}
 use Rattle.lr_kept.specs.declared.choice.Choice.TheVariants.{Kept, Again, MemberOf, Reserved, Meets}
@@ -59,9 +60,6 @@ kept_on [] ys [] ds e = refl
 kept_on [] ys (c ∷ cs) ds e = absurd (omega (arith, e))
 kept_on (x ∷ xs) ys [] ds e = absurd (omega (arith, e))
 kept_on (x ∷ xs) ys (c ∷ cs) ds e = ap (λ fs. where_kept x c ++ fs) (kept_on xs ys cs ds (omega (arith, e))) ∙ sym (append_assoc (where_kept x c) (kept_of xs cs) (kept_of ys ds))
-
-grown : {A : Type 0} (a b c x y z : List A) → b ≡ a ++ x → c ≡ b ++ y → z ≡ x ++ y → c ≡ a ++ z
-grown a b c x y z e f g = f ∙ (ap (λ l. l ++ y) e ∙ (append_assoc a x y ∙ ap (λ l. a ++ l) (sym g)))
 
 length_taken : {A B : Type 0} (xs : List A) (ys : List B) (n : ℕ) → n ≤ length xs → n ≤ length ys → length (take n xs) ≡ length (take n ys)
 length_taken xs ys n a b = length-take-le n xs a ∙ sym (length-take-le n ys b)

@@ -1,7 +1,7 @@
 -- What words came to, one behind another.
-use Rattle.std.proofs.Common.{◌≡◌, ◌≢◌, ◌≤◌, ◌+◌, ◌-◌, ℕ, suc, Bool, true, false, not, cond, nat_le, nat_lt, ◌&&◌, List, [], ◌∷◌, ◌++◌, length, map, take, Option, Result, Ok, Err, OnOk, OnErr, refl, sym, ap, ◌∙◌, subst, arith, append_assoc}
+use Rattle.std.proofs.Common.{◌≡◌, ◌≢◌, ◌≤◌, ◌+◌, ◌-◌, ℕ, suc, Bool, true, false, cond, nat_le, nat_lt, ◌&&◌, List, [], ◌∷◌, ◌++◌, length, map, take, Option, Result, Ok, Err, OnOk, OnErr, refl, sym, ap, ◌∙◌, subst, arith, append_assoc}
 use Rattle.std.proofs.lemmas.List.{append-nil, length-append, length-map, map-append, take-append-le}
-use Rattle.std.proofs.lemmas.Bool.{and_parts, or_parts, leb-true}
+use Rattle.std.proofs.lemmas.Bool.{and_parts, or_parts, leb-true, not-false}
 use Rattle.std.specs.List.{list_any}
 use Rattle.lr_rules.specs.declared.fault.Fault.{Fault}
 use Rattle.lr_rules.specs.declared.fault.Fault.TheVariants as fault
@@ -20,6 +20,7 @@ use Rattle.lr_looks.specs.declared.found.Found.{Found}
 use Rattle.lr_looks.specs.Asked.{Word, AreTexts}
 use Rattle.lr_host.specs.Counted.{Went, WentBy}
 use Rattle.lr_host.proofs.Counts.{AreFree, free_none, went_free, went_call, went_where}
+use Rattle.lr_host.proofs.Lists.{grown}
 use Rattle.lr_looks.specs.Found.{FoundLog, found_in, all_found_in, HasLogPath, HaveLogPaths}
 use Rattle.lr_looks.specs.Sights.{WordSight, found_at, found_by, glob_fault, sight_faults, found_of, all_sight_faults, ShowsWord, ShowWords, WordHadMemory, WordsHadMemory, AreFoundOf, LookedAtWords, LookedAtSomeWords}
 use Rattle.lr_looks.specs.Internal.{AddsFound}
@@ -119,9 +120,6 @@ shown_on n (x ∷ xs) ys (s ∷ ss) rs ts us h g = record {
   where
     counted : (a b : List FoundLog) → n + length (a ++ b) ≡ n + length a + length b
     counted a b = let e = length-append a b in omega (arith, e)
-
-grown : {A : Type 0} (a b c x y z : List A) → b ≡ a ++ x → c ≡ b ++ y → z ≡ x ++ y → c ≡ a ++ z
-grown a b c x y z e f g = f ∙ (ap (λ l. l ++ y) e ∙ (append_assoc a x y ∙ ap (λ l. a ++ l) (sym g)))
 
 memory_on : (ss rs : List WordSight) → WordsHadMemory ss → WordsHadMemory rs → WordsHadMemory (ss ++ rs)
 memory_on [] rs h g = g
@@ -267,13 +265,9 @@ paths_more p q f e h hs = subst HaveLogPaths (sym e) (on p hs)
     on [] g = (h, tt)
     on (x ∷ xs) g = (g.0, on xs g.1)
 
-not_true : (b : Bool) → not b ≡ false → b ≡ true
-not_true true h = refl
-not_true false h = absurd (cc)
-
 pub short_path : (x : Match) → is_long x ≡ false → (length x.path ≤ 2048) × (length (last_of x.path) ≤ 255)
 short_path x h =
-    let p = and_parts (nat_le (length x.path) 2048) (nat_le (length (last_of x.path)) 255) (not_true (nat_le (length x.path) 2048 && nat_le (length (last_of x.path)) 255) h) in
+    let p = and_parts (nat_le (length x.path) 2048) (nat_le (length (last_of x.path)) 255) (not-false (nat_le (length x.path) 2048 && nat_le (length (last_of x.path)) 255) h) in
     (leb-true (length x.path) 2048 p.0, leb-true (length (last_of x.path)) 255 p.1)
 
 -- `expand` finds no path that is too long

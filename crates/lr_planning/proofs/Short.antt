@@ -1,5 +1,5 @@
 -- The path that a log gets is short enough for a part file beside it.
-use Rattle.std.proofs.Common.{◌≡◌, ◌≤◌, ◌<◌, ◌+◌, ◌*◌, ℕ, zero, suc, ℤ, Bool, true, false, cond, inl, inr, List, [], ◌∷◌, ◌++◌, length, arith, length-append, nat_eq, ap, subst}
+use Rattle.std.proofs.Common.{◌≡◌, ◌≤◌, ◌<◌, ◌+◌, ◌*◌, ℕ, zero, suc, ℤ, Bool, true, false, cond, List, [], ◌∷◌, ◌++◌, length, arith, length-append, nat_eq, ap, subst}
 use Rattle.std.specs.Prelude.{decimal, nat_le}
 use Rattle.std.specs.List.{list_all}
 use Rattle.std.proofs.lemmas.Bool.Decides.{nat_tests}
@@ -14,11 +14,12 @@ use Rattle.lr_rules.specs.declared.rule.Naming.{Naming}
 use Rattle.lr_rules.specs.declared.rule.Piece.{Piece}
 use Rattle.lr_rules.specs.declared.rule.Piece.TheVariants as piece
 use Rattle.lr_rules.specs.declared.stamp_parts.StampParts.{StampParts}
-use Rattle.lr_rules.specs.Dated.{serial_text, IsSerial, IsNumberedStamp, IsDatedAt}
+use Rattle.lr_rules.specs.Dated.{serial_text, IsNumberedStamp, IsDatedAt}
 use Rattle.lr_rules.specs.Limits.{is_plain_piece, written, is_format, or_none}
 use Rattle.lr_rules.specs.Path.{joined}
 use Rattle.lr_rules.specs.StampParts.{part}
 use Rattle.lr_rules.specs.Stamps.{field_text, bound, stamp_text, same_field, is_in}
+use Rattle.lr_rules.proofs.Counts.{serial_small}
 use Rattle.lr_stamps.proofs.Fields.{itself}
 use Rattle.lr_family.specs.Kin.{IsKin}
 use Rattle.lr_family.specs.Named.{member_name}
@@ -79,16 +80,12 @@ serial_short : (k : ℕ) → k ≤ 4294967295 → length (serial_text k) ≤ 11
 serial_short zero le = omega arith
 serial_short (suc k) le = let r : length (decimal (suc k)) ≤ 10 = length-decimal-le 10 (suc k) (omega arith) (omega arith) (omega (arith, le)) in omega (arith, r)
 
-serial_low : (f : Format) (k : ℕ) → IsSerial f k → k ≤ 4294967295
-serial_low f k (inl none) = omega (arith, none)
-serial_low f k (inr h) = h.1
-
 numbered_short : (f : Format) (t : ℤ) (k : ℕ) (w : List ℕ) → is_format f ≡ true → IsNumberedStamp f t k w → length w ≤ 779
 numbered_short f t k w good n =
     let few = pieces_short f good in
     let text : length n.stamp ≡ length (stamp_text n.is.parts f.pieces) = ap length n.is.reading.text in
     let stamp = stamp_short n.is.parts f.pieces n.is.reading.small in
-    let behind = serial_short k (serial_low f k n.numbered) in
+    let behind = serial_short k (serial_small f k n.numbered) in
     let both : length (n.stamp ++ serial_text k) ≡ length n.stamp + length (serial_text k) = length-append n.stamp (serial_text k) in
     let is : length w ≡ length (n.stamp ++ serial_text k) = ap length n.text in
     omega (arith, few, text, stamp, behind, both, is)

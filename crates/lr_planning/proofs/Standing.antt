@@ -1,7 +1,6 @@
 -- The stand that a rotation goes by: its members are what is asked of them, also where its directory is made; and what is said of a stand that is the same.
 use Rattle.std.proofs.Common.{◌≡◌, ℕ, Bool, true, false, List, [], ◌∷◌, Ok, Option, Some, None, refl, sym, ap, ◌∙◌, subst, arith}
 use Rattle.std.specs.Prelude.{if◌then◌else◌}
-use Rattle.std.specs.List.Sorted.{IsStrictlySortedBy}
 use Rattle.lr_rules.specs.declared.clock.Clock.{Clock}
 use Rattle.lr_rules.specs.declared.fault.Fault.{Fault}
 use Rattle.lr_rules.specs.declared.path.Path.{Path}
@@ -12,7 +11,7 @@ use Rattle.lr_rules.specs.declared.rule.Naming.{Naming}
 use Rattle.lr_rules.specs.declared.rule.Rule.{Rule}
 use Rattle.lr_family.specs.declared.stand.Member.{Member}
 use Rattle.lr_family.specs.declared.stand.Stand.{Stand}
-use Rattle.lr_family.specs.Stands.{AreNewestFirst}
+use Rattle.lr_family.proofs.Rising.{none_fall}
 use Rattle.lr_chain.specs.declared.ready.Ready.{Ready}
 use Rattle.lr_chain.specs.declared.ready.PrepareStop.{PrepareStop}
 use Rattle.lr_chain.specs.Ready.{with_dir}
@@ -22,10 +21,6 @@ use Rattle.lr_plan.specs.declared.looks.LogLook.{LogLook}
 use Rattle.lr_planning.specs.Hindered.{prepare_fault}
 use Rattle.lr_plan.specs.Planned.{makes_dir, dir_of, empty_stand, stand_for, with_stand, standing, hindrances, aside_hinders, or_else, first_path, with_log, make_for, ready_for, AreMembersOf, CanPlan}
 use Rattle.lr_planning.proofs.Hindrances.{fault_hinders}
-
-none_fall : AreNewestFirst []
-unfolding IsStrictlySortedBy
-none_fall = tt
 
 -- no members meet all that is asked of members; the format of their dates meets its limits as before
 none_are : (n : Naming) (stand : Stand) → AreMembersOf n stand.members → AreMembersOf n []

@@ -19,7 +19,7 @@ onto_plain : (b : ℕ) (parts : List (List ℕ)) → is_slash b ≡ false → Ar
 onto_plain b [] h plain = (ap (λ x. x || false) h, tt)
 onto_plain b (p ∷ ps) h plain = (ap (λ x. x || list_any is_slash p) h ∙ plain.0, plain.1)
 
-split_plain : (bs : List ℕ) → ArePlain (slice_split is_slash bs)
+pub split_plain : (bs : List ℕ) → ArePlain (slice_split is_slash bs)
 split_plain [] = (refl, tt)
 split_plain (b ∷ bs) = go (is_slash b) refl (split_plain bs)
   where

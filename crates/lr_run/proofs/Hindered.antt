@@ -37,6 +37,7 @@ use Rattle.lr_family.specs.Parts.{IsDated}
 use Rattle.lr_family.specs.Places.{IsPlaceOf}
 use Rattle.lr_family.proofs.Placed.{dated_at}
 use Rattle.lr_family.specs.Looks.{WasSeen}
+use Rattle.lr_family.proofs.Names.{member_own}
 use Rattle.lr_chain.specs.Hindrances.{is_stamp, fault_at, too_high, taken, stamp_hindrances, keeps_all, number_hindrances, name_hindrances, what_hinders}
 use Rattle.lr_chain.specs.Ready.{is_highest, highest_path}
 use Rattle.lr_plan.specs.declared.looks.LogLook.{LogLook}
@@ -60,7 +61,6 @@ use Rattle.lr_laws_rotations.specs.Target.{Target}
 use Rattle.lr_laws_family.specs.Shown.{Shown}
 use Rattle.lr_laws_family.proofs.Stood.{file_stands}
 use Rattle.lr_laws_rotations.specs.Apart.{HasNames, TargetsHaveNames}
-use Rattle.lr_laws_rotations.proofs.Own.{member_own}
 use Rattle.lr_laws_acts.proofs.Parting.{done_some}
 use Rattle.lr_laws_acts.proofs.Planning.{ready_planned}
 use Rattle.lr_looks.specs.Reserved.{reserved_by}

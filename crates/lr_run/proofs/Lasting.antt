@@ -10,6 +10,7 @@ use Rattle.lr_rules.specs.declared.rule.Naming.{Naming}
 use Rattle.lr_rules.specs.Names.{IsOwnName, the_log, IsName}
 use Rattle.lr_host.specs.Lists.{IsIn}
 use Rattle.lr_family.specs.Parts.{IsMember}
+use Rattle.lr_family.proofs.Names.{member_own}
 use Rattle.lr_scripts.specs.declared.command.Command.{Command}
 use Rattle.lr_scripts.specs.declared.removal.Removal.{Removal}
 use Rattle.lr_chain.specs.declared.ready.Move.{Move}
@@ -23,7 +24,6 @@ use Rattle.lr_plan.specs.Steps.{on_of, program, removal, removals, directory, mo
 use Rattle.lr_acts.specs.Making.{all_of_each, all_of_set, all_of_sets}
 use Rattle.lr_acts.specs.Named.{KeepName, CreatesAt, OneCreates, LastsBehind}
 use Rattle.lr_laws_rotations.specs.Target.{Target}
-use Rattle.lr_laws_rotations.proofs.Own.{member_own}
 use Rattle.lr_laws_acts.specs.Fitting.{DontMeet}
 use Rattle.lr_laws_acts.specs.Planned.{bare_removal, IsReadyFor, AreReadyFor}
 use Rattle.lr_run.proofs.Courses.{OfLog, sets_so, set_so, all_set, all_sets}

@@ -46,6 +46,7 @@ use Rattle.lr_move.specs.Moved.{CopiesAside, IsLetGo, LetsGoWhole, WritersSpareC
 use Rattle.lr_move.proofs.LettingGo.{may_go}
 use Rattle.lr_due.specs.declared.answer.Due.{Due}
 use Rattle.lr_state.proofs.Quiet.{state_quiet}
+use Rattle.lr_family.proofs.Names.{member_own}
 use Rattle.lr_plan.specs.declared.looks.LogLook.{LogLook}
 use Rattle.lr_plan.specs.declared.plan.Plan.{Plan}
 use Rattle.lr_plan.specs.declared.plan.LogPlan.{LogPlan}
@@ -62,7 +63,7 @@ use Rattle.lr_laws_rotations.specs.Target.{Target, IsJob, HasWay, source_by}
 use Rattle.lr_laws_rotations.proofs.Reached.{IsKnownFor, waits_at}
 use Rattle.lr_laws_rotations.proofs.RunSafety.{known_targets, part_apart}
 use Rattle.lr_laws_rotations.proofs.Safety.{quiet_call_safe_by}
-use Rattle.lr_laws_rotations.proofs.Own.{family_members, target_member, member_own, named_own}
+use Rattle.lr_laws_rotations.proofs.Own.{family_members, target_member, named_own}
 use Rattle.lr_laws_rotations.proofs.PartFile.{part_no_waiting, job_part}
 use Rattle.lr_laws_rotations.proofs.Way.{aside_own}
 use Rattle.lr_laws_acts.specs.Planned.{bare_removal, IsReadyFor, AreReadyFor, HaveLogs}

@@ -36,7 +36,7 @@ use Rattle.lr_laws_rotations.specs.Seen.{AreLogsSeen}
 use Rattle.lr_laws_acts.proofs.Parting.{done_turns, cut_turns, others_behind}
 use Rattle.lr_laws_acts.proofs.Planning.{ready_planned}
 use Rattle.lr_laws_looks.specs.Targets.{groups_of, all_targets}
-use Rattle.lr_laws_rotations.proofs.Shapes.{quiet_run_by}
+use Rattle.lr_laws_rotations.proofs.Shapes.{quiet_run_by, looks_turn_by}
 use Rattle.lr_laws_rotations.proofs.Whole.{shown_more}
 use Rattle.lr_run.specs.declared.answer.Ran.{Ran}
 use Rattle.lr_run.specs.declared.answer.RunStop.{RunStop}
@@ -203,12 +203,9 @@ worked_turn state rules clock asked own ts w = subst (AllTurnsBy state clock rul
     decide : Rule → LogLook → Due
     decide = decision l.remembered.table clock.now asked.force
 
-quiet_turns : (state : Path) (clock : Clock) (rules : Rules) (ts : List Entry) → AreQuiet ts → AllTurnsBy state clock rules ts
-quiet_turns state clock rules ts q = subst (AllTurnsBy state clock rules) (append-nil ts) (no_turns state clock rules ts q)
-
 works_turn : (state : Path) (rules : Rules) (clock : Clock) (asked : Asked) (plan : Option Plan) (own : List Fault) (ts : List Entry) → Works state rules.sets clock asked plan own ts → AllTurnsBy state clock rules ts
-works_turn state rules clock asked plan own ts (not_known sights f known lost is shown) = quiet_turns state clock rules ts (state_quiet state 65_536 sights ts shown)
-works_turn state rules clock asked plan own ts (too_big l big lost is none) = quiet_turns state clock rules ts (subst AreQuiet (sym (l.joined ∙ (ap (λ xs. l.reads ++ (l.looks ++ xs)) none ∙ ap (λ xs. l.reads ++ xs) (append-nil l.looks)))) (seen_quiet state rules.sets ts l))
+works_turn state rules clock asked plan own ts (not_known sights f known lost is shown) = looks_turn_by state clock rules ts (state_quiet state 65_536 sights ts shown)
+works_turn state rules clock asked plan own ts (too_big l big lost is none) = looks_turn_by state clock rules ts (subst AreQuiet (sym (l.joined ∙ (ap (λ xs. l.reads ++ (l.looks ++ xs)) none ∙ ap (λ xs. l.reads ++ xs) (append-nil l.looks)))) (seen_quiet state rules.sets ts l))
 works_turn state rules clock asked plan own ts (worked w is) = worked_turn state rules clock asked own ts w
 
 pub some_quiet : (state : Path) (rules : List Rule) (ts : List Entry) → SomeSeen state rules ts → AreQuiet ts
@@ -246,5 +243,5 @@ whole_run state asked clock rules earlier (Ok ran) ts h = runs_shape state asked
 whole_run state asked clock rules earlier (Err stop.Held) ts h = quiet_run_by clock ts (sees_quiet (parent_of state) IsDir ts h)
 whole_run state asked clock rules earlier (Err stop.Memory) ts (at_first e) = none_run clock ts e
 whole_run state asked clock rules earlier (Err stop.Memory) ts (in_looks i) = begun_run state clock rules i.before (i.between ++ entry.Ends ∷ []) ts i.directory i.entries
-    (ended state clock rules i.between (quiet_turns state clock rules i.between (some_quiet state rules.sets i.between i.within)))
+    (ended state clock rules i.between (looks_turn_by state clock rules i.between (some_quiet state rules.sets i.between i.within)))
 whole_run state asked clock rules earlier (Err stop.Memory) ts (in_acts i) = begun_run state clock rules i.before (i.between ++ entry.Ends ∷ []) ts i.directory i.entries (ended state clock rules i.between (broke_turn state rules clock asked i.between i.within))

@@ -12,6 +12,7 @@ use Rattle.lr_host.specs.Opening.{IsJournal}
 use Rattle.lr_host.specs.Quiet.{AreQuiet}
 use Rattle.lr_host.specs.Told.{Made}
 use Rattle.lr_host.specs.World.{Past}
+use Rattle.lr_family.proofs.Names.{member_own}
 use Rattle.lr_copy.specs.declared.job.Job.{Job}
 use Rattle.lr_copy.specs.Fits.{ArePaths}
 use Rattle.lr_plan.specs.Asked.{Asked}
@@ -25,7 +26,7 @@ use Rattle.lr_laws_rotations.specs.Target.{Target, source_of, IsJob}
 use Rattle.lr_laws_rotations.specs.Runs.{AllTurnedBy}
 use Rattle.lr_laws_rotations.specs.Seen.{IsLogSeen}
 use Rattle.lr_laws_rotations.proofs.CallsFit.{log_paths}
-use Rattle.lr_laws_rotations.proofs.Own.{named_own, member_own}
+use Rattle.lr_laws_rotations.proofs.Own.{named_own}
 use Rattle.lr_laws_rotations.proofs.Way.{source_own}
 use Rattle.lr_laws_acts.specs.Planned.{HaveLogs, LogsDiffer}
 use Rattle.lr_laws_acts.proofs.Stands.{stands_first, plan_stands, plan_empties}

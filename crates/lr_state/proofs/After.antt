@@ -2,7 +2,7 @@
 use Rattle.std.proofs.Common.{◌≡◌, ◌∙◌, ap, sym, subst, refl, ℕ, ◌<◌, length, nat_lt, Bool, true, false, not, ◌&&◌, ◌||◌, cond, List, [], ◌∷◌, ◌++◌, map, filter, Some, None, is_some, true≢false, arith, ◌+◌, take, get_or}
 use Rattle.std.specs.List.{list_any}
 use Rattle.std.specs.Str.{bytes_eq, is_utf8}
-use Rattle.std.proofs.lemmas.Bool.{and_parts, and_from, not-true, lt-ltb, ltb-false, le-leb}
+use Rattle.std.proofs.lemmas.Bool.{and_parts, and_from, not-true, lt-ltb, ltb-false, le-leb, not-false}
 use Rattle.std.proofs.lemmas.List.{map-append, take_more}
 use Rattle.std.proofs.lemmas.List.Folds.{list_any-append}
 use Rattle.std.proofs.lemmas.Slice.Eq.{bytes_eq-Decides}
@@ -16,10 +16,6 @@ use Rattle.lr_state.specs.After.{is_among, stamped, stays, with_new, after}
 
 -- ---- a path is a name of a log
 
-not_not : (b : Bool) → not b ≡ false → b ≡ true
-not_not true e = refl
-not_not false e = absurd (true≢false e)
-
 some_bytes : (bs : List ℕ) → is_absolute bs ≡ true → nat_lt 0 (length bs) ≡ true
 some_bytes [] e = absurd (true≢false (sym e))
 some_bytes (b ∷ bs) e = lt-ltb 0 (length (b ∷ bs)) (omega arith)
@@ -31,7 +27,7 @@ path_named bs none =
     let bytes = none_of (has_bad_byte bs) _ _ text.1 in
     let size = none_of (nat_lt 4096 (length bs)) _ _ bytes.1 in
     let start = none_of (not (is_absolute bs)) _ _ size.1 in
-    and_from _ _ (and_from _ _ (and_from _ _ (some_bytes bs (not_not (is_absolute bs) start.0)) (le-leb (length bs) 4096 (ltb-false 4096 (length bs) size.0))) (not_not (is_utf8 bs) text.0)) (ap not bytes.0)
+    and_from _ _ (and_from _ _ (and_from _ _ (some_bytes bs (not-false (is_absolute bs) start.0)) (le-leb (length bs) 4096 (ltb-false 4096 (length bs) size.0))) (not-false (is_utf8 bs) text.0)) (ap not bytes.0)
 
 -- ---- stamps
 

@@ -9,7 +9,7 @@ use Rattle.std.proofs.lemmas.List.Splits.{slice_split_none, slice_split_at}
 use Rattle.lr_rules.specs.Limits.{is_path_text}
 use Rattle.lr_rules.specs.Names.{is_step, word_parts, path_by, path_from}
 use Rattle.lr_rules.specs.Path.{is_bad_byte, is_slash, is_empty, is_dots, is_absolute, has_bad_byte, has_empty_part, has_dot_part}
-use Rattle.lr_rules.proofs.Cleaned.{all_plain, ArePlain}
+use Rattle.lr_rules.proofs.Cleaned.{all_plain, ArePlain, split_plain}
 use Rattle.lr_rules.proofs.FromWord.{slashed}
 use Rattle.lr_rules.proofs.Splits.{Parts, some_parts, split_parts}
 use Rattle.lr_words.specs.Words.{is_climb, has_climb}
@@ -95,14 +95,6 @@ dots_steps (p ∷ ps) = by (is_step p) refl (dots_steps ps)
 abbrev Good : List (List ℕ) → Type 0
 Good [] = Unit {0}
 Good (p ∷ ps) = (list_any is_slash p ≡ false) × (is_empty p ≡ false) × Good ps
-
-split_plain : (bs : List ℕ) → ArePlain (slice_split is_slash bs)
-split_plain [] = (refl, tt)
-split_plain (b ∷ bs) = by (is_slash b) refl (slice_split is_slash bs) (split_parts bs) (split_plain bs)
-  where
-    by : (s : Bool) → is_slash b ≡ s → (ps : List (List ℕ)) → Parts ps → ArePlain ps → ArePlain (cond s ([] ∷ ps) (onto_first b ps))
-    by true is _ (some_parts q qs) plain = (refl, plain)
-    by false is _ (some_parts q qs) plain = (or_from (is_slash b) (list_any is_slash q) is plain.0, plain.1)
 
 step_full : (p : List ℕ) → is_step p ≡ true → is_empty p ≡ false
 step_full [] h = absurd (cc)

@@ -18,18 +18,6 @@ in_filter {X = X} test x (y ∷ ys) h passes = by h (in_filter test x ys)
     by (inl same) rest = subst (λ (b : Bool). IsIn x (cond b (y ∷ filter test ys) (filter test ys))) (sym (ap test same ∙ passes)) (inl same)
     by (inr i) rest = still (test y) (rest i passes)
 
-pub from_filter : {X : Type 0} (test : X → Bool) (x : X) (xs : List X) → IsIn x (filter test xs) → IsIn x xs × (test x ≡ true)
-from_filter test x [] h = absurd h
-from_filter {X = X} test x (y ∷ ys) h = by (test y) refl (from_filter test x ys) h
-  where
-    more : IsIn x ys × (test x ≡ true) → IsIn x (y ∷ ys) × (test x ≡ true)
-    more h = (inr h.0, h.1)
-
-    by : (b : Bool) → test y ≡ b → (IsIn x (filter test ys) → IsIn x ys × (test x ≡ true)) → IsIn x (cond b (y ∷ filter test ys) (filter test ys)) → IsIn x (y ∷ ys) × (test x ≡ true)
-    by true passes rest (inl same) = (inl same, sym (ap test same) ∙ passes)
-    by true passes rest (inr i) = more (rest i)
-    by false passes rest i = more (rest i)
-
 pub all_kept : {X : Type 0} (test : X → Bool) (xs : List X) → ((x : X) → test x ≡ true) → filter test xs ≡ xs
 all_kept test [] all = refl
 all_kept test (x ∷ xs) all = ap (λ b. cond b (x ∷ filter test xs) (filter test xs)) (all x) ∙ ap (λ ys. x ∷ ys) (all_kept test xs all)

@@ -14,13 +14,13 @@ use Rattle.std.specs.Str.{bytes_eq}
 use Rattle.lr_rules.specs.declared.path.Path.{Path}
 use Rattle.lr_rules.specs.Path.{parent_of}
 use Rattle.lr_host.specs.Lists.{IsIn, IsNotIn, AreDistinct}
-use Rattle.lr_host.proofs.Lists.{in_append, in_back, in_front, in_unmap}
+use Rattle.lr_host.proofs.Lists.{in_append, in_back, in_front, in_unmap, from_filter}
 use Rattle.lr_plan.specs.declared.mark.Mark.{Mark}
 use Rattle.lr_plan.specs.declared.mark.Mark.TheVariants.{Rotated, Directory, Created}
 use Rattle.lr_plan.specs.declared.plan.SetPlan.{SetPlan}
 use Rattle.lr_writing.specs.Directories.{AreDirectoriesOf}
 use Rattle.lr_writing.specs.Synced.{AreSynced, all_changed_of, all_to_make_of, made_in, is_unmade}
-use Rattle.lr_writing.proofs.Kept.{in_filter, from_filter, all_kept, among_from, among_to}
+use Rattle.lr_writing.proofs.Kept.{in_filter, all_kept, among_from, among_to}
 
 -- ---- what was made
 

@@ -1,14 +1,11 @@
-use Rattle.std.proofs.Common.{◌≡◌, [], ◌∷◌, ◌++◌, false, List, Result, Ok, Err, OnOk, refl, sym, ap, ◌∙◌, subst, append_assoc, rules}
+use Rattle.std.proofs.Common.{[], ◌∷◌, ◌++◌, false, List, refl, sym, ap, ◌∙◌, subst, append_assoc, rules}
 use Rattle.std.specs.Result.{is_err}
+use Rattle.lr_rules.proofs.Results.{on_ok}
 use Rattle.lr_host.specs.Told.{Left}
 use Rattle.lr_family.specs.declared.spot.Spot.{Spot}
 use Rattle.lr_family.specs.Stops.{SomeStopped}
 use Rattle.lr_family.proofs.Looking.{shows_none, shows_more, shows_stop, shows_some, seen_none, seen_more}
 use Rattle.lr_family.proofs.look.look_at_all.Goals as goal
-
-on_ok : {T E : Type 0} (r : Result T E) {P : Type 0} → is_err r ≡ false → OnOk r P → P
-on_ok (Ok x) e p = p
-on_ok (Err x) e p = absurd (cc)
 
 pub loop-spot-init : goal.loop-spot-init
 loop-spot-init g c = record { done = []; seam = refl; told = shows_none c.new-members.result.items _ c.new-members.ensures.items; seen = seen_none c.new-members.result.items c.new-members.ensures.items; counts = search rules }

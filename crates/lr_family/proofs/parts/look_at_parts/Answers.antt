@@ -1,12 +1,9 @@
-use Rattle.std.proofs.Common.{◌≡◌, [], ◌∷◌, ◌++◌, false, List, Result, Ok, Err, OnOk, refl, sym, ap, ◌∙◌, append_assoc, rules}
+use Rattle.std.proofs.Common.{[], ◌∷◌, ◌++◌, false, List, refl, sym, ap, ◌∙◌, append_assoc, rules}
 use Rattle.std.specs.Result.{is_err}
 use Rattle.lr_rules.specs.declared.path.Path.{Path}
+use Rattle.lr_rules.proofs.Results.{on_ok}
 use Rattle.lr_family.proofs.PartLooks.{sees_none, sees_more, sees_stop, sees_some}
 use Rattle.lr_family.proofs.parts.look_at_parts.Goals as goal
-
-on_ok : {T E : Type 0} (r : Result T E) {P : Type 0} → is_err r ≡ false → OnOk r P → P
-on_ok (Ok x) e p = p
-on_ok (Err x) e p = absurd (cc)
 
 pub loop-path-init : goal.loop-path-init
 loop-path-init g c = record { done = []; seam = refl; told = sees_none c.new-parts.result.items _ c.new-parts.ensures.items; counts = search rules }

@@ -1,20 +1,13 @@
-use Rattle.std.proofs.Common.{◌≡◌, ◌⊎◌, inl, inr, ◌∙◌, sym, ap, subst, List, [], ◌∷◌, ℕ, Option, Ok, Err, arith}
+use Rattle.std.proofs.Common.{◌≡◌, ◌∙◌, sym, ap, subst, List, [], ◌∷◌, ℕ, Option, Ok, Err, arith}
 use Rattle.lr_lex.specs.declared.item.Item.{Item}
 use Rattle.lr_lex.specs.declared.item.LexFault.{LexFault}
-use Rattle.lr_lex.specs.declared.item.LexKind.{LexKind}
 use Rattle.lr_lex.specs.declared.item.LexKind.TheVariants as kind
 use Rattle.lr_lex.specs.Items.{Told, items}
 use Rattle.lr_lex.specs.Holding.{FirstOf, coming}
 use Rattle.lr_lex.proofs.Left.{left_small, left_one, left_told, left_nothing, left_none}
 use Rattle.lr_lex.proofs.Passing.{dropped_few, dropped_held}
-use Rattle.lr_lex.proofs.Stepping.{other_kind, by_other, near_item}
+use Rattle.lr_lex.proofs.Stepping.{other_kind, by_other, near_item, not_memory}
 use Rattle.lr_lex.proofs.ending.finish.Goals as goal
-
-not_memory : (k : LexKind) → (k ≡ kind.NoEndscript) ⊎ ((k ≡ kind.LineTooLong) ⊎ ((k ≡ kind.NotUtf8) ⊎ (k ≡ kind.OpenQuote))) → k ≡ kind.Memory → ⊥
-not_memory k (inl a) e = cc (a, e)
-not_memory k (inr (inl a)) e = cc (a, e)
-not_memory k (inr (inr (inl a))) e = cc (a, e)
-not_memory k (inr (inr (inr a))) e = cc (a, e)
 
 pub move_item-requires : goal.move_item-requires
 move_item-requires c =

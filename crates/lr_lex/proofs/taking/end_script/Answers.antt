@@ -1,17 +1,10 @@
-use Rattle.std.proofs.Common.{◌≡◌, ◌⊎◌, inl, inr, ◌∙◌, sym, ap, subst, List, ℕ, Option, Ok, Err, ◌∷◌, arith}
+use Rattle.std.proofs.Common.{◌≡◌, ◌∙◌, sym, ap, subst, List, ℕ, Option, Ok, Err, ◌∷◌, arith}
 use Rattle.lr_lex.specs.declared.item.Item.{Item}
-use Rattle.lr_lex.specs.declared.item.LexKind.{LexKind}
 use Rattle.lr_lex.specs.declared.item.LexKind.TheVariants as kind
 use Rattle.lr_lex.specs.Items.{Told, items}
 use Rattle.lr_lex.specs.Holding.{FirstOf}
-use Rattle.lr_lex.proofs.Stepping.{other_kind, near_item, script_there, script_next, script_at, small}
+use Rattle.lr_lex.proofs.Stepping.{other_kind, near_item, script_there, script_next, script_at, small, not_memory}
 use Rattle.lr_lex.proofs.taking.end_script.Goals as goal
-
-not_memory : (k : LexKind) → (k ≡ kind.NoEndscript) ⊎ ((k ≡ kind.LineTooLong) ⊎ ((k ≡ kind.NotUtf8) ⊎ (k ≡ kind.OpenQuote))) → k ≡ kind.Memory → ⊥
-not_memory k (inl a) e = cc (a, e)
-not_memory k (inr (inl a)) e = cc (a, e)
-not_memory k (inr (inr (inl a))) e = cc (a, e)
-not_memory k (inr (inr (inr a))) e = cc (a, e)
 
 pub unreachable-requires : goal.unreachable-requires
 unreachable-requires c =
