@@ -9,6 +9,7 @@ use Rattle.lr_rules.specs.declared.memory.Memory.{Memory}
 use Rattle.lr_rules.specs.declared.path.Path.{Path}
 use Rattle.lr_rules.specs.Path.{cleaned}
 use Rattle.lr_rules.specs.StatePath.{can_be_state}
+use Rattle.lr_rules.proofs.Bools.{first_true, second_true}
 use Rattle.lr_command.specs.Words.{has_state, may_be_path, state_by}
 use Rattle.lr_host.specs.declared.journal.Journal.{Journal}
 use Rattle.lr_host.specs.Quiet.{AreQuiet}
@@ -38,17 +39,9 @@ pub none_of : (o : Option Wanted) (w : Wanted) → o ≡ None → o ≡ Some w �
 none_of o w none some = none-some w (sym none ∙ some)
 
 -- the state file of what is wanted can have its path
-and_first : (a b : Bool) → (a && b) ≡ true → a ≡ true
-and_first true b e = refl
-and_first false b e = e
-
-and_second : (a b : Bool) → (a && b) ≡ true → b ≡ true
-and_second true b e = e
-and_second false b e = absurd (cc)
-
 by_fits : (here : Path) (file : Option (List ℕ)) (confs : List (List ℕ)) (w : Wanted) (b : Bool) → (has_state here file && are_names here confs) ≡ b → cond b (Some (record { state = state_by here file; confs = map (cleaned here) confs })) None ≡ Some w → can_be_state w.state ≡ true
 by_fits here file confs w false e is = absurd (none-some w is)
-by_fits here file confs w true e is = subst (λ (v : Wanted). can_be_state v.state ≡ true) (same_Some _ w is) (and_second (may_be_path here file) (can_be_state (state_by here file)) (and_first (has_state here file) (are_names here confs) e))
+by_fits here file confs w true e is = subst (λ (v : Wanted). can_be_state v.state ≡ true) (same_Some _ w is) (second_true (may_be_path here file) (can_be_state (state_by here file)) (first_true (has_state here file) (are_names here confs) e))
 
 behind_fits : (here : Path) (words : List (List ℕ)) (w : Wanted) → wanted_behind here words ≡ Some w → can_be_state w.state ≡ true
 behind_fits here [] w is = absurd (none-some w is)

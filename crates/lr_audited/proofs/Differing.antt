@@ -18,6 +18,7 @@ use Rattle.lr_rules.specs.Names.{naming_of, aside_path, IsOwnName, Meet, the_log
 use Rattle.lr_rules.specs.Path.{path_fault}
 use Rattle.lr_rules.specs.Dated.{stamp_key}
 use Rattle.lr_rules.proofs.Beside.{beside_other}
+use Rattle.lr_rules.proofs.Options.{none_some}
 use Rattle.lr_stamps.proofs.Naming.{one_stamp_at}
 use Rattle.lr_host.specs.declared.entry.Entry.{Entry}
 use Rattle.lr_host.specs.Lists.{IsIn, IsNotIn, AreDistinct}
@@ -84,14 +85,8 @@ ordered_once (x ∷ xs) h = (none_again x xs h.0, ordered_once xs h.1)
 -- a path has one place at most
 one_key : (n : Naming) (p q : Place) (x : Path) → or_none is_format n.dated ≡ true → IsPlaceOf n p x → IsPlaceOf n q x → key_in p ≡ key_in q
 one_key n (at.Number k) (at.Number l) x good a b = ap (λ (j : ℕ). key_in (at.Number j)) (place_same n k l x a.1 b.1)
-one_key n (at.Number k) (at.Stamp u l) x good a b = absurd (clash n.dated b.format a.0 b.dated)
-  where
-    clash : (d : Option Format) (f : Format) → d ≡ None → d ≡ Some f → ⊥
-    clash d f p q = cc
-one_key n (at.Stamp t k) (at.Number l) x good a b = absurd (clash n.dated a.format b.0 a.dated)
-  where
-    clash : (d : Option Format) (f : Format) → d ≡ None → d ≡ Some f → ⊥
-    clash d f p q = cc
+one_key n (at.Number k) (at.Stamp u l) x good a b = absurd (none_some n.dated b.format a.0 b.dated)
+one_key n (at.Stamp t k) (at.Number l) x good a b = absurd (none_some n.dated a.format b.0 a.dated)
 one_key n (at.Stamp t k) (at.Stamp u l) x good a b = let e = one_stamp_at n t u k l x good a b in ap (λ (s : ℤ). stamp_key s k) e.0 ∙ ap (stamp_key u) e.1
 
 abbrev member_paths : List Member → List Path

@@ -11,6 +11,7 @@ use Rattle.lr_rules.specs.declared.rule.Naming.{Naming}
 use Rattle.lr_rules.specs.declared.rule.Make.{Make}
 use Rattle.lr_rules.specs.Dated.{stamp_key, IsDatedAt}
 use Rattle.lr_rules.specs.Limits.{is_format, or_none}
+use Rattle.lr_rules.proofs.Bools.{not_both}
 use Rattle.lr_host.specs.Lists.{IsIn, IsNotIn, AreDistinct}
 use Rattle.lr_host.proofs.Lists.{in_append, in_unmap, in_reverse, from_reverse, in_map}
 use Rattle.lr_family.specs.declared.stand.Member.{Member}
@@ -205,10 +206,7 @@ module _ (n : Naming) where
   -- a place that isn't left over
   left_apart : (c : Count) (k : ℕ) (ks : List ℕ) → is_left c k ≡ false → Every (λ j. is_left c j ≡ true) ks → Every (λ j. k ≢ j) ks
   left_apart c k [] stays a = tt
-  left_apart c k (j ∷ js) stays a = ((λ e. clash (is_left c k) (ap (is_left c) e ∙ a.0) stays), left_apart c k js stays a.1)
-    where
-      clash : (b : Bool) → b ≡ true → b ≡ false → ⊥
-      clash b p q = cc
+  left_apart c k (j ∷ js) stays a = ((λ e. not_both (is_left c k) (ap (is_left c) e ∙ a.0) stays), left_apart c k js stays a.1)
 
 -- ---- a numbered family
 

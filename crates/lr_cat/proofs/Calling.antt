@@ -1,5 +1,5 @@
 -- A call, from its clock on.
-use Rattle.std.proofs.Common.{◌≡◌, ◌≢◌, ◌≤◌, ◌<◌, ◌+◌, ◌-◌, ◌^◌, inl, inr, ◌⊎◌, ⊎_elim, ℕ, zero, suc, ℤ, Bool, true, false, List, [], ◌∷◌, ◌++◌, Option, Some, None, Result, Ok, Err, refl, sym, ap, ◌∙◌, subst, arith}
+use Rattle.std.proofs.Common.{◌≡◌, ◌≢◌, ◌≤◌, ◌<◌, ◌+◌, ◌-◌, ◌^◌, inl, inr, ◌⊎◌, ⊎_elim, ℕ, zero, suc, ℤ, Bool, false, List, [], ◌∷◌, ◌++◌, Option, Some, None, Result, Ok, Err, refl, sym, ap, ◌∙◌, subst, arith}
 use Rattle.std.specs.Prelude.{All, Contains, IfErr}
 use Rattle.std.proofs.lemmas.List.Elements.{All-contains}
 use Rattle.lr_rules.specs.declared.path.Path.{Path}
@@ -239,7 +239,3 @@ at_seconds w out s seconds {o = o} {k = k} {x = x} {y = y} is c = subst (λ (z :
 
 pub out_at : (s seconds : ℤ) → s ≡ seconds → ¬ (IsInRange s) → ¬ (IsInRange seconds)
 out_at s seconds is none range = none (subst IsInRange (sym is) range)
-
-pub not_both : (b : Bool) → b ≡ false → b ≡ true → ⊥
-not_both true no_more yet = absurd (cc)
-not_both false no_more yet = absurd (cc)

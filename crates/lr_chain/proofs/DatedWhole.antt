@@ -11,13 +11,12 @@ use Rattle.lr_rules.specs.Dated.{stamp_key, IsDatedAt}
 use Rattle.lr_stamps.proofs.Naming.{one_stamp_at}
 use Rattle.lr_host.specs.declared.entry.Entry.{Entry}
 use Rattle.lr_host.specs.declared.entry.Entry.TheVariants.{Renames}
-use Rattle.lr_host.specs.declared.thing.Thing.{Thing}
 use Rattle.lr_host.specs.declared.thing.Thing.TheVariants as thing
 use Rattle.lr_host.specs.Fits.{IsFileAt, IsDirectoryAt}
 use Rattle.lr_rules.specs.Path.{parent_of}
 use Rattle.lr_host.specs.Steps.{changes_of, FitAll}
 use Rattle.lr_host.specs.World.{Names, put, Moves, changed, names_after}
-use Rattle.lr_host.proofs.Looked.{nothing_no_file}
+use Rattle.lr_host.proofs.Looked.{nothing_no_file, nothing_no_other, nothing_no_dir}
 use Rattle.lr_host.proofs.Names.{put_other}
 use Rattle.lr_chain.specs.DatedRotation.{Ranked, gone, unlink, AreDatedAt, dated_rotation}
 use Rattle.lr_chain.specs.DatedTurning.{AreFiles, IsOutside, StandSo, IsDatedTurned}
@@ -54,14 +53,8 @@ keyed_by n (m ∷ ms) h = ((m.seconds, m.serial, refl, h.0), keyed_by n ms h.1)
 pub fits : (n : Naming) (c : Count) (log target : Path) (all : List Ranked) (m : Names) → or_none is_format n.dated ≡ true → IsDirectoryAt m (parent_of target) → StandSo n log target all m → FitAll m (reverse (dated_rotation c log target all))
 fits n c log target all m good dir st = subst (FitAll m) (sym (steps_are c log target all)) (removals_fit (HasStamp n) m c (Renames log target ∷ []) (one_stamp n good) (tt, turn) all 0 st.falling (keyed_by n all st.named) st.files)
   where
-    no_dir : (t : Thing) → t ≡ thing.Nothing → t ≡ thing.Directory → ⊥
-    no_dir t a b = cc
-
-    no_other : (t : Thing) → t ≡ thing.Nothing → t ≡ thing.Other → ⊥
-    no_other t a b = cc
-
     turn : IsFileAt m log × (m target ≢ thing.Directory) × (m target ≢ thing.Other) × IsDirectoryAt m (parent_of target) × (log ≢ target)
-    turn = (st.log_file, no_dir (m target) st.free, no_other (m target) st.free, dir, log_apart m log target st.log_file st.free)
+    turn = (st.log_file, nothing_no_dir (m target) st.free, nothing_no_other (m target) st.free, dir, log_apart m log target st.log_file st.free)
 
 -- ---- they turn the family
 

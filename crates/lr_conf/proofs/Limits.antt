@@ -18,6 +18,7 @@ use Rattle.lr_rules.specs.declared.rule.Make.TheVariants as make
 use Rattle.lr_rules.specs.declared.rule.Piece.{Piece}
 use Rattle.lr_rules.specs.declared.rule.Rule.{Rule}
 use Rattle.lr_rules.specs.Limits.{is_log_word, is_criterion, is_count, is_small, is_size, is_extension, is_olddir, is_make, is_address, is_format, or_none, meets_limits}
+use Rattle.lr_rules.proofs.Bools.{first_true, second_true}
 use Rattle.lr_words.proofs.ReadBack.{tested}
 use Rattle.lr_forms.specs.declared.set.Set.{Set}
 use Rattle.lr_forms.specs.declared.set.Set.TheVariants as set
@@ -60,17 +61,9 @@ script_ok earlier p text stray = by (script_fault earlier p stray)
     by None = refl
     by (Some k) = tt
 
-first_true : (a b : Bool) → (a && b) ≡ true → a ≡ true
-first_true true b h = refl
-first_true false b h = absurd (cc)
-
-then_true : (a b : Bool) → (a && b) ≡ true → b ≡ true
-then_true true b h = h
-then_true false b h = absurd (cc)
-
 more_ok : (xs ys : List (List ℕ)) → N xs → N ys → N (xs ++ ys)
 more_ok [] ys x y = y
-more_ok (w ∷ xs) ys x y = and_from (is_log_word w) (list_all is_log_word (xs ++ ys)) (first_true (is_log_word w) (list_all is_log_word xs) x) (more_ok xs ys (then_true (is_log_word w) (list_all is_log_word xs) x) y)
+more_ok (w ∷ xs) ys x y = and_from (is_log_word w) (list_all is_log_word (xs ++ ys)) (first_true (is_log_word w) (list_all is_log_word xs) x) (more_ok xs ys (second_true (is_log_word w) (list_all is_log_word xs) x) y)
 
 -- ---- fields
 

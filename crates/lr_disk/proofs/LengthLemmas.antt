@@ -1,5 +1,6 @@
 -- The lengths that a cut may give files.
 use Rattle.std.proofs.Common.{◌≡◌, ℕ, ◌<◌, ◌≤◌, Bool, true, false, cond, ◌||◌, List, [], ◌∷◌, length, refl, sym, ap, subst, ◌∙◌, bytes_eq}
+use Rattle.std.proofs.lemmas.Bool.{or_right, or_left}
 use Rattle.lr_rules.specs.declared.path.Path.{Path}
 use Rattle.lr_host.specs.declared.thing.Thing.{Thing}
 use Rattle.lr_host.specs.declared.thing.Thing.TheVariants as thing
@@ -8,7 +9,7 @@ use Rattle.lr_host.specs.World.{World, Names, names_kept, is_file, IsClosed}
 use Rattle.lr_host.specs.Below.{NamesBelow}
 use Rattle.lr_host.specs.Fits.{IsNamed, AreLengths, LengthsDiffer, AreRising, IsCut}
 use Rattle.lr_host.proofs.Closed.{eq_true}
-use Rattle.lr_host.proofs.Looked.{is_file_true, true_is_file}
+use Rattle.lr_host.proofs.Looked.{is_file_true, true_is_file, nothing_no_file}
 use Rattle.lr_disk.specs.declared.state.State.{State}
 use Rattle.lr_disk.specs.declared.file.MemFile.{MemFile}
 use Rattle.lr_disk.specs.Pairs.{keys}
@@ -31,26 +32,15 @@ has_named (n ∷ ns) id once h =
     (λ t. there (has_named ns id once.1 t))
   where
     there : IsNamed (named_in ns) id → IsNamed (named_in (n ∷ ns)) id
-    there f = (f.0, later_value ns n f.0 once.0 (valued_has bytes_eq thing.Nothing ns f.0 (λ none. clash (named_in ns f.0) none f.1)) ∙ f.1)
-      where
-        clash : (t : Thing) → t ≡ thing.Nothing → t ≡ thing.File id → ⊥
-        clash t a b = cc
+    there f = (f.0, later_value ns n f.0 once.0 (valued_has bytes_eq thing.Nothing ns f.0 (λ none. nothing_no_file (named_in ns f.0) id none f.1)) ∙ f.1)
 
 pub named_has : (ns : List (Path × Thing)) (id : ℕ) (x : Path) → named_in ns x ≡ thing.File id → has_file ns id ≡ true
 named_has [] id x e = absurd (cc)
 named_has (n ∷ ns) id x e = go (bytes_eq n.0 x) e (named_has ns id x)
   where
-    left : (a b : Bool) → a ≡ true → (a || b) ≡ true
-    left true b h = refl
-    left false b h = absurd (cc)
-
-    right : (a b : Bool) → b ≡ true → (a || b) ≡ true
-    right true b h = refl
-    right false b h = h
-
     go : (b : Bool) → cond b n.1 (named_in ns x) ≡ thing.File id → (named_in ns x ≡ thing.File id → has_file ns id ≡ true) → (is_file n.1 id || has_file ns id) ≡ true
-    go true e f = left (is_file n.1 id) (has_file ns id) (true_is_file n.1 id e)
-    go false e f = right (is_file n.1 id) (has_file ns id) (f e)
+    go true e f = or_left (is_file n.1 id) (has_file ns id) (true_is_file n.1 id e)
+    go false e f = or_right (is_file n.1 id) (has_file ns id) (f e)
 
 named_agree : (n m : Names) (g : ℕ) → Agree n m → IsNamed n g → IsNamed m g
 named_agree n m g same f = (f.0, sym (same f.0) ∙ f.1)

@@ -5,10 +5,11 @@ use Rattle.std.specs.List.{list_any}
 use Rattle.std.specs.Cmp.{IsEquivalence}
 use Rattle.std.proofs.lemmas.Map.Views.{list_any-from_Contains, Contains-from_any}
 use Rattle.std.proofs.lemmas.List.Folds.{list_any-append}
-use Rattle.std.proofs.lemmas.Bool.{and_parts, not-true}
+use Rattle.std.proofs.lemmas.Bool.{and_parts, not-true, or_right, or_left}
 use Rattle.lr_rules.specs.declared.path.Path.{Path}
 use Rattle.lr_rules.specs.Path.{path_fault, is_slash, is_empty, joined, parent_of, last_of}
 use Rattle.lr_rules.proofs.PathLemmas.{parent_joined, last_joined, joined_parts, last_plain}
+use Rattle.lr_rules.proofs.Bools.{same_bools}
 use Rattle.lr_host.specs.declared.thing.Thing.{Thing}
 use Rattle.lr_host.specs.declared.thing.Thing.TheVariants as thing
 use Rattle.lr_host.specs.Fits.{IsPart, AreNamesIn}
@@ -16,6 +17,7 @@ use Rattle.lr_host.specs.Lists.{AreDistinct, IsNotIn}
 use Rattle.lr_host.proofs.Closed.{eq_true, by_bytes}
 use Rattle.lr_disk.specs.Pairs.{keys}
 use Rattle.lr_disk.specs.Names.{named_in, has_path, is_nothing, stands_right_in, name_of, listed_in}
+use Rattle.lr_disk.proofs.PairLemmas.{or_true}
 
 abbrev Pair : Type 0
 Pair = Path × Thing
@@ -93,10 +95,6 @@ listed_stands dir name (n ∷ ns) paths once h =
 
     there : IsPart name × (named_in ns (joined dir name) ≢ thing.Nothing) × (has_path ns (joined dir name) ≡ true) → IsPart name × (named_in (n ∷ ns) (joined dir name) ≢ thing.Nothing) × (has_path (n ∷ ns) (joined dir name) ≡ true)
     there s = (s.0, (λ none. s.1 (sym (later_value ns n (joined dir name) once.0 s.2) ∙ none)), ap (λ b. bytes_eq n.0 (joined dir name) || b) s.2 ∙ or_true (bytes_eq n.0 (joined dir name)))
-      where
-        or_true : (b : Bool) → (b || true) ≡ true
-        or_true true = refl
-        or_true false = refl
 
 pub stands_listed : (dir : Path) (name : List ℕ) (ns : List Pair) → path_fault dir ≡ None → IsPart name → named_in ns (joined dir name) ≢ thing.Nothing → list_any (bytes_eq name) (listed_in dir ns) ≡ true
 stands_listed dir name [] path part s = absurd (s refl)
@@ -111,14 +109,6 @@ stands_listed dir name (n ∷ ns) path part s =
         ap (λ b. not b && (bytes_eq (parent_of n.0) dir && not (is_empty (last_of n.0)))) (something n.1 named)
         ∙ (ap (λ b. b && not (is_empty (last_of n.0))) (eq_true (parent_of n.0) dir parent) ∙ ap not (ap is_empty last ∙ part.0)) in
         ap (λ b. list_any (bytes_eq name) (cond b (last_of n.0 ∷ []) [])) t ∙ ap (λ b. b || false) (eq_true name (last_of n.0) (sym last))
-
-    or_left : (a b : Bool) → a ≡ true → (a || b) ≡ true
-    or_left true b h = refl
-    or_left false b h = absurd (cc)
-
-    or_right : (a b : Bool) → b ≡ true → (a || b) ≡ true
-    or_right true b h = refl
-    or_right false b h = h
 
     go : (b : Bool) → bytes_eq n.0 (joined dir name) ≡ b → cond b n.1 (named_in ns (joined dir name)) ≢ thing.Nothing → (named_in ns (joined dir name) ≢ thing.Nothing → list_any (bytes_eq name) (listed_in dir ns) ≡ true) → (list_any (bytes_eq name) (name_of dir n) || list_any (bytes_eq name) (listed_in dir ns)) ≡ true
     go true e s f = or_left _ _ (listed_here (by_bytes n.0 (joined dir name) e) s)
@@ -144,14 +134,9 @@ listed_once dir (n ∷ ns) paths once = go (stands_right_in dir n) refl (listed_
 bytes_equivalence : IsEquivalence bytes_eq
 bytes_equivalence = record {
   refl = λ x. eq_true x x refl;
-  symm = λ x y. by_cases (bytes_eq x y) (bytes_eq y x) (λ t. eq_true y x (sym (by_bytes x y t))) (λ t. eq_true x y (sym (by_bytes y x t)));
+  symm = λ x y. same_bools (bytes_eq x y) (bytes_eq y x) (λ t. eq_true y x (sym (by_bytes x y t))) (λ t. eq_true x y (sym (by_bytes y x t)));
   congr = λ x y z e. subst (λ w. bytes_eq x z ≡ bytes_eq w z) (by_bytes x y e) refl;
 }
-  where
-    by_cases : (a b : Bool) → (a ≡ true → b ≡ true) → (b ≡ true → a ≡ true) → a ≡ b
-    by_cases true b f g = sym (f refl)
-    by_cases false true f g = absurd (let e = g refl in cc)
-    by_cases false false f g = refl
 
 pub listed_are : (dir : Path) (ns : List Pair) → path_fault dir ≡ None → ArePaths ns → AreDistinct (keys ns) → AreNamesIn (named_in ns) dir (listed_in dir ns)
 listed_are dir ns path paths once = record {

@@ -56,7 +56,7 @@ pub value_of_last : {K V : Type 0} (eq : K → K → Bool) (none : V) (ps : List
 value_of_last eq none [] x y = either (eq x y) none
 value_of_last eq none (p ∷ ps) x y = ap (λ v. cond (eq p.0 y) p.1 v) (value_of_last eq none ps x y)
 
-or_true : (b : Bool) → (b || true) ≡ true
+pub or_true : (b : Bool) → (b || true) ≡ true
 or_true true = refl
 or_true false = refl
 

@@ -5,6 +5,7 @@ use Rattle.std.proofs.Math.Seq.{take-length}
 use Rattle.std.proofs.lemmas.Bool.{or_left, or_right, or_parts, or_from}
 use Rattle.std.proofs.lemmas.List.{take_more, drop_more, map-append, reverse-append, length-reverse, length-map, length-take-le, append-nil}
 use Rattle.lr_rules.specs.declared.path.Path.{Path}
+use Rattle.lr_rules.proofs.Bools.{not_both}
 use Rattle.lr_host.specs.declared.thing.Thing.{Thing}
 use Rattle.lr_host.specs.World.{Names, names_after, changed, Change, Puts, Moves, Drops, shares, is_listed, kept_at, undone_at, IsClosed, settled, is_bound, has_parent, paths_in}
 use Rattle.lr_host.proofs.Closed.{changed_alike, bound_of, unbound_of}
@@ -73,11 +74,8 @@ apart_part c kept xs zero i e a = ap (λ l. list_any (shares c) (undone_at kept 
 apart_part c kept xs (suc m) i e a = apart_back c kept xs i (omega arith) (apart_part c kept xs m (i + 1) (omega arith) a)
 
 pub shares_undone : (c : Change) (kept : List ℕ) (xs : List Pending) (i : ℕ) (d : Pending) → i < length xs → d ≡ get_or xs i d → is_listed kept i ≡ false → shares c (as_change d) ≡ true → list_any (shares c) (undone_at kept (pending_of xs)) ≡ false → ⊥
-shares_undone c kept xs i d lt is e sh a = clash (shares c (as_change d)) sh (or_parts (shares c (as_change d)) (list_any (shares c) (undone_at kept (pending_of (take i xs)))) first).0
+shares_undone c kept xs i d lt is e sh a = not_both (shares c (as_change d)) sh (or_parts (shares c (as_change d)) (list_any (shares c) (undone_at kept (pending_of (take i xs)))) first).0
   where
-    clash : (b : Bool) → b ≡ true → b ≡ false → ⊥
-    clash b p q = cc
-
     rest : ℕ
     rest = length xs - (i + 1)
 
@@ -87,10 +85,7 @@ shares_undone c kept xs i d lt is e sh a = clash (shares c (as_change d)) sh (or
 -- ---- closed
 
 pub closed_other : (kept : List ℕ) (xs : List Pending) (j : ℕ) → j < length xs → is_listed kept j ≡ false → IsClosed kept (pending_of (take j xs)) → IsClosed kept (pending_of (take (j + 1) xs))
-closed_other kept xs j lt e h = subst (IsClosed kept) (sym (step_at xs j lt)) (h, λ l. absurd (clash (is_listed kept j) (sym (ap (is_listed kept) (size xs j (omega arith))) ∙ l) e))
-  where
-    clash : (b : Bool) → b ≡ true → b ≡ false → ⊥
-    clash b p q = cc
+closed_other kept xs j lt e h = subst (IsClosed kept) (sym (step_at xs j lt)) (h, λ l. absurd (not_both (is_listed kept j) (sym (ap (is_listed kept) (size xs j (omega arith))) ∙ l) e))
 
 pub closed_next : (kept : List ℕ) (xs : List Pending) (j : ℕ) (d : Pending) → j < length xs → d ≡ get_or xs j d → IsApartOf (as_change d) kept xs j → IsClosed kept (pending_of (take j xs)) → IsClosed kept (pending_of (take (j + 1) xs))
 closed_next kept xs j d lt is a h = subst (IsClosed kept) (sym (step xs j d lt is)) (h, λ l. a)

@@ -3,6 +3,7 @@ use Rattle.std.proofs.Common.{◌≡◌, ℕ, zero, suc, ◌+◌, ◌<◌, ◌�
 use Rattle.std.specs.Prelude.{slice_set}
 use Rattle.std.proofs.lemmas.List.{take_all, drop_all, append-nil}
 use Rattle.lr_rules.specs.declared.path.Path.{Path}
+use Rattle.lr_rules.proofs.Bools.{not_both}
 use Rattle.lr_host.specs.declared.thing.Thing.{Thing}
 use Rattle.lr_host.specs.declared.thing.Thing.TheVariants as thing
 use Rattle.lr_host.specs.World.{Names}
@@ -49,10 +50,7 @@ there n (m ∷ ns) x h = go (bytes_eq m.0 x) refl h (there n ns x)
 pub named_taken : (ds ns : List (Path × Thing)) (x : Path) → (has_path ds x ≡ true → has_path ns x ≡ true) → named_in (map (λ p. (p.0, named_in ds p.0)) ns) x ≡ named_in ds x
 named_taken ds ns x within = go (has_path ns x) refl (has_path ds x) refl
   where
-    clash : (b : Bool) → b ≡ true → b ≡ false → ⊥
-    clash b p q = cc
-
     go : (b : Bool) → has_path ns x ≡ b → (a : Bool) → has_path ds x ≡ a → named_in (map (λ p. (p.0, named_in ds p.0)) ns) x ≡ named_in ds x
     go true e a f = there (named_in ds) ns x e
-    go false e true f = absurd (clash (has_path ns x) (within f) e)
+    go false e true f = absurd (not_both (has_path ns x) (within f) e)
     go false e false f = value_lacks bytes_eq thing.Nothing (map (λ p. (p.0, named_in ds p.0)) ns) x (has_taken (named_in ds) ns x ∙ e) ∙ sym (value_lacks bytes_eq thing.Nothing ds x f)

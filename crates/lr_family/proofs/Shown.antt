@@ -7,6 +7,8 @@ use Rattle.std.proofs.lemmas.Slice.Eq.{bytes_eq-Decides}
 use Rattle.lr_rules.specs.declared.path.Path.{Path}
 use Rattle.lr_rules.specs.declared.rule.Naming.{Naming}
 use Rattle.lr_rules.specs.Path.{joined}
+use Rattle.lr_rules.proofs.Bools.{not_both}
+use Rattle.lr_rules.proofs.Options.{none_some}
 use Rattle.lr_host.specs.declared.entry.Entry.{Entry}
 use Rattle.lr_host.specs.declared.entry.Entry.TheVariants as entry
 use Rattle.lr_host.specs.declared.thing.Seen.{Seen}
@@ -43,10 +45,7 @@ at_or_none x (g ∷ gs) = go (bytes_eq g.spot.path x) refl (at_or_none x gs)
     go : (b : Bool) → bytes_eq g.spot.path x ≡ b → ((h : MemberSight) × IsIn h gs × (h.spot.path ≡ x)) ⊎ ((h : MemberSight) → IsIn h gs → h.spot.path ≡ x → ⊥) → ((h : MemberSight) × IsIn h (g ∷ gs) × (h.spot.path ≡ x)) ⊎ ((h : MemberSight) → IsIn h (g ∷ gs) → h.spot.path ≡ x → ⊥)
     go true e r = inl (g, inl refl, (bytes_eq-Decides g.spot.path x).0 e)
     go false e (inl r) = inl (r.0, inr r.1, r.2)
-    go false e (inr r) = inr (λ h i same. ⊎_elim (λ is. clash (bytes_eq g.spot.path x) ((bytes_eq-Decides g.spot.path x).1 (ap (λ (k : MemberSight). k.spot.path) is ∙ same)) e) (λ j. r h j same) i)
-      where
-        clash : (b : Bool) → b ≡ true → b ≡ false → ⊥
-        clash b p q = cc
+    go false e (inr r) = inr (λ h i same. ⊎_elim (λ is. not_both (bytes_eq g.spot.path x) ((bytes_eq-Decides g.spot.path x).1 (ap (λ (k : MemberSight). k.spot.path) is ∙ same)) e) (λ j. r h j same) i)
 
 -- a look that saw a file gives a member with its path
 member_at : (g : MemberSight) (seen : Seen) (gs : List MemberSight) → IsIn g gs → g.seen ≡ Some seen → (m : Member) × IsIn m (flat_map member_of gs) × (m.path ≡ g.spot.path)
@@ -57,10 +56,7 @@ member_at g seen (h ∷ hs) (inl same) e = one h.seen refl
     saw = ap (λ (k : MemberSight). k.seen) same ∙ e
 
     one : (o : Option Seen) → h.seen ≡ o → (m : Member) × IsIn m (seen_member h.spot o ++ flat_map member_of hs) × (m.path ≡ g.spot.path)
-    one None is = absurd (clash h.seen is saw)
-      where
-        clash : (o : Option Seen) → o ≡ None → o ≡ Some seen → ⊥
-        clash o p q = cc
+    one None is = absurd (none_some h.seen seen is saw)
     one (Some other) is = (_, inl refl, ap (λ (k : MemberSight). k.spot.path) same)
 member_at g seen (h ∷ hs) (inr i) e = let r = member_at g seen hs i e in (r.0, in_back r.0 (seen_member h.spot h.seen) (flat_map member_of hs) r.1, r.2)
 

@@ -40,6 +40,9 @@ nothing_no_file t g a b = cc
 pub nothing_no_dir : (t : Thing) → t ≡ thing.Nothing → t ≡ thing.Directory → ⊥
 nothing_no_dir t a b = cc
 
+pub nothing_no_other : (t : Thing) → t ≡ thing.Nothing → t ≡ thing.Other → ⊥
+nothing_no_other t a b = cc
+
 pub file_no_dir : (t : Thing) (g : ℕ) → t ≡ thing.File g → t ≡ thing.Directory → ⊥
 file_no_dir t g a b = cc
 

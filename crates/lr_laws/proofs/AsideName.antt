@@ -21,6 +21,7 @@ use Rattle.lr_rules.specs.Path.{path_fault, parent_of, last_of, joined, is_slash
 use Rattle.lr_rules.proofs.Digits.{decimal_run, decimal_plain, IsDigit, digit_is}
 use Rattle.lr_rules.proofs.PathLemmas.{plain_both, last_joined, joined_parts, last_plain}
 use Rattle.lr_rules.specs.Bytes.{is_digit}
+use Rattle.lr_rules.proofs.Bools.{first_true}
 use Rattle.lr_stamps.proofs.StampShapes.{numbered_shape}
 use Rattle.lr_host.specs.Sets.{LogSet, Order, Numbered, Dated, order, IsKeyBy, IsAsideOf}
 use Rattle.lr_laws.proofs.PlainStamps.{field_digits, field_some, middle_plain}
@@ -145,17 +146,13 @@ behind : (a : Bool) {b : Bool} → (a && b) ≡ true → b ≡ true
 behind true h = h
 behind false h = absurd (cc)
 
-front_of : (a b : Bool) → (a && b) ≡ true → a ≡ true
-front_of true b h = refl
-front_of false b h = h
-
 names_plain : (r : Rule) → meets_limits r ≡ true → HasNamesPlain r
 names_plain r h =
     let sizes = behind (or_none is_size r.minsize) (behind (or_none is_small r.minage) (behind (or_none is_small r.maxage) (behind (is_count r.count) (behind (is_criterion r.criterion) (behind (list_all is_log_word r.words) h))))) in
     let given = behind (is_small r.start) (behind (or_none is_size r.maxsize) sizes) in
     let more = behind (or_none is_extension r.extension) given in
     let rest = behind (or_none is_address r.mail) (behind (is_make r.create) (behind (is_make r.createolddir) (behind (or_none is_olddir r.olddir) (behind (or_none is_extension r.addextension) more)))) in
-    record { added = front_of (or_none is_extension r.addextension) _ more; extension = front_of (or_none is_extension r.extension) _ given; dated = rest }
+    record { added = first_true (or_none is_extension r.addextension) _ more; extension = first_true (or_none is_extension r.extension) _ given; dated = rest }
 
 module _ (r : Rule) (log : Path) (path : path_fault log ≡ None) (good : HasNamesPlain r) where
   abbrev n : Naming

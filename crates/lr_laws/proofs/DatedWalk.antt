@@ -5,6 +5,7 @@ use Rattle.lr_rules.specs.declared.path.Path.{Path}
 use Rattle.lr_rules.specs.declared.rule.Rule.{Rule}
 use Rattle.lr_rules.specs.declared.rule.Count.TheVariants.{Keep}
 use Rattle.lr_rules.proofs.Bools.{not_both}
+use Rattle.lr_rules.proofs.Options.{some_none}
 use Rattle.lr_host.specs.declared.entry.Entry.{Entry}
 use Rattle.lr_host.specs.declared.entry.Entry.TheVariants.{Renames, Makes, MakesDir, Appends, Truncates, Unlinks}
 use Rattle.lr_host.specs.declared.entry.Entry.TheVariants as entry
@@ -32,7 +33,7 @@ use Rattle.lr_laws.proofs.Disk.{fits_closed}
 use Rattle.lr_laws.proofs.Going.{safe_on}
 use Rattle.lr_laws.proofs.LogPath.{moved_aside, NoneToLog, log_walk}
 use Rattle.lr_laws.proofs.Moves.{some_rule, may_unlink_old, may_unlink_aside, may_put_aside, elsewhere, keyless}
-use Rattle.lr_laws.proofs.Reach.{aside_apart, unplaced_no_key, out_log, no_key}
+use Rattle.lr_laws.proofs.Reach.{aside_apart, unplaced_no_key, out_log}
 use Rattle.lr_laws.proofs.Sound.{IsSound, sound}
 use Rattle.lr_laws.proofs.Stamps.{room_for_one, may_turn_dated, may_unlink_dated}
 use Rattle.lr_laws.proofs.Walk.{IsSameRun, same_run_on, by_age_on, changed_alike}
@@ -178,7 +179,7 @@ tool_step s p q newest turned es (Unlinks x) dated f fit more waits (inr (inr (d
     may (inr old) = may_unlink_old s q x (λ g is. subst (λ (rs : List Rule). SomeRule rs s.log (ByAge q g)) (sym r.same.rules) (some_rule (rules_of p) s.log (ByAge p g) (ByAge q g) (λ rule h. by_age_on p q g rule r.same h) (old g (sym (r.alike x k pl) ∙ is))))
 tool_step s p q newest turned es (Makes x mode) dated f fit more waits (inr at_log) r = record {
   journal = (r.journal, f);
-  safe = safe_on s q (Makes x mode) (r.journal, f) r.safe (λ m undone lv. keeps_attached s q (Makes x mode) tt (sound_of s p q newest turned es r) (λ none. none) (λ g l. cc) (order s) x (thing.File (world q).drawn) m (λ d u is. no_key (s.key x) u is keyless_log));
+  safe = safe_on s q (Makes x mode) (r.journal, f) r.safe (λ m undone lv. keeps_attached s q (Makes x mode) tt (sound_of s p q newest turned es r) (λ none. none) (λ g l. cc) (order s) x (thing.File (world q).drawn) m (λ d u is. some_none (s.key x) u is keyless_log));
   alike = λ y i pl. put_other (names (world q)) x y (thing.File (world q).drawn) (λ same. member_apart s y i pl (same ∙ at_log)) ∙ r.alike y i pl;
   same = same_run_on p q (Makes x mode) (λ none. none) r.same;
   room = λ t. room_on s q (Makes x mode) tt tame (sound_of s p q newest turned es r) (λ none. none) (λ none. none) (r.room t);

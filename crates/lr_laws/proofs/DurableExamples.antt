@@ -1,7 +1,8 @@
 -- A state that is written behind one rename.
-use Rattle.std.proofs.Common.{◌≡◌, ◌≢◌, inl, inr, ⊎_elim, ◌≤◌, ◌+◌, ℕ, Bool, true, false, refl, sym, ap, subst, arith, List, [], ◌∷◌, reverse, codes, None, bytes_eq}
+use Rattle.std.proofs.Common.{◌≡◌, ◌≢◌, inl, inr, ⊎_elim, ◌≤◌, ◌+◌, ℕ, true, false, refl, sym, ap, subst, arith, List, [], ◌∷◌, reverse, codes, None, bytes_eq}
 use Rattle.std.specs.Prelude.{pos}
 use Rattle.std.proofs.lemmas.Slice.Eq.{bytes_eq-Decides}
+use Rattle.std.proofs.lemmas.Bool.{both_ways}
 use Rattle.lr_rules.specs.declared.path.Path.{Path}
 use Rattle.lr_rules.specs.Path.{parent_of}
 use Rattle.lr_rules.specs.StatePath.{state_part}
@@ -30,10 +31,7 @@ abbrev pub start : Past
 start = Opens found
 
 pub other : (x y : Path) → bytes_eq x y ≡ false → x ≢ y
-other x y e same = let yes : bytes_eq x y ≡ true = (bytes_eq-Decides x y).1 same in clash (bytes_eq x y) e yes
-  where
-    clash : (b : Bool) → b ≡ false → b ≡ true → ⊥
-    clash b e f = cc
+other x y e same = let yes : bytes_eq x y ≡ true = (bytes_eq-Decides x y).1 same in both_ways (bytes_eq x y) e yes
 
 -- ---- the entries fit
 

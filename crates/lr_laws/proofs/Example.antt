@@ -30,6 +30,7 @@ use Rattle.lr_host.specs.Later.{later, IsGeneration}
 use Rattle.lr_host.specs.Released.{IsReleased}
 use Rattle.lr_host.specs.Kept.{IsKept, Stands, IsWhole}
 use Rattle.lr_host.specs.Safe.{IsSafe, whole, shorter}
+use Rattle.lr_host.proofs.Looked.{nothing_no_other, nothing_no_dir, file_no_dir}
 use Rattle.lr_laws.specs.Follow.{MayFollow}
 use Rattle.lr_laws.specs.Room.{MayMoveOn}
 use Rattle.lr_laws.specs.Chain.{log, first, second, third, found, rule, rules, IsOfChain, begins, chain, resumed, failed_without_effect, failed_with_effect, lowest_first, log_first}
@@ -148,13 +149,7 @@ good_on s p e good f m = record { journal = (good.journal, f); safe = safe_on s 
 
 -- a rename of a file to a path that names nothing
 rename_fits : (w : World) (from to : Path) (g : ℕ) → names w from ≡ thing.File g → names w to ≡ thing.Nothing → names w (parent_of to) ≡ thing.Directory → bytes_eq from to ≡ false → Fits w (Renames from to)
-rename_fits w from to g file free dir other = ((g, file), (λ e. clash_dir (names w to) free e), (λ e. clash_other (names w to) free e), dir, (λ same. let t : bytes_eq from to ≡ true = (bytes_eq-Decides from to).1 same in cc))
-  where
-    clash_dir : (t : Thing) → t ≡ thing.Nothing → t ≡ thing.Directory → ⊥
-    clash_dir t a b = cc
-
-    clash_other : (t : Thing) → t ≡ thing.Nothing → t ≡ thing.Other → ⊥
-    clash_other t a b = cc
+rename_fits w from to g file free dir other = ((g, file), (λ e. nothing_no_dir (names w to) free e), (λ e. nothing_no_other (names w to) free e), dir, (λ same. let t : bytes_eq from to ≡ true = (bytes_eq-Decides from to).1 same in cc))
 
 -- a member that is ready goes one place further, and those before it stay ready
 pub record IsReadyGood (s : LogSet) (p : Past) (limit : ℕ) : Type 0 where
@@ -300,11 +295,8 @@ log_unsafe s now c safe = log_lost s now c (safe.each _ (shorter (shorter (short
 
 -- a rename of a file over another
 rename_over : (w : World) (from to : Path) (f g : ℕ) → names w from ≡ thing.File f → names w to ≡ thing.File g → names w (parent_of to) ≡ thing.Directory → bytes_eq from to ≡ false → Fits w (Renames from to)
-rename_over w from to f g file over dir other = ((f, file), (λ e. clash_dir (names w to) over e), (λ e. clash_other (names w to) over e), dir, (λ same. let t : bytes_eq from to ≡ true = (bytes_eq-Decides from to).1 same in cc))
+rename_over w from to f g file over dir other = ((f, file), (λ e. file_no_dir (names w to) g over e), (λ e. clash_other (names w to) over e), dir, (λ same. let t : bytes_eq from to ≡ true = (bytes_eq-Decides from to).1 same in cc))
   where
-    clash_dir : (t : Thing) → t ≡ thing.File g → t ≡ thing.Directory → ⊥
-    clash_dir t a b = cc
-
     clash_other : (t : Thing) → t ≡ thing.File g → t ≡ thing.Other → ⊥
     clash_other t a b = cc
 

@@ -6,6 +6,7 @@ use Rattle.lr_rules.specs.declared.clock.Clock.{Clock}
 use Rattle.lr_rules.specs.declared.path.Path.{Path}
 use Rattle.lr_rules.specs.Dated.{stamp_key, IsDatedAt}
 use Rattle.lr_rules.proofs.Counts.{serial_small}
+use Rattle.lr_rules.proofs.Options.{some_none}
 use Rattle.lr_host.specs.declared.entry.Entry.{Entry}
 use Rattle.lr_host.specs.Fits.{IsFileAt}
 use Rattle.lr_host.specs.Forward.{IsForward}
@@ -17,7 +18,6 @@ use Rattle.lr_host.proofs.Quiet.{wrote_same, looked_names}
 use Rattle.lr_laws.proofs.Disk.{KeepsClosed}
 use Rattle.lr_laws.specs.Forward.{IsForwardBy, IsForwardFor, IsNextSerial}
 use Rattle.lr_laws.proofs.Tame.{IsTame, had_before, closed_writer, tame_writer, closed_quiet, tame_quiet}
-use Rattle.lr_laws.proofs.Reach.{no_key}
 
 -- of two numbers with a sign the one that isn't above is below, or they are the same
 below_or : (t u : ℤ) → t ≤ℤ u → (t <ℤ u) ⊎ (t ≡ u)
@@ -69,7 +69,7 @@ by_on s p e seconds dated cl tame stays by = record {
 pub by_quiet : (s : LogSet) (p q : Past) (seconds : ℤ) → order s ≡ Dated → Quiet (IsKeyless s) p q → IsForwardBy s p seconds → IsForwardBy s q seconds
 by_quiet s p _ seconds dated here by = by
 by_quiet s p _ seconds dated (wrote {q = q} {e = e} w i f a) by = by_on s q e seconds dated (closed_writer (world q) e i) (tame_writer s (world q) e i a)
-    (λ y k is file. (file.0, wrote_same (IsKeyless s) q e y i a (λ none. no_key (s.key y) k is none) ∙ file.1)) (by_quiet s p q seconds dated w by)
+    (λ y k is file. (file.0, wrote_same (IsKeyless s) q e y i a (λ none. some_none (s.key y) k is none) ∙ file.1)) (by_quiet s p q seconds dated w by)
 by_quiet s p _ seconds dated (looked {q = q} {e = e} w i f h) by = by_on s q e seconds dated (closed_quiet (world q) e (i, h)) (tame_quiet s (world q) e (i, h))
     (λ y k is file. (file.0, looked_names q e y i h ∙ file.1)) (by_quiet s p q seconds dated w by)
 

@@ -6,13 +6,11 @@ use Rattle.std.proofs.lemmas.Slice.Eq.{bytes_eq-Decides}
 use Rattle.lr_rules.specs.declared.path.Path.{Path}
 use Rattle.lr_rules.specs.Names.{aside_path}
 use Rattle.lr_rules.proofs.Bools.{not_both}
+use Rattle.lr_rules.proofs.Options.{some_none}
 use Rattle.lr_host.specs.Sets.{LogSet, in_set, IsAsideOf, IsUnplaced, is_unplaced, in_reach}
 
 is_keyed : (o : Option ℤ) (k : ℤ) → o ≡ Some k → is_some o ≡ true
 is_keyed o k is = ap is_some is
-
-pub no_key : (o : Option ℤ) (k : ℤ) → o ≡ Some k → o ≡ None → ⊥
-no_key o k a b = cc
 
 -- where a log waits is another path than the log's
 pub aside_apart : (s : LogSet) (x : Path) → IsAsideOf s x → x ≡ s.log → ⊥
@@ -27,7 +25,7 @@ unplaced_keyless s x (inl at_log) = ap s.key at_log ∙ s.log_apart
 unplaced_keyless s x (inr a) = a.keyless
 
 pub unplaced_no_key : (s : LogSet) (x : Path) (k : ℤ) → IsUnplaced s x → s.key x ≡ Some k → ⊥
-unplaced_no_key s x k u is = no_key (s.key x) k is (unplaced_keyless s x u)
+unplaced_no_key s x k u is = some_none (s.key x) k is (unplaced_keyless s x u)
 
 pub unplaced_true : (s : LogSet) (x : Path) → IsUnplaced s x → is_unplaced s x ≡ true
 unplaced_true s x (inl at_log) = or_left (bytes_eq s.log x) (s.naming.aside && bytes_eq (aside_path s.log) x) ((bytes_eq-Decides s.log x).1 (sym at_log))

@@ -2,6 +2,7 @@
 use Rattle.std.proofs.Common.{◌≡◌, ◌⊎◌, inl, inr, ⊎_elim, ℕ, ◌≤◌, List, [], ◌∷◌, length, true, sym, ◌∙◌, ap, subst, arith, Option, Some, None, ℤ, pos}
 use Rattle.std.proofs.lemmas.Bool.{or_right, or_cases, false_from_ne_true}
 use Rattle.lr_rules.specs.declared.path.Path.{Path}
+use Rattle.lr_rules.proofs.Options.{some_none}
 use Rattle.lr_host.specs.declared.entry.Entry.{Entry}
 use Rattle.lr_host.specs.World.{Names, names, Past, Opens, ◌▸◌, world, is_file, opening_names}
 use Rattle.lr_host.specs.Sets.{Order, Numbered, Dated, IsUnplaced, IsWithin, AreLaterMembers, LogSet, order}
@@ -30,14 +31,8 @@ placed_more s n x l l' le (inr w) = inr (within_more (order s) s.key n x l l' le
 
 -- a member has a key, so it isn't the log
 pub within_apart : (s : LogSet) (o : Order) (n : Names) (x : Path) (l : ℕ) → IsWithin o s.key n x l → x ≡ s.log → ⊥
-within_apart s Numbered n x l w same = let none : s.key s.log ≡ None = s.log_apart in clash (s.key x) (pos w.0) w.1 (ap s.key same ∙ none)
-  where
-    clash : (o : Option ℤ) (k : ℤ) → o ≡ Some k → o ≡ None → ⊥
-    clash o k a b = cc
-within_apart s Dated n x l w same = let none : s.key s.log ≡ None = s.log_apart in clash (s.key x) w.0 w.1 (ap s.key same ∙ none)
-  where
-    clash : (o : Option ℤ) (k : ℤ) → o ≡ Some k → o ≡ None → ⊥
-    clash o k a b = cc
+within_apart s Numbered n x l w same = let none : s.key s.log ≡ None = s.log_apart in some_none (s.key x) (pos w.0) w.1 (ap s.key same ∙ none)
+within_apart s Dated n x l w same = let none : s.key s.log ≡ None = s.log_apart in some_none (s.key x) w.0 w.1 (ap s.key same ∙ none)
 
 -- a member that keeps its file keeps its place
 pub within_after : (o : Order) (s : LogSet) (p : Past) (e : Entry) (then after : Names) (g : ℕ) (x : Path) → KeepsPlaces o s p e then after → IsGeneration s p g → then x ≡ thing.File g → after x ≡ thing.File g → later s p g ≤ later s (p ▸ e) g

@@ -1,6 +1,7 @@
 -- Entries that give no member a file: no later member comes by them, and members keep their room.
 use Rattle.std.proofs.Common.{◌≡◌, ◌⊎◌, inl, inr, ℕ, ◌<◌, ◌≤◌, ◌+◌, false, refl, sym, ◌∙◌, ap, arith, Option, Some, None, List, [], ◌∷◌, length, ℤ}
 use Rattle.lr_rules.specs.declared.path.Path.{Path}
+use Rattle.lr_rules.proofs.Options.{some_none}
 use Rattle.lr_host.specs.declared.entry.Entry.{Entry}
 use Rattle.lr_host.specs.declared.entry.Entry.TheVariants.{Attach, Feed, Flush, Detach, Renames, Makes, MakesDir, Appends, Truncates, Unlinks}
 use Rattle.lr_host.specs.declared.entry.Entry.TheVariants as entry
@@ -23,7 +24,6 @@ use Rattle.lr_laws.proofs.Moves.{keyless}
 use Rattle.lr_laws.proofs.Rising.{IsStarts, next_grows}
 use Rattle.lr_laws.proofs.Sound.{IsSound}
 use Rattle.lr_laws.proofs.Writing.{member_apart}
-use Rattle.lr_laws.proofs.Reach.{no_key}
 
 -- the change gives no member a file
 pub record GivesNone (s : LogSet) (c : Change) : Type 0 where
@@ -38,8 +38,8 @@ pub record IsTame (s : LogSet) (st : Step) : Type 0 where
 module _ (s : LogSet) (p : Past) (e : Entry) (cl : KeepsClosed (world p) e) (tame : IsTame s (step (world p) e)) where
   -- a member that names a file behind the change named it before
   before : (c : Change) (m : Names) → step (world p) e ≡ Adds c → (y : Path) (k : ℤ) (g : ℕ) → s.key y ≡ Some k → Came c m y g → m y ≡ thing.File g
-  before c m st y k g is (made i) = absurd (no_key (s.key y) k is ((tame.adds c st).made y g i))
-  before c m st y k g is (moved z i q) = absurd (no_key (s.key y) k is ((tame.adds c st).moved z y i))
+  before c m st y k g is (made i) = absurd (some_none (s.key y) k is ((tame.adds c st).made y g i))
+  before c m st y k g is (moved z i q) = absurd (some_none (s.key y) k is ((tame.adds c st).moved z y i))
   before c m st y k g is (stayed q l) = q
 
   -- What a cut may leave behind the entry gives no member a file that it hasn't under names which a cut might have left before.

@@ -7,6 +7,7 @@ use Rattle.lr_rules.specs.declared.fault.Phase.{Phase}
 use Rattle.lr_rules.specs.declared.fault.Phase.TheVariants as phase
 use Rattle.lr_rules.specs.declared.rule.Make.{Make}
 use Rattle.lr_rules.specs.declared.rule.Make.TheVariants as make
+use Rattle.lr_rules.proofs.Bools.{not_both}
 use Rattle.lr_host.specs.declared.entry.Entry.{Entry}
 use Rattle.lr_host.specs.declared.entry.Entry.TheVariants as entry
 use Rattle.lr_host.specs.Lists.{IsIn}
@@ -285,13 +286,10 @@ copy_plain P t job b c h is cut = plain_on P (step_if b (step.Removes job.part))
 
 -- a copy that empties what it copies is of the log where it stands
 cut_none : (a b : Job) → Some a ≡ Some b → a.cut ≡ true → b.cut ≡ false → ⊥
-cut_none a b same cut uncut = clash b.cut (ap (λ (j : Job). j.cut) (one same) ∙ cut) uncut
+cut_none a b same cut uncut = not_both b.cut (ap (λ (j : Job). j.cut) (one same) ∙ cut) uncut
   where
     one : Some a ≡ Some b → b ≡ a
     one e = cc
-
-    clash : (c : Bool) → c ≡ true → c ≡ false → ⊥
-    clash c x y = cc
 
 cut_from : (t : Target) (job : Job) → HasWay t → IsJob t job → t.job ≡ Some job → job.cut ≡ true → job.from ≡ t.log
 cut_from t job (inl stays) shape is cut = shape.from_is ∙ (ap (λ (a : Option Path). source_by a t.ready.log) stays.aside_is ∙ stays.first_is)

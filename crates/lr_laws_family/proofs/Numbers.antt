@@ -11,6 +11,7 @@ use Rattle.lr_rules.specs.declared.rule.Count.{Count}
 use Rattle.lr_rules.specs.declared.rule.Count.TheVariants as count
 use Rattle.lr_rules.specs.declared.rule.Naming.{Naming}
 use Rattle.lr_rules.proofs.Bools.{not_both}
+use Rattle.lr_rules.proofs.Options.{none_some}
 use Rattle.lr_host.specs.declared.thing.Thing.{Thing}
 use Rattle.lr_host.specs.declared.thing.Thing.TheVariants as thing
 use Rattle.lr_host.specs.declared.entry.Entry.{Entry}
@@ -48,7 +49,6 @@ use Rattle.lr_laws_family.specs.Numbered.{numbered, HasName, HaveNextNames}
 use Rattle.lr_laws_family.specs.Rotation.{Rotation, By, unlinks, rotation_steps, IsOfMembers}
 use Rattle.lr_laws_family.specs.Turned.{ComesFrom, unless, GoesTo, IsFamilyRotation}
 use Rattle.lr_laws_family.proofs.Picking.{named_all}
-use Rattle.lr_laws_family.proofs.Dates.{clash}
 
 -- ---- places with names
 
@@ -100,7 +100,7 @@ module _ (n : Naming) (none : n.dated ≡ None) where
   -- a member's number has a name, and its path is that of the number
   pub at_number : (place : Place) (x : Path) → IsPlaceOf n place x → HasName n (number_in place) × (x ≡ path_at n (number_in place)) × (place ≡ at.Number (number_in place))
   at_number (at.Number k) x h = (h.1.bound, h.1.named, refl)
-  at_number (at.Stamp t k) x h = absurd (clash n.dated h.format none h.dated)
+  at_number (at.Stamp t k) x h = absurd (none_some n.dated h.format none h.dated)
 
   pub rising : (ms : List Member) → AreNamed n ms → AreNewestFirst ms → IsStrictlyIncreasing (reverse (places_of ms))
   rising ms d h = subst IsStrictlyIncreasing (sym (reverse-reverse (map (λ (m : Member). number_in m.place) ms))) (numbers_rise n ms none d h)
@@ -256,7 +256,7 @@ module _ (n : Naming) (c : Count) (from : List ℕ) (members : List Member) (log
         by_kind : (x y : Path) → ComesFrom n x y → after x ≡ unless r.gone x (unless r.early y (m y))
         by_kind x y (inl (d, k, my, mx)) = subst (λ (z : Path). after z ≡ unless r.gone z (unless r.early y (m y))) (sym mx.named)
             (subst (λ (z : Path). after (path_at n (suc k)) ≡ unless r.gone (path_at n (suc k)) (unless r.early z (m z))) (sym my.named) (at_next k my.bound mx.bound))
-        by_kind x y (inr h) = absurd (clash n.dated h.0.2.format none h.0.2.dated)
+        by_kind x y (inr h) = absurd (none_some n.dated h.0.2.format none h.0.2.dated)
 
   pub numbered_is_one : IsFamilyRotation n (numbered n c from members log source by)
   numbered_is_one = record { members = of_members; turns = λ m file there. goes m file there }

@@ -5,6 +5,7 @@ use Rattle.std.proofs.lemmas.List.Elements.{All-head, All-tail, All-contains}
 use Rattle.std.proofs.lemmas.Slice.Eq.{bytes_eq-Decides}
 use Rattle.lr_rules.specs.declared.path.Path.{Path}
 use Rattle.lr_rules.specs.declared.rule.Naming.{Naming}
+use Rattle.lr_rules.proofs.Bools.{not_both}
 use Rattle.lr_host.specs.Fits.{IsFileAt}
 use Rattle.lr_host.specs.Lists.{IsIn}
 use Rattle.lr_host.specs.World.{Names}
@@ -21,10 +22,7 @@ has_or_none x (m ∷ ms) = go (bytes_eq m.path x) refl (has_or_none x ms)
     go : (b : Bool) → bytes_eq m.path x ≡ b → ((k : Member) × IsIn k ms × (k.path ≡ x)) ⊎ NoMemberHas ms x → ((k : Member) × IsIn k (m ∷ ms) × (k.path ≡ x)) ⊎ NoMemberHas (m ∷ ms) x
     go true e r = inl (m, inl refl, (bytes_eq-Decides m.path x).0 e)
     go false e (inl r) = inl (r.0, inr r.1, r.2)
-    go false e (inr r) = inr ((λ same. let t = (bytes_eq-Decides m.path x).1 (sym same) in clash (bytes_eq m.path x) t e), r)
-      where
-        clash : (b : Bool) → b ≡ true → b ≡ false → ⊥
-        clash b p q = cc
+    go false e (inr r) = inr ((λ same. let t = (bytes_eq-Decides m.path x).1 (sym same) in not_both (bytes_eq m.path x) t e), r)
 
 -- each of them has the path of its place
 pub named_all : (n : Naming) (ms : List Member) (m : Member) → AreNamed n ms → IsIn m ms → IsPlaceOf n m.place m.path

@@ -1,5 +1,5 @@
 -- What the looks tell of a log that is kept, where they are true: a word of its rule gives it, and it is no member of another log that the word gives too.
-use Rattle.std.proofs.Common.{◌≡◌, ◌≢◌, ◌⊎◌, inl, inr, ℕ, zero, suc, ◌<◌, Bool, true, false, not, cond, ◌&&◌, List, [], ◌∷◌, map, reverse, Some, None, Ok, slice_get, bytes_eq, Contains, refl, sym, ap, ◌∙◌, subst, arith}
+use Rattle.std.proofs.Common.{◌≡◌, ◌≢◌, ◌⊎◌, inl, inr, ℕ, zero, suc, ◌<◌, Bool, true, false, not, cond, List, [], ◌∷◌, map, reverse, Some, None, Ok, slice_get, bytes_eq, Contains, refl, sym, ap, ◌∙◌, subst, arith}
 use Rattle.std.specs.Prelude.{IsUtf8}
 use Rattle.std.specs.Borrow.{Bor}
 use Rattle.std.specs.List.{list_all}
@@ -14,6 +14,7 @@ use Rattle.lr_rules.specs.Limits.{meets_limits, is_log_word, is_pattern_word, is
 use Rattle.lr_rules.specs.Match.{WordGives, is_wildcard}
 use Rattle.lr_rules.specs.Names.{naming_of}
 use Rattle.lr_rules.specs.Path.{path_fault, has_empty_part, is_absolute, has_bad_byte, has_dot_part}
+use Rattle.lr_rules.proofs.Bools.{first_true}
 use Rattle.lr_host.specs.declared.entry.Entry.{Entry}
 use Rattle.lr_host.specs.Fits.{IsFileAt}
 use Rattle.lr_host.specs.Lists.{IsIn}
@@ -53,14 +54,11 @@ all_in f [] x h i = absurd i
 all_in f (y ∷ ys) x h (inl e) = subst (λ z. f z ≡ true) e (and_parts (f y) (list_all f ys) h).0
 all_in f (y ∷ ys) x h (inr i) = all_in f ys x (and_parts (f y) (list_all f ys) h).1 i
 
-first_part : (a b : Bool) → (a && b) ≡ true → a ≡ true
-first_part a b h = (and_parts a b h).0
-
 -- a pattern has no empty part
 full_pattern : (word : List ℕ) → is_log_word word ≡ true → is_wildcard word ≡ true → has_empty_part word ≡ false
 full_pattern word h wild =
     let pattern : is_pattern_word word ≡ true = subst (λ b. cond b (is_pattern_word word) (is_literal_word word) ≡ true) wild h in
-    let text : is_path_text word ≡ true = first_part (is_path_text word) _ pattern in
+    let text : is_path_text word ≡ true = first_true (is_path_text word) _ pattern in
     let behind = (and_parts (not (has_bad_byte word)) _ text).1 in
     let parts = (and_parts (is_absolute word) _ behind).1 in
     not-true (has_empty_part word) (and_parts (not (has_empty_part word)) (not (has_dot_part word)) parts).0
@@ -162,7 +160,7 @@ module _ {reserved : List Path} (rules : Rules) (sets : List SetLooks) (faults :
   full : (w : Word) → IsIn w (asked_by rules.sets) → is_wildcard w.text ≡ true → has_empty_part w.text ≡ false
   full w i wild =
       let a = asked w i in
-      full_pattern w.text (all_in is_log_word w.rule.words w.text (first_part (list_all is_log_word w.rule.words) _ (all_in meets_limits rules.sets w.rule rules.limits (rule_in w a))) a.has) wild
+      full_pattern w.text (all_in is_log_word w.rule.words w.text (first_true (list_all is_log_word w.rule.words) _ (all_in meets_limits rules.sets w.rule rules.limits (rule_in w a))) a.has) wild
 
   -- each log that was found is given by its word
   word_given : (u v : Past) (es : List Entry) → Made u es v → s.entries.front ≡ reverse es → (f : FoundLog) (b : IsFoundBy (asked_by rules.sets) s.entries.front s.found f) → WordGives b.word.text f.log.path

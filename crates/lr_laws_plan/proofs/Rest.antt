@@ -8,6 +8,7 @@ use Rattle.lr_rules.specs.declared.rule.Rule.{Rule}
 use Rattle.lr_rules.specs.declared.rules.Rules.{Rules}
 use Rattle.lr_rules.specs.Names.{IsOwnName}
 use Rattle.lr_rules.specs.Path.{parent_of}
+use Rattle.lr_rules.proofs.Options.{some_none}
 use Rattle.lr_due.specs.declared.answer.Due.{Due}
 use Rattle.lr_host.specs.declared.entry.Entry.{Entry}
 use Rattle.lr_host.specs.declared.entry.Entry.TheVariants.{Starts, Ends}
@@ -25,7 +26,6 @@ use Rattle.lr_host.proofs.Made.{CutAt, cut_one, made_journal, made_on}
 use Rattle.lr_host.proofs.Quiet.{quiet_both, quiet_still, sees_quiet, still_reverse, since_of, made_quiet, quiet_same}
 use Rattle.lr_host.proofs.Steady.{steady_before, none_attached}
 use Rattle.lr_laws.proofs.Stated.{quiet_safe}
-use Rattle.lr_laws.proofs.Reach.{no_key}
 use Rattle.lr_looks.specs.Found.{FoundLog}
 use Rattle.lr_looks.specs.Shown.{ShowsLooks}
 use Rattle.lr_plan.specs.Asked.{Asked}
@@ -66,7 +66,7 @@ use Rattle.lr_laws_plan.proofs.Truth.{file_quiet}
 
 -- over entries that change nothing a member of a steady set names what it named
 pub still_member : (s : LogSet) (p u : Past) (ts : List Entry) → ChangeNothing ts → Made p (reverse ts) u → IsSteady s u → (y : Path) (k : ℤ) → s.key y ≡ Some k → names (world u) y ≡ names (world p) y
-still_member s p u ts still made steady y k key = quiet_same (IsKeyless s) p u y calm (no_key (s.key y) k key)
+still_member s p u ts still made steady y k key = quiet_same (IsKeyless s) p u y calm (some_none (s.key y) k key)
   where
     calm : Quiet (IsKeyless s) p u
     calm = made_quiet (IsKeyless s) p u (reverse ts) (since_of (IsKeyless s) p u (reverse ts) made (none_attached s u steady)) made (still_reverse ts still)

@@ -9,6 +9,7 @@ use Rattle.lr_rules.specs.declared.rule.Naming.{Naming}
 use Rattle.lr_rules.specs.declared.rule.Way.{Way}
 use Rattle.lr_rules.specs.declared.rules.Rules.{Rules}
 use Rattle.lr_rules.specs.Names.{aside_path}
+use Rattle.lr_rules.proofs.Bools.{not_both}
 use Rattle.lr_host.specs.declared.thing.Thing.TheVariants as thing
 use Rattle.lr_host.specs.declared.entry.Entry.{Entry}
 use Rattle.lr_host.specs.declared.entry.Entry.TheVariants as entry
@@ -419,10 +420,7 @@ module _ (clock : Clock) (way : Way) (s : LogSet) (state : Path) (rules : Rules)
           safe_there = safe_on s r copy_step (k.journal, fits) k.safe (may_come s r job.part job.to k.journal k.safe (subst (MayCome s r) (sym to_is) k.come) free_now)
 
           part_apart : (y : Path) (i : ℤ) → s.key y ≡ Some i → y ≢ job.part
-          part_apart y i is same_path = clash (in_reach s job.part) (ap (in_reach s) (sym same_path) ∙ keyed_reach s y i is) (part_out s t names_are same naming job a.job_is)
-            where
-              clash : (b : Bool) → b ≡ true → b ≡ false → ⊥
-              clash b x y = cc
+          part_apart y i is same_path = not_both (in_reach s job.part) (ap (in_reach s) (sym same_path) ∙ keyed_reach s y i is) (part_out s t names_are same naming job a.job_is)
 
           copied : HasCopy s v (r ▸ copy_step) ahead target
           copied = record {

@@ -6,6 +6,7 @@ use Rattle.std.proofs.lemmas.Slice.Eq.{bytes_eq-Decides}
 use Rattle.lr_rules.specs.declared.path.Path.{Path}
 use Rattle.lr_rules.specs.declared.rule.Naming.{Naming}
 use Rattle.lr_rules.specs.Names.{IsOwnName, the_log, IsName, Meet}
+use Rattle.lr_rules.proofs.Bools.{not_both}
 use Rattle.lr_host.specs.declared.entry.Entry.{Entry}
 use Rattle.lr_host.specs.declared.entry.Entry.TheVariants as entry
 use Rattle.lr_host.specs.Lists.{IsIn}
@@ -65,10 +66,7 @@ also_beside s t (entry.MakesDir x mode) log_is naming_is h out d = inl (tt, own_
 also_beside s t (entry.Makes x mode) log_is naming_is h out (inl is) = inr (is ∙ log_is)
 also_beside s t (entry.Makes x mode) log_is naming_is h out (inr p) = inl (ap (in_reach s) p.2 ∙ (out p.0 p.1).0, tt)
 also_beside s t (entry.Appends x bytes) log_is naming_is h out p = inl (ap (in_reach s) p.2 ∙ (out p.0 p.1).0, tt)
-also_beside s t (entry.Truncates x) log_is naming_is h out p = absurd (clash p.0.0.cut p.0.2 (out p.0.0 p.0.1).1)
-  where
-    clash : (b : Bool) → b ≡ true → b ≡ false → ⊥
-    clash b x y = cc
+also_beside s t (entry.Truncates x) log_is naming_is h out p = absurd (not_both p.0.0.cut p.0.2 (out p.0.0 p.0.1).1)
 also_beside s t _ log_is naming_is h out p = absurd p
 
 module _ (s : LogSet) (state : Path) (no_state : IsName s.log s.naming state → ⊥) (no_part : IsName s.log s.naming (state ++ codes ".tmp") → ⊥) where

@@ -13,6 +13,7 @@ use Rattle.lr_rules.specs.declared.rules.Rules.{Rules}
 use Rattle.lr_rules.specs.Names.{IsOwnName, aside_path}
 use Rattle.lr_rules.specs.Path.{parent_of}
 use Rattle.lr_rules.proofs.Beside.{parent_same, beside_other}
+use Rattle.lr_rules.proofs.Bools.{not_both}
 use Rattle.lr_host.specs.declared.thing.Thing.{Thing}
 use Rattle.lr_host.specs.declared.thing.Thing.TheVariants as thing
 use Rattle.lr_host.specs.declared.entry.Entry.{Entry}
@@ -474,10 +475,7 @@ module _ (rules : Rules) (clock : Clock) (t : Target) (p q : Past) (es : List En
     behind_made = subst (FitCalls (after_call made (R t))) (sym none.2.1) (goes none.2.0)
 
     not_stale : (job : Job) → t.job ≡ Some job → IsStale job made
-    not_stale job is old = absurd (clash job.stale old (missing.not_stale job is))
-      where
-        clash : (b : Bool) → b ≡ true → b ≡ false → ⊥
-        clash b x y = cc
+    not_stale job is old = absurd (not_both job.stale old (missing.not_stale job is))
 
     waiting_same : (path : Path) → t.aside ≡ Some path → made path ≡ now path
     waiting_same path aside = made_other path (named_own t.log t.naming path (aside_own t h path aside))

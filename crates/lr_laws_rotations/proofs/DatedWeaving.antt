@@ -12,6 +12,7 @@ use Rattle.lr_host.specs.Told.{Made, at_first, by_writer, by_tool}
 use Rattle.lr_host.proofs.Left.{changes_filter}
 use Rattle.lr_laws.proofs.Calls.{passed_aside}
 use Rattle.std.specs.Prelude.{filter}
+use Rattle.lr_rules.proofs.Bools.{not_both}
 use Rattle.lr_laws.specs.Rotation.{IsAside, LogFits}
 use Rattle.lr_laws.specs.DatedRotation.{turned_behind, IsDatedStep, IsDatedRotationBy}
 use Rattle.lr_laws.proofs.DatedAside.{aside_turned}
@@ -96,10 +97,7 @@ anew_more s p newest first os es _ is k = absurd is
 
 -- what lies apart renames no log
 none_to : (s : LogSet) (e : Entry) → IsApart s e → (to : Path) → e ≡ Renames s.log to → ⊥
-none_to s e out to is = clash (in_reach s s.log) (logged s) (subst (IsApart s) is out).0
-  where
-    clash : (b : Bool) → b ≡ true → b ≡ false → ⊥
-    clash b p q = cc
+none_to s e out to is = not_both (in_reach s s.log) (logged s) (subst (IsApart s) is out).0
 
 apart_more : (s : LogSet) (p : Past) (newest : ℤ) (first : Bool) (os es : List Entry) (e : Entry) → IsApart s e → IsDatedWoven s p newest first os es → IsDatedWoven s p newest first os (e ∷ es)
 apart_more s p newest first os es e out k = record {

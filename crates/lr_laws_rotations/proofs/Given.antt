@@ -4,7 +4,7 @@ use Rattle.std.specs.Prelude.{ℤ}
 use Rattle.std.proofs.lemmas.List.{reverse-append, reverse-reverse}
 use Rattle.std.specs.List.{list_all}
 use Rattle.std.proofs.lemmas.Bool.Decides.{nat_tests}
-use Rattle.std.proofs.lemmas.Bool.{and_parts}
+use Rattle.std.proofs.lemmas.Bool.{and_parts, both_ways}
 use Rattle.lr_rules.specs.declared.path.Path.{Path}
 use Rattle.lr_rules.specs.declared.rule.Count.{Count}
 use Rattle.lr_rules.specs.declared.rule.Count.TheVariants as count
@@ -47,10 +47,7 @@ all_in P xs x a c = subst P c.2 (a c.0 x c.1)
 
 -- it gives its one path, whatever was seen
 pub literal_gives : (rules : List Rule) (rule : Rule) (word : List ℕ) (log : Path) (ts : List Entry) → is_wildcard word ≡ false → log ≡ literal_path word → GivesLog rules rule word log ts
-literal_gives rules rule word log ts plain is = record { gives = λ p q es m e. literal plain is; alone = λ p q es m journal e wild. absurd (clash (is_wildcard word) plain wild) }
-  where
-    clash : (b : Bool) → b ≡ false → b ≡ true → ⊥
-    clash b h g = cc
+literal_gives rules rule word log ts plain is = record { gives = λ p q es m e. literal plain is; alone = λ p q es m journal e wild. absurd (both_ways (is_wildcard word) plain wild) }
 
 -- ---- what the looks tell
 

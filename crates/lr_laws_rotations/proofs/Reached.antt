@@ -5,6 +5,7 @@ use Rattle.std.proofs.lemmas.Slice.Eq.{bytes_eq-Decides}
 use Rattle.lr_rules.specs.declared.path.Path.{Path}
 use Rattle.lr_rules.specs.declared.rule.Naming.{Naming}
 use Rattle.lr_rules.specs.Names.{aside_path, Meet}
+use Rattle.lr_rules.proofs.Bools.{not_both}
 use Rattle.lr_host.specs.Sets.{LogSet, IsAsideOf, IsUnplaced, is_unplaced, in_reach}
 use Rattle.lr_family.specs.Parts.{part_of, IsMember}
 use Rattle.lr_copy.specs.declared.job.Job.{Job}
@@ -73,10 +74,7 @@ module _ (s : LogSet) (t : Target) (h : HasNames t) (same : t.log ≡ s.log) (na
       unplaced e = ⊎_elim at_log at_waiting (or_cases (bytes_eq s.log job.part) (s.naming.aside && bytes_eq (aside_path s.log) job.part) e)
 
       keyed : is_some (s.key job.part) ≡ true → ⊥
-      keyed e = clash (is_some (s.key job.part)) e (ap is_some (no_key_of s job.part (λ member. job_no_member t job h.family target (h.job job is) (subst (λ (n : Naming). IsMember n job.part) naming member))))
-        where
-          clash : (b : Bool) → b ≡ true → b ≡ false → ⊥
-          clash b x y = cc
+      keyed e = not_both (is_some (s.key job.part)) e (ap is_some (no_key_of s job.part (λ member. job_no_member t job h.family target (h.job job is) (subst (λ (n : Naming). IsMember n job.part) naming member))))
 
       go : (b : Bool) → in_reach s job.part ≡ b → in_reach s job.part ≡ false
       go true e = absurd (⊎_elim unplaced keyed (or_cases (is_unplaced s job.part) (is_some (s.key job.part)) e))

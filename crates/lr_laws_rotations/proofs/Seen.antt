@@ -1,5 +1,5 @@
 -- What the looks show of both logs.
-use Rattle.std.proofs.Common.{◌≡◌, ◌≢◌, inl, inr, ℕ, zero, suc, ◌+◌, refl, sym, ap, subst, arith, true, Option, Some, None, List, [], ◌∷◌, get_or, Contains, codes}
+use Rattle.std.proofs.Common.{◌≡◌, ◌≢◌, inl, inr, ℕ, zero, suc, ◌+◌, refl, sym, ap, subst, arith, true, Option, Some, List, [], ◌∷◌, get_or, Contains, codes}
 use Rattle.std.specs.Prelude.{decimal}
 use Rattle.std.specs.List.Sorted.{IsStrictlySortedBy, IsStrictlyIncreasing}
 use Rattle.lr_rules.specs.declared.clock.Clock.{Clock}
@@ -24,6 +24,7 @@ use Rattle.std.proofs.lemmas.List.Elements.{All-cons, All-nil}
 use Rattle.lr_rules.specs.declared.rule.Format.{Format}
 use Rattle.lr_rules.specs.declared.rule.Naming.{Naming}
 use Rattle.lr_rules.specs.Limits.{is_format, or_none}
+use Rattle.lr_rules.proofs.Options.{none_some}
 use Rattle.lr_family.specs.Looks.{WasSeen}
 use Rattle.lr_laws_family.specs.Members.{IsNoMember, IsFamily}
 use Rattle.lr_laws_family.specs.Shown as family
@@ -166,12 +167,9 @@ b_given = record { rule = rule_of 2 b_log b_count; word = b_log; among = (1, ome
 pub family_of : (log : Path) (n : Naming) → places.IsFamily log n → IsFamily log n
 family_of log n h = record { kin = h.kin; format = subst (λ (d : Option Format). or_none is_format d ≡ true) (sym h.numbered) refl; dir = h.dir; apart = no_member }
   where
-    clash : (d : Option Format) (f : Format) → d ≡ None → d ≡ Some f → ⊥
-    clash d f a b = cc
-
     no_member : IsNoMember n log
     no_member (inl m) = h.kin.apart m.0 m.1.0 m.1.1
-    no_member (inr d) = absurd (clash n.dated d.2.format h.numbered d.2.dated)
+    no_member (inr d) = absurd (none_some n.dated d.2.format h.numbered d.2.dated)
 
 pub both_seen : (clock : Clock) → AreLogsSeen rules clock looks (a_target ∷ b_target ∷ [])
 unfolding a_given b_given

@@ -3,6 +3,7 @@ use Rattle.std.proofs.Common.{◌≡◌, ◌∙◌, sym, ap, subst, refl, inl, i
 use Rattle.std.specs.Str.{bytes_eq}
 use Rattle.std.proofs.lemmas.Slice.Eq.{bytes_eq-Decides}
 use Rattle.std.specs.List.{list_any}
+use Rattle.std.proofs.lemmas.Bool.{or_right}
 use Rattle.lr_rules.specs.declared.path.Path.{Path}
 use Rattle.lr_host.specs.Lists.{IsIn}
 
@@ -34,10 +35,6 @@ pub among_to : (dirs : List Path) (dir : Path) → IsIn dir dirs → list_any (b
 among_to [] dir h = absurd h
 among_to (x ∷ xs) dir h = by h (among_to xs dir)
   where
-    last : (b c : Bool) → c ≡ true → (b || c) ≡ true
-    last true c h = refl
-    last false c h = h
-
     by : IsIn dir (x ∷ xs) → (IsIn dir xs → list_any (bytes_eq dir) xs ≡ true) → list_any (bytes_eq dir) (x ∷ xs) ≡ true
     by (inl same) rest = ap (λ b. b || list_any (bytes_eq dir) xs) ((bytes_eq-Decides dir x).1 (sym same))
-    by (inr i) rest = last (bytes_eq dir x) (list_any (bytes_eq dir) xs) (rest i)
+    by (inr i) rest = or_right (bytes_eq dir x) (list_any (bytes_eq dir) xs) (rest i)
