@@ -38,7 +38,7 @@ fn all_blank(bytes: &[u8]) -> bool
 
 /// Whether a line is `endscript` past blanks.
 #[tactic(auto, unfolding(crate::specs::Items::is_end))]
-fn is_end(line: &[u8]) -> bool
+pub fn is_end(line: &[u8]) -> bool
     ensures { (number at : ℕ) → result ≡ is_end (line_at number at line.now) }
 {
     let signs = skip_blanks(line);

@@ -11,7 +11,8 @@ use crate::held::Held;
 use crate::item::{Item, LexFault, LexKind};
 use crate::lexer::Lexer;
 use crate::moving::{move_fault, move_item};
-use crate::stream_line::{is_end, newline};
+use crate::script::is_end;
+use crate::stream_line::newline;
 use lr_rules::Memory;
 use std::alloc::Global;
 
