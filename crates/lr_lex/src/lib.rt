@@ -34,7 +34,6 @@ mod sign;
 mod split;
 mod stream;
 mod stream_laws;
-mod stream_line;
 mod stream_scan;
 mod taking;
 mod text;

@@ -1,10 +1,22 @@
 // The first line and the others.
-ghost use Rattle.std.specs.Prelude.{◌≡◌, ◌+◌, ◌<◌, ◌≤◌, length};
+ghost use Rattle.std.specs.Prelude.{◌≡◌, ◌+◌, ◌<◌, ◌≤◌, false, length, MatchOption};
 ghost use Rattle.lr_lex.specs.Lines.{line_of, after_line};
+ghost use Rattle.lr_lex.specs.Pieces.{has_line};
+ghost use Rattle.lr_lex.specs.Newlines.{IsNewline};
 ghost use Rattle.lr_lex.specs.Scanning.{LinePasses};
 
 use crate::place::Place;
 use bstr::ByteSlice;
+
+/// Where the first newline stands.
+pub fn newline(bytes: &[u8]) -> Option<usize>
+    ensures { MatchOption result (has_line bytes.now ≡ false) (λ at. IsNewline bytes.now at) }
+{
+    match bytes.find_byte(b'\n') {
+        Some(at) => Some(at),
+        None => None,
+    }
+}
 
 /// The first line without its newline, and what stands behind it.
 fn split_line<'a>(bytes: &'a [u8]) -> (&'a [u8], &'a [u8])

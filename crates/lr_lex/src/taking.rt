@@ -12,7 +12,7 @@ use crate::item::{Item, LexFault, LexKind};
 use crate::lexer::Lexer;
 use crate::moving::{move_fault, move_item};
 use crate::script::is_end;
-use crate::stream_line::newline;
+use crate::split::newline;
 use lr_rules::Memory;
 use std::alloc::Global;
 

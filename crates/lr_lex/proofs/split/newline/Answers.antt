@@ -1,6 +1,6 @@
 use Rattle.std.proofs.Common.{eqb-true, eq-eqb, arith}
 use Rattle.lr_lex.proofs.Finding.{none_in, first_at}
-use Rattle.lr_lex.proofs.stream_line.newline.Goals as goal
+use Rattle.lr_lex.proofs.split.newline.Goals as goal
 
 pub returns-in-Some : goal.returns-in-Some
 returns-in-Some c =
