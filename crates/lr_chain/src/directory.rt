@@ -1,11 +1,10 @@
 // A directory that is made, or that was there.
-ghost use Rattle.std.specs.Prelude.{◌≡◌, OnOk, IfErr};
+ghost use Rattle.std.specs.Prelude.{OnOk, IfErr};
 ghost use Rattle.lr_host.specs.declared.entry.Entry.TheVariants as entry;
-ghost use Rattle.lr_host.specs.Looks.{is_dir};
 ghost use Rattle.lr_host.specs.Told.{Left, Can, Onward};
 ghost use Rattle.lr_chain.specs.Directory.{DirMade, DirStopped, DirCause};
 
-use lr_host::{Host, Kind, Seen};
+use lr_host::{Host, shows_dir};
 use lr_rules::Path;
 
 /// Why a directory wasn't made.
@@ -17,19 +16,6 @@ pub enum DirStop {
     Look,
     /// Another kind of thing has the path.
     NotDir,
-}
-
-fn shows_dir(look: Option<Seen>) -> bool
-    ensures { result ≡ is_dir look }
-{
-    match look {
-        Some(seen) => match seen.kind {
-            Kind::Dir => true,
-            Kind::File => false,
-            Kind::Other => false,
-        },
-        None => false,
-    }
 }
 
 /// Makes a directory, with these permission bits where there are any. Where something has the path, that has to be a directory,

@@ -8,7 +8,7 @@ ghost use Rattle.lr_family.specs.Stands.{IsFailedStand};
 ghost use Rattle.lr_family.specs.Directory.{DirSeen, DirLookStopped, ParentStopped, dir_fault_of};
 
 use crate::stand::StandStop;
-use lr_host::{Host, Kind, Seen};
+use lr_host::{Host, Kind, shows_dir};
 use lr_rules::{CallKind, Fault, Path};
 use std::alloc::Global;
 
@@ -49,19 +49,6 @@ pub fn dir_fault(stop: DirStop, dir: Path) -> Fault
     match stop {
         DirStop::Call => Fault::Call(CallKind::Look, dir),
         DirStop::NotDir => Fault::NoDir(dir),
-    }
-}
-
-fn shows_dir(look: Option<Seen>) -> bool
-    ensures { result ≡ is_dir look }
-{
-    match look {
-        Some(seen) => match seen.kind {
-            Kind::Dir => true,
-            Kind::File => false,
-            Kind::Other => false,
-        },
-        None => false,
     }
 }
 

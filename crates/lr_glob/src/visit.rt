@@ -7,7 +7,7 @@ ghost use Rattle.lr_glob.specs.Visits.{Visited};
 ghost use Rattle.lr_glob.specs.Stops.{NotVisited};
 ghost use Rattle.lr_glob.specs.Listing.{Lists, IsFailed};
 
-use lr_host::{CallFault, Host, Kind, ListFault, Seen};
+use lr_host::{CallFault, Host, ListFault, shows_dir};
 use lr_rules::{Path, Text};
 use std::alloc::Global;
 
@@ -19,19 +19,6 @@ pub enum VisitStop {
     /// The listing failed.
     List,
     Memory,
-}
-
-fn shows_dir(look: Option<Seen>) -> bool
-    ensures { result ≡ is_dir look }
-{
-    match look {
-        Some(seen) => match seen.kind {
-            Kind::Dir => true,
-            Kind::File => false,
-            Kind::Other => false,
-        },
-        None => false,
-    }
 }
 
 // Whether the path is a directory. Links are followed.

@@ -11,4 +11,4 @@ pub use entry::Entry;
 pub use host::{CallFault, Host, ListFault, RunFault};
 pub use journal::{Journal, OpenFile, Opening};
 pub use sink::{Sink, SinkFault};
-pub use thing::{Kind, Seen, Thing};
+pub use thing::{Kind, Seen, Thing, shows_dir};

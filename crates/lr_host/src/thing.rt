@@ -1,4 +1,6 @@
 // What a path can name.
+ghost use Rattle.std.specs.Prelude.{◌≡◌};
+ghost use Rattle.lr_host.specs.Looks.{is_dir};
 
 /// What a path names on a disk.
 #[derive(Clone, Copy, Debug, PartialEq, Eq)]
@@ -30,4 +32,18 @@ pub struct Seen {
     pub mode: Option<u32>,
     /// Whether a user other than root and the one that runs the program may write it.
     pub exposed: bool,
+}
+
+/// Whether a look saw a directory.
+pub fn shows_dir(look: Option<Seen>) -> bool
+    ensures { result ≡ is_dir look }
+{
+    match look {
+        Some(seen) => match seen.kind {
+            Kind::Dir => true,
+            Kind::File => false,
+            Kind::Other => false,
+        },
+        None => false,
+    }
 }
