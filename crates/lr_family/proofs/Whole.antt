@@ -55,9 +55,6 @@ other_no_dir look seen e k = subst IsNoDir (sym e) (λ f. cc)
 
 -- ---- a listing
 
-pub listed_rising : (dir : Path) (listed names : List (List ℕ)) {o m : Option Journal} → IsPermutation listed names → Left (λ ts. ts ≡ entry.List dir listed ∷ []) o m → Left (HasListed dir names) o m
-listed_rising dir listed names p l = left_as l (λ ts t. record { listed = listed; same = p; list = t })
-
 listed_there : (dir d : Path) (names : List (List ℕ)) {o m k : Option Journal} → d ≡ dir → Left (DirSeen d true) o m → Left (HasListed d names) m k → Left (ShowsListing dir true true names) o k
 listed_there dir d names e a b = left_as (left_both a b) (λ ts t. subst (λ x. ShowsListing x true true names ts) e (refl, t))
 

@@ -1,10 +1,7 @@
 // What stands in a directory, listed once for all families in it.
-ghost use Rattle.std.specs.Prelude.{◌≡◌, [], true, false, IfOk, IfErr, Err};
-ghost use Rattle.std.specs.Ordering.{nat_cmp};
-ghost use Rattle.std.specs.Cmp.Lexicographic.{slice_cmp};
-ghost use Rattle.std.specs.List.Sorted.{IsPermutation};
+ghost use Rattle.std.specs.Prelude.{◌≡◌, [], true, false, IfOk, IfErr};
 ghost use Rattle.lr_host.specs.declared.entry.Entry.TheVariants as entry;
-ghost use Rattle.lr_host.specs.Told.{Left, Are, Can, Onward, Rose};
+ghost use Rattle.lr_host.specs.Told.{Left, Can, Onward, Rose};
 ghost use Rattle.lr_rules.specs.Path.{parent_of};
 ghost use Rattle.lr_host.specs.Listing.{NamesRise, HasListed};
 ghost use Rattle.lr_host.specs.Looks.{Sees, is_dir};
@@ -14,10 +11,9 @@ ghost use Rattle.lr_family.specs.Stands.{IsFailedStand};
 
 use crate::directory::{DirStop, look_for_dir, parent_there};
 use crate::stand::StandStop;
-use lr_host::{Host, ListFault};
+use lr_host::{Host, ListFault, list_rising};
 use lr_rules::{CallKind, Listed, Path, Text};
 use std::alloc::Global;
-use std::cmp::Ordering;
 
 /// The names in a directory, as they were listed once. It serves each family whose members stand there
 /// (`Family::stand_in`).
@@ -30,38 +26,6 @@ pub struct Listing {
     // In order of bytes, so that the names that begin alike stand side by side.
     names: Listed<Text>,
     ghost rising: { NamesRise names },
-}
-
-fn by_bytes(a: &Text, b: &Text) -> Ordering
-    ensures { result ≡ slice_cmp nat_cmp a.now b.now }
-{
-    a.bytes().cmp(b.bytes())
-}
-
-fn sort_rising(names: &mut Vec<Text>)
-    ensures same { IsPermutation names.old.items names.new.items }
-    ensures rising { NamesRise names.new.items }
-{
-    names.sort_unstable_by(|a, b| by_bytes(a, b));
-}
-
-// The names in the directory, in order of bytes.
-fn list_rising<H: Host>(alloc: Global, host: &mut H, dir: &Path) -> Result<Listed<Text>, ListFault>
-    requires list { Can (H.told host.old) (entry.List dir.now []) }
-    ensures told { IfOk result (λ names. Left (HasListed dir.now names) (H.told host.old) (H.told host.new)) }
-    ensures rising { IfOk result NamesRise }
-    ensures stopped { IfErr result (λ fault. Left (Are []) (H.told host.old) (H.told host.new)) }
-    ensures cause { result ≡ Err ListFault.Failed → Rose (H.counts host.old).faults (H.counts host.new).faults }
-    ensures counts { Onward (H.counts host.old) (H.counts host.new) }
-{
-    let mut names = Vec::new(alloc);
-    match host.list(alloc, dir, &mut names) {
-        Ok(()) => {
-            sort_rising(&mut names);
-            Ok(Listed::from_vec(names))
-        }
-        Err(fault) => Err(fault),
-    }
 }
 
 // Lists the directory, which is there.

@@ -22,14 +22,6 @@ use Rattle.lr_include.specs.Visits.{IsKeptFile, IsExposedFile, ShowsDir, ShowsFi
 pub can_list : (x : Path) (seen : Seen) {o n : Option Journal} → Left (λ ts. ts ≡ entry.Look x (Some seen) ∷ []) o n → seen.kind ≡ kind.Dir → Can n (entry.List x [])
 can_list x seen l k = entry_says l (λ w f. seen_dir (world w) (names (world w) x) seen f k)
 
--- names, listed in any order
-pub listed_rising : (dir : Path) (old now sorted : List (List ℕ)) {o n : Option Journal} → old ≡ [] → IsPermutation now sorted → Left (λ ts. ts ≡ entry.List dir (drop (length old) now) ∷ []) o n → Left (HasListed dir sorted) o n
-listed_rising dir old now sorted none same l = left_as l (λ ts e. record {
-  listed = now;
-  same = same;
-  list = e ∙ ap (λ (before : List (List ℕ)). entry.List dir (drop (length before) now) ∷ []) none;
-})
-
 -- ---- visits
 
 pub in_dir : (x : Path) (lists : Bool) (room : Option ℕ) {E : Type 0} (r : Result Visit E) {o m : Option Journal} (n : Option Journal) → Left (Sees x IsDir) o m → IfOk r (λ v. Left (ShowsDir x lists v) m n) → IfOk r (λ v. Left (ShowsVisit x lists room v) o n)

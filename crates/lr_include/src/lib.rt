@@ -31,7 +31,6 @@ mod exposed;
 mod file_taking;
 mod kind;
 mod laws;
-mod listing;
 mod look;
 mod part;
 mod pieces;

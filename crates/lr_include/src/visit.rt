@@ -6,10 +6,9 @@ ghost use Rattle.lr_include.specs.Visits.{ShowsNames, ShowsBytes, ShowsDir, Show
 ghost use Rattle.lr_include.specs.Visits.{PartText, PartFile, PartVisit};
 
 use crate::file_taking::Taking;
-use crate::listing::list_rising;
 use crate::look::{Sight, look_at};
 use crate::part::{TextEnd, read_pieces};
-use lr_host::{Host, ListFault};
+use lr_host::{Host, ListFault, list_rising};
 use lr_lex::{Item, LexFault};
 use lr_rules::{Listed, Memory, Path, Text};
 use std::alloc::Global;

@@ -7,7 +7,7 @@ ghost use Rattle.lr_host.specs.declared.entry.Entry.TheVariants as entry;
 ghost use Rattle.lr_host.specs.Listing.{NamesRise, HasListed};
 ghost use Rattle.lr_host.specs.Told.{Left, Are, Can, Onward, Rose};
 
-use lr_host::{Host, ListFault};
+use crate::{Host, ListFault};
 use lr_rules::{Listed, Path, Text};
 use std::alloc::Global;
 use std::cmp::Ordering;
