@@ -4,8 +4,7 @@ ghost use Rattle.std.specs.List.{flat_map, range_with_len};
 ghost use Rattle.lr_family.specs.Stands.{number_in};
 ghost use Rattle.lr_audited.specs.Gaps.{places_between, gap_at, log_gaps, gaps_of};
 
-use crate::lines::number_at;
-use lr_family::Member;
+use lr_family::{Member, number_at};
 use lr_plan::{LogLook, SetLooks};
 use lr_rules::{Listed, Memory, Path};
 use std::alloc::Global;

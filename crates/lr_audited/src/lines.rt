@@ -1,27 +1,16 @@
 // What each file beside logs is.
 ghost use Rattle.std.specs.Prelude.{◌≡◌, ◌≤◌, ◌++◌, ◌∷◌, [], map, length, All, IfOk, OnOk};
-ghost use Rattle.lr_family.specs.Stands.{number_in};
 ghost use Rattle.lr_chain.specs.Rotation.{is_left};
 ghost use Rattle.lr_plan.specs.Planned.{is_file, CanPlan, CanPlanAll};
 ghost use Rattle.lr_audited.specs.Lines.{log_file_line, log_line, part_line, numbered_what, what_of, member_lines, waiting_lines};
 ghost use Rattle.lr_audited.specs.Lines.{part_lines, family_lines, rule_lines, sets_lines, known_lines};
 
 use crate::line::{Line, What};
-use lr_family::{Member, Place};
+use lr_family::{Member, number_at};
 use lr_plan::{LogLook, Looks, SetLooks};
 use lr_planning::is_file;
 use lr_rules::{Count, Memory, Naming, Path, Rule, Rules, aside_path};
 use std::alloc::Global;
-
-/// The number of a place, counted from 0; a stamp has none.
-pub fn number_at(place: Place) -> u32
-    ensures { result ≡ number_in place }
-{
-    match place {
-        Place::Number(number) => number,
-        Place::Stamp(_, _) => 0,
-    }
-}
 
 /// Whether the count leaves no room for a member with so many later ones.
 pub fn has_no_room(count: Count, later: u64) -> bool

@@ -13,8 +13,8 @@ ghost use Rattle.lr_audited.specs.Removed.{new_seconds, new_serial, leftovers_of
 ghost use Rattle.lr_audited.specs.Removed.{IsStamped, AreStamped};
 
 use crate::line::Why;
-use crate::lines::{has_no_room, number_at};
-use lr_family::{Member, Place, key_of};
+use crate::lines::has_no_room;
+use lr_family::{Member, Place, key_of, number_at};
 use lr_plan::{LogPlan, SetPlan};
 use lr_rules::{Clock, Count, Listed, Memory, Path};
 use lr_stamps::stamp_at;

@@ -8,19 +8,9 @@ ghost use Rattle.lr_chain.specs.Rotation.{places_of, is_left, goes, going};
 ghost use Rattle.lr_chain.specs.Ready.{is_highest, highest_path};
 
 use crate::keeping::{Kept, is_expired};
-use lr_family::{Family, Member, Place};
+use lr_family::{Family, Member, number_at};
 use lr_rules::{Count, Memory, Naming, Path};
 use std::alloc::Global;
-
-/// The number of a place, counted from 0; a stamp has none.
-pub fn number_at(place: Place) -> u32
-    ensures { result ≡ number_in place }
-{
-    match place {
-        Place::Number(number) => number,
-        Place::Stamp(_, _) => 0,
-    }
-}
 
 /// The places of the members, from the last of them to the first.
 pub fn places(alloc: Global, members: &[Member]) -> Result<Vec<u32>, Memory>

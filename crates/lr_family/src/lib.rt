@@ -36,5 +36,5 @@ pub use kin::are_kin;
 pub use laws::{name_is_read_back, path_is_named_again, stamp_is_read_back};
 pub use listing::Listing;
 pub use newest::key_of;
-pub use place::{NameStop, Place};
+pub use place::{NameStop, Place, number_at};
 pub use stand::{Member, Stand, StandStop};

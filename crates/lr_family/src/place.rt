@@ -1,4 +1,6 @@
 // The places of members, and why a place has no name.
+ghost use Rattle.std.specs.Prelude.{◌≡◌};
+ghost use Rattle.lr_family.specs.Stands.{number_in};
 
 /// The place of a member in its family.
 #[derive(Clone, Copy, PartialEq, Eq)]
@@ -7,6 +9,16 @@ pub enum Place {
     Number(u32),
     /// Of a dated member: the moment of its stamp, in seconds since 1970, and its serial number, 0 where it has none.
     Stamp(i64, u32),
+}
+
+/// The number of a place, counted from 0; a stamp has none.
+pub fn number_at(place: Place) -> u32
+    ensures { result ≡ number_in place }
+{
+    match place {
+        Place::Number(number) => number,
+        Place::Stamp(_, _) => 0,
+    }
 }
 
 /// Why a place has no name.
