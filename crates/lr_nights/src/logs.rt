@@ -5,18 +5,8 @@ ghost use Rattle.lr_nights.specs.Summary.{logs_of};
 
 use crate::texts::{log_path, path_of};
 use lr_family::Family;
-use lr_rules::{Memory, Naming, Path, Text};
+use lr_rules::{Memory, Naming, Path, text_of};
 use std::alloc::Global;
-
-fn text_of(alloc: Global, bytes: &[u8]) -> Result<Text, Memory>
-    ensures { IfOk result (λ text. text ≡ bytes.now) }
-{
-    match Text::new(alloc, bytes) {
-        Ok(text) => Ok(text),
-        // What is asked for here is a text, so this is want of memory.
-        Err(_) => Err(Memory),
-    }
-}
 
 // How the members of the log of this path are named: by its name, in its directory.
 fn naming_of(alloc: Global, log: u32, path: &Path) -> Result<Naming, Memory>

@@ -9,8 +9,8 @@ ghost use Rattle.lr_plan.specs.Steps.{rotation_of, finishing, retirement_of, ste
 use lr_chain::{Move, Ready};
 use lr_copy::Job;
 use lr_plan::{LogPlan, Step};
-use lr_rules::{Make, Memory, Path, Phase, Text};
-use lr_scripts::{Command, Removal, text_of};
+use lr_rules::{Make, Memory, Path, Phase, Text, text_of};
+use lr_scripts::{Command, Removal};
 use std::alloc::Global;
 
 fn input_text(alloc: Global, input: Option<&Path>) -> Result<Text, Memory>

@@ -46,4 +46,4 @@ pub use rules::Rules;
 pub use settings::Settings;
 pub use stamp_parts::StampParts;
 pub use steps::Steps;
-pub use text::{Text, TextFault, is_utf8};
+pub use text::{Text, TextFault, is_utf8, text_of};

@@ -7,7 +7,7 @@ use crate::copies::copy_format;
 use crate::memory::Memory;
 use crate::path::Path;
 use crate::rule::{Naming, Rule, Way};
-use crate::text::Text;
+use crate::text::{Text, text_of};
 use std::alloc::Global;
 
 fn ends_with(end: &[u8], name: &[u8]) -> bool
@@ -64,16 +64,6 @@ fn dir_of(alloc: Global, rule: &Rule, log: &Path) -> Result<Path, Memory>
     match Path::from_word(alloc, &here, olddir.bytes()) {
         Ok(dir) => Ok(dir),
         // The log's directory and the word are short enough and each of them a path, so this is want of memory.
-        Err(_) => Err(Memory),
-    }
-}
-
-fn text_of(alloc: Global, bytes: &[u8]) -> Result<Text, Memory>
-    ensures { IfOk result (λ text. text ≡ bytes.now) }
-{
-    match Text::new(alloc, bytes) {
-        Ok(text) => Ok(text),
-        // A part of a text is a text, where another text is what is left of it, so this is want of memory.
         Err(_) => Err(Memory),
     }
 }

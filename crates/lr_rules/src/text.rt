@@ -2,6 +2,7 @@
 ghost use Rattle.std.specs.Prelude.{◌≡◌, ◌↔◌, List, ℕ, IfOk, IsErrOf, IsUtf8};
 ghost use Rattle.std.specs.Str.{is_utf8};
 
+use crate::memory::Memory;
 use std::alloc::{AllocError, Global};
 use std::marker::Model;
 use thiserror::Error;
@@ -68,5 +69,15 @@ impl Text {
         ensures { result.now ≡ self.now }
     {
         self.text.as_str()
+    }
+}
+
+/// The text of bytes that are known to be one, so that a fault is want of memory.
+pub fn text_of(alloc: Global, bytes: &[u8]) -> Result<Text, Memory>
+    ensures { IfOk result (λ text. text ≡ bytes.now) }
+{
+    match Text::new(alloc, bytes) {
+        Ok(text) => Ok(text),
+        Err(_) => Err(Memory),
     }
 }

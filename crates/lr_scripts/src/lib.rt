@@ -28,4 +28,4 @@ pub use command::{Bad, Command, run_phase};
 pub use programs::{mail_of, with_programs};
 pub use removal::{Removal, remove};
 pub use script::{script_on, script_on_both};
-pub use words::{spaced, text_of};
+pub use words::spaced;

@@ -5,8 +5,7 @@ ghost use Rattle.lr_scripts.specs.Commands.{script, where_so, mail, with_program
 use crate::command::Command;
 use crate::removal::Removal;
 use crate::script::script_on;
-use crate::words::text_of;
-use lr_rules::{Listed, Memory, Path, Rule, Text};
+use lr_rules::{Listed, Memory, Path, Rule, Text, text_of};
 use std::alloc::Global;
 
 // The words of a mailer: its option, the subject and the address.

@@ -3,8 +3,7 @@ ghost use Rattle.std.specs.Prelude.{◌≡◌, ◌∷◌, ◌++◌, [], None, So
 ghost use Rattle.lr_scripts.specs.Commands.{script, where_so};
 
 use crate::command::Command;
-use crate::words::text_of;
-use lr_rules::{Listed, Memory, Path, Text};
+use lr_rules::{Listed, Memory, Path, Text, text_of};
 use std::alloc::Global;
 
 // The words of the shell before the script's arguments.

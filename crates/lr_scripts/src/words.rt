@@ -2,19 +2,8 @@
 ghost use Rattle.std.specs.Prelude.{◌≡◌, ◌∷◌, ◌++◌, OnOk, IfOk};
 ghost use Rattle.lr_scripts.specs.Commands.{spaced, behind_spaces};
 
-use lr_rules::{Memory, Text};
+use lr_rules::{Memory, Text, text_of};
 use std::alloc::Global;
-
-/// A text of these bytes, which are those of texts and paths.
-pub fn text_of(alloc: Global, bytes: &[u8]) -> Result<Text, Memory>
-    ensures { IfOk result (λ text. text ≡ bytes.now) }
-{
-    match Text::new(alloc, bytes) {
-        Ok(text) => Ok(text),
-        // They are UTF-8, so this is want of memory.
-        Err(_) => Err(Memory),
-    }
-}
 
 // Adds a word behind a space.
 fn add_word(line: &mut Vec<u8>, word: &[u8]) -> Result<(), Memory>

@@ -25,7 +25,6 @@ mod permissions;
 mod piece;
 mod stamp;
 mod taboo;
-mod text;
 mod units;
 mod value_laws;
 mod word_laws;

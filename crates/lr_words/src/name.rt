@@ -9,8 +9,7 @@ ghost use Rattle.lr_words.specs.Names.{pattern_value, log_name_value};
 use crate::ending::has_part_end;
 use crate::escape::literal;
 use crate::path::path_named;
-use crate::text::text_of;
-use lr_rules::{ConfKind, Memory, Path, Text};
+use lr_rules::{ConfKind, Memory, Path, Text, text_of};
 use std::alloc::{AllocError, Global};
 
 fn sign(byte: u8) -> bool

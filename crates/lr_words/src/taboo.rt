@@ -2,8 +2,7 @@
 ghost use Rattle.std.specs.Prelude.{◌≡◌, ◌∷◌, ◌++◌, [], true, OnOk, IfOk, filter, flat_map};
 ghost use Rattle.lr_words.specs.Lists.{is_item, items_in, begins_with_plus, without_first_byte, items_said, of_items, taboo_value};
 
-use crate::text::text_of;
-use lr_rules::{ConfKind, Listed, Memory, Text};
+use lr_rules::{ConfKind, Listed, Memory, Text, text_of};
 use std::alloc::Global;
 
 /// What a `tabooext` or a `taboopat` lists: one item at least, and whether the items are added to those before.
