@@ -10,10 +10,10 @@ ghost use Rattle.lr_laws_family.specs.Members.{IsFamily};
 ghost use Rattle.lr_cat.specs.First.{AreMatched, IsFound};
 
 use lr_family::Family;
-use lr_glob::{is_part_file, parts_of};
+use lr_glob::parts_of;
 use lr_match::matches;
 use lr_rules::{Memory, Path, Rule, Rules, Text, is_absolute, naming_of};
-use lr_words::{is_wildcard, literal};
+use lr_words::{has_part_end, is_wildcard, literal};
 use std::alloc::Global;
 
 // Whether there are as many names as parts, and each part matches the name at its place.
@@ -35,7 +35,7 @@ fn parts_match(parts: &[Text], names: &[Text]) -> bool
 fn may_match(pattern: &[u8], path: &[u8]) -> bool
     ensures { result ≡ (is_absolute pattern.now && (is_absolute path.now && not (ends_with part_end path.now))) }
 {
-    is_absolute(pattern) && (is_absolute(path) && !is_part_file(path))
+    is_absolute(pattern) && (is_absolute(path) && !has_part_end(path))
 }
 
 // What stands behind the slashes of an absolute word, or of a path.

@@ -21,5 +21,4 @@ mod word;
 pub use found::{Found, GlobStop};
 pub use laws::{directories_are_listed_once, found_are_sought, words_only_look};
 pub use lead::parts_of;
-pub use sights::is_part_file;
 pub use word::expand;

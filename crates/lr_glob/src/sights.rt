@@ -4,31 +4,15 @@ ghost use Rattle.std.specs.Ordering.{nat_cmp};
 ghost use Rattle.std.specs.Cmp.Lexicographic.{slice_cmp};
 ghost use Rattle.lr_host.specs.Looks.{Sees};
 ghost use Rattle.lr_host.specs.Told.{Left, Onward, Rose};
-ghost use Rattle.lr_rules.specs.Names.{ends_with};
-ghost use Rattle.lr_rules.specs.Match.{part_end};
 ghost use Rattle.lr_glob.specs.Sights.{InOrder, is_whole, file_at, LookedAt, LooksBroken};
 ghost use Rattle.lr_glob.specs.Stops.{IsFailedGlob};
 
 use crate::found::{Found, GlobStop};
 use lr_host::{Host, Kind, Seen};
 use lr_rules::{CallKind, Memory, Path};
+use lr_words::has_part_end;
 use std::alloc::Global;
 use std::cmp::Ordering;
-
-const PART_END: &[u8; 15] = b".logrotate-part";
-
-fn has_end(end: &[u8], bytes: &[u8]) -> bool
-    ensures { result ≡ ends_with end.now bytes.now }
-{
-    end.len() <= bytes.len() && &bytes[bytes.len() - end.len()..] == end
-}
-
-/// Whether the path is that of a copy that isn't whole yet.
-pub fn is_part_file(bytes: &[u8]) -> bool
-    ensures { result ≡ ends_with part_end bytes.now }
-{
-    has_end(PART_END, bytes)
-}
 
 /// The paths but for copies that aren't whole yet.
 pub fn whole_ones(alloc: Global, paths: Vec<Path>) -> Result<Vec<Path>, Memory>
@@ -36,7 +20,7 @@ pub fn whole_ones(alloc: Global, paths: Vec<Path>) -> Result<Vec<Path>, Memory>
 {
     let mut whole = Vec::new(alloc);
     for path in paths {
-        if !is_part_file(path.bytes()) {
+        if !has_part_end(path.bytes()) {
             whole.push(path)?;
         }
     }

@@ -16,7 +16,7 @@ use crate::lead::{lead, parts_of};
 use crate::picking::passed_over;
 use crate::sights::{look_at_each, put_in_order, whole_ones};
 use lr_host::{Host, Seen};
-use lr_rules::{CallKind, Memory, Path, PathFault, Text};
+use lr_rules::{CallKind, Memory, Path, PathFault, Text, is_absolute};
 use lr_words::{is_wildcard, literal};
 use std::alloc::Global;
 
@@ -194,15 +194,6 @@ fn literal_found<H: Host>(alloc: Global, host: &mut H, word: &[u8]) -> Result<Ve
 }
 
 // ---- a word
-
-fn is_absolute(word: &[u8]) -> bool
-    ensures { result ≡ is_absolute word.now }
-{
-    match word {
-        [] => false,
-        [first, ..] => *first == b'/',
-    }
-}
 
 // All that a word gives.
 fn all_found<H: Host>(alloc: Global, host: &mut H, word: &[u8]) -> Result<Vec<Found>, GlobStop>

@@ -39,7 +39,7 @@ pub use fault::{CallKind, ConfKind, Ended, Fault, Notice, Phase, StateKind, Zone
 pub use form::{has_bad_byte, is_absolute};
 pub use listed::Listed;
 pub use memory::Memory;
-pub use naming::{is_aside_path, naming_of};
+pub use naming::{ends_with, is_aside_path, naming_of};
 pub use path::{Path, PathFault};
 pub use rule::{Back, Count, Criterion, Field, Format, Make, Naming, Piece, Rule, Scripts, Way};
 pub use rules::Rules;

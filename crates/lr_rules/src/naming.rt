@@ -10,7 +10,8 @@ use crate::rule::{Naming, Rule, Way};
 use crate::text::{Text, text_of};
 use std::alloc::Global;
 
-fn ends_with(end: &[u8], name: &[u8]) -> bool
+/// Whether the name ends with these bytes.
+pub fn ends_with(end: &[u8], name: &[u8]) -> bool
     ensures { result ≡ ends_with end.now name.now }
 {
     end.len() <= name.len() && &name[name.len() - end.len()..] == end

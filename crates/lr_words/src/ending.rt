@@ -7,22 +7,16 @@ ghost use Rattle.lr_rules.specs.Names.{ends_with};
 ghost use Rattle.lr_rules.specs.Path.{is_slash};
 ghost use Rattle.lr_words.specs.Words.{extension_value, address_value};
 
-use lr_rules::{ConfKind, Memory, Text, has_bad_byte};
+use lr_rules::{ConfKind, Memory, Text, ends_with, has_bad_byte};
 use std::alloc::Global;
 
 const PART_END: &[u8; 15] = b".logrotate-part";
 
-fn has_end(end: &[u8], bytes: &[u8]) -> bool
-    ensures { result ≡ ends_with end.now bytes.now }
-{
-    end.len() <= bytes.len() && &bytes[bytes.len() - end.len()..] == end
-}
-
 /// Whether the bytes end as a copy does that isn't whole.
-pub(crate) fn has_part_end(bytes: &[u8]) -> bool
+pub fn has_part_end(bytes: &[u8]) -> bool
     ensures { result ≡ ends_with part_end bytes.now }
 {
-    has_end(PART_END, bytes)
+    ends_with(PART_END, bytes)
 }
 
 fn has_slash(bytes: &[u8]) -> bool

@@ -30,7 +30,7 @@ mod value_laws;
 mod word_laws;
 
 pub use digits::{count, number, weekday};
-pub use ending::{address, extension};
+pub use ending::{address, extension, has_part_end};
 pub use escape::literal;
 pub use name::{is_wildcard, log_name};
 pub use path::{include_path, olddir};
