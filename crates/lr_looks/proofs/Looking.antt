@@ -269,15 +269,3 @@ pub short_path : (x : Match) → is_long x ≡ false → (length x.path ≤ 2048
 short_path x h =
     let p = and_parts (nat_le (length x.path) 2048) (nat_le (length (last_of x.path)) 255) (not-false (nat_le (length x.path) 2048 && nat_le (length (last_of x.path)) 255) h) in
     (leb-true (length x.path) 2048 p.0, leb-true (length (last_of x.path)) 255 p.1)
-
--- `expand` finds no path that is too long
-no_long : (word : List ℕ) (room : ℕ) (matches : List Match) (ts : List Entry) → Comes word room (Ok matches) ts → list_any is_long matches ≡ true → ⊥
-no_long word room matches ts c long = by (list_any is_long c.all) refl (nat_lt room (length c.all)) c.is
-  where
-    by : (b : Bool) → list_any is_long c.all ≡ b → (d : Bool) → cond b (Err stop.LongName) (cond d (Err stop.TooMany) (Ok c.all)) ≡ Ok matches → ⊥
-    by true e d h = absurd (cc)
-    by false e true h = absurd (cc)
-    by false e false h = let same : c.all ≡ matches = cc in let t = sym e ∙ (ap (list_any is_long) same ∙ long) in absurd (cc)
-
-pub long_stopped : (word : List ℕ) (room : ℕ) (matches : List Match) {o n : Option Journal} → list_any is_long matches ≡ true → Left (Comes word room (Ok matches)) o n → Left (Stopped word room stop.LongName) o n
-long_stopped word room matches long left = left_as left (λ ts c. absurd (no_long word room matches ts c long))

@@ -1,10 +1,8 @@
 // The looks at what the words give.
-ghost use Rattle.std.specs.Prelude.{◌≡◌, ◌≢◌, ◌-◌, ◌++◌, ◌∷◌, [], false, Ok, Err, map, length, OnOk, OnErr, IfOk, IfErr};
+ghost use Rattle.std.specs.Prelude.{◌≡◌, ◌≢◌, ◌-◌, ◌++◌, ◌∷◌, [], false, Ok, Err, map, length, OnOk, OnErr, IfOk};
 ghost use Rattle.std.specs.List.{list_any};
-ghost use Rattle.lr_host.specs.Told.{Left, Onward, Rose};
+ghost use Rattle.lr_host.specs.Told.{Left};
 ghost use Rattle.lr_glob.specs.Sights.{is_long};
-ghost use Rattle.lr_glob.specs.Stops.{IsFailedGlob};
-ghost use Rattle.lr_glob.specs.Words.{Comes, Stopped};
 ghost use Rattle.lr_glob.specs.declared.found.GlobStop.TheVariants as stop;
 ghost use Rattle.lr_looks.specs.Asked.{CanAsk, CanAskAll, AreTexts, word_of, rule_words, asked_by};
 ghost use Rattle.lr_host.specs.Counted.{WentBy};
@@ -23,44 +21,6 @@ use std::alloc::Global;
 
 // A run finds so many logs at most.
 const MOST_LOGS: usize = 16_384;
-
-// ---- what a word gives
-
-fn is_long(at: &Match) -> bool
-    ensures { result ≡ is_long at.now }
-{
-    !(at.path.bytes().len() <= 2048 && at.path.last().len() <= 255)
-}
-
-fn any_long(matches: &[Match]) -> bool
-    ensures { result ≡ list_any is_long matches.now }
-{
-    matches.iter().any(|at| is_long(at))
-}
-
-// What the word gives. `expand` says of paths that are too long only what it tells; so it is asked again of each path.
-fn matches_of<H: Host>(
-    alloc: Global,
-    host: &mut H,
-    word: &Text,
-    room: usize,
-) -> Result<Vec<Match>, GlobStop>
-    ensures told { IfOk result (λ matches. Left (Comes word.now room (Ok matches.items)) (H.told host.old) (H.told host.new)) }
-    ensures stopped { IfErr result (λ why. Left (Stopped word.now room why) (H.told host.old) (H.told host.new)) }
-    ensures short { IfOk result (λ matches. list_any is_long matches.items ≡ false) }
-    ensures cause { IfErr result (λ why. IsFailedGlob why → Rose (H.counts host.old).faults (H.counts host.new).faults) }
-    ensures counts { Onward (H.counts host.old) (H.counts host.new) }
-{
-    match expand(alloc, host, word, room) {
-        Ok(matches) => {
-            if any_long(&matches) {
-                return Err(GlobStop::LongName);
-            }
-            Ok(matches)
-        }
-        Err(why) => Err(why),
-    }
-}
 
 // ---- faults
 
@@ -215,7 +175,7 @@ fn look_at_word<H: Host>(
 {
     let _text = word.bytes();
     let room = room_behind(found.as_slice());
-    match matches_of(alloc, host, word, room) {
+    match expand(alloc, host, word, room) {
         Ok(matches) => add_matches(alloc, found, faults, set, rule, word, matches),
         Err(why) => add_stop(alloc, faults, set, rule, word, why),
     }
