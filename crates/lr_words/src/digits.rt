@@ -19,7 +19,7 @@ fn all_digits(word: &[u8]) -> bool
     word.iter().all(|byte| digit(*byte))
 }
 
-fn empty(word: &[u8]) -> bool
+pub(crate) fn empty(word: &[u8]) -> bool
     ensures { result ≡ is_empty word.now }
 {
     match word {

@@ -1,10 +1,11 @@
 // Paths that words name.
 ghost use Rattle.std.specs.Prelude.{◌≡◌, ◌&&◌, not, IfOk};
 ghost use Rattle.lr_rules.specs.Limits.{is_olddir};
-ghost use Rattle.lr_rules.specs.Path.{is_empty, has_bad_byte, root};
+ghost use Rattle.lr_rules.specs.Path.{has_bad_byte, root};
 ghost use Rattle.lr_words.specs.Names.{path_named, include_value};
 ghost use Rattle.lr_words.specs.Words.{is_climb, has_climb, olddir_value};
 
+use crate::digits::empty;
 use lr_rules::{ConfKind, Memory, Path, PathFault, Text, has_bad_byte, is_absolute};
 use std::alloc::Global;
 
@@ -70,15 +71,6 @@ fn is_olddir(word: &[u8]) -> bool
     ensures { result ≡ is_olddir word.now }
 {
     names_path(word) && word.len() <= 512
-}
-
-fn empty(word: &[u8]) -> bool
-    ensures { result ≡ is_empty word.now }
-{
-    match word {
-        [] => true,
-        [_, ..] => false,
-    }
 }
 
 /// The directory of `olddir`, as it is written: absolute, or from the log's directory on. BadPath: it is empty, has more
