@@ -1,5 +1,5 @@
 // A dry run: it looks, and plans, and leaves all as it is.
-ghost use Rattle.std.specs.Prelude.{◌≡◌, ◌≢◌, ◌+◌, ◌≤◌, ◌++◌, ◌∷◌, [], List, true, Ok, Err, IfOk, OnOk, OnErr, length, nat_le};
+ghost use Rattle.std.specs.Prelude.{◌≡◌, ◌≢◌, ◌+◌, ◌≤◌, ◌++◌, [], List, true, Ok, Err, IfOk, OnOk, OnErr, length, nat_le};
 ghost use Rattle.std.specs.Prelude.{vec_len};
 ghost use Rattle.std.specs.Vec.{vec_capacity};
 ghost use Rattle.lr_rules.specs.declared.clock.Clock.{Clock};
@@ -21,7 +21,7 @@ ghost use Rattle.lr_run.specs.Trying.{PlansOn, PlansByOn, TriesOn};
 use crate::answer::{Ran, RunStop};
 use crate::known::known_state;
 use crate::ready::{add_all, bring_up_to};
-use crate::work::add_too_big;
+use crate::work::{add_fault, add_too_big};
 use lr_family::{dir_fault, look_for_dir};
 use lr_host::Host;
 use lr_looks::look_all;
@@ -30,15 +30,6 @@ use lr_planning::plan;
 use lr_rules::{Civil, Clock, Fault, Memory, Path, Rules, Settings};
 use lr_state::{State, part_path};
 use std::alloc::Global;
-
-// Adds a fault for which there is room.
-fn add_fault(faults: &mut Vec<Fault>, fault: Fault)
-    requires { vec_len faults.old + 2 ≤ vec_capacity faults.old }
-    ensures faults { faults.new.items ≡ faults.old.items ++ fault ∷ [] }
-    ensures room { vec_len faults.new + 1 ≤ vec_capacity faults.new }
-{
-    faults.push_reserved(fault);
-}
 
 // Whether the text of the state that a plan would leave is small enough, however its rotations end.
 fn is_small(

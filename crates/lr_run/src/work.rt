@@ -122,8 +122,8 @@ fn look_and_act<H: Host>(
     )
 }
 
-// Adds the fault of a state of which nothing is known, for which there is room.
-fn add_unknown(faults: &mut Vec<Fault>, fault: Fault)
+/// Adds a fault for which there is room.
+pub fn add_fault(faults: &mut Vec<Fault>, fault: Fault)
     requires { vec_len faults.old + 2 ≤ vec_capacity faults.old }
     ensures faults { faults.new.items ≡ faults.old.items ++ fault ∷ [] }
     ensures room { vec_len faults.new + 1 ≤ vec_capacity faults.new }
@@ -162,7 +162,7 @@ pub fn work<H: Host>(
             )
         }
         Err(fault) => {
-            add_unknown(&mut progress.faults, fault);
+            add_fault(&mut progress.faults, fault);
             Ok(())
         }
     }

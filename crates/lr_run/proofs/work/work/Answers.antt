@@ -21,13 +21,13 @@ pub returns-in-Ok-clause-some : goal.returns-in-Ok-clause-some
 returns-in-Ok-clause-some g c = behind_state c.look_and_act.result c.args.settings.now.state c.args.rules.now.sets c.args.clock.now (asking c.args.settings.now.force c.args.settings.now.mailer) c.in-Ok.remembered _ (rw c.in-Ok.is at c.in_ok-remembered.ensures.told) c.look_and_act.ensures.some
 
 pub returns-in-Err-clause-told : goal.returns-in-Err-clause-told
-returns-in-Err-clause-told g c = unknown_done c.args.settings.now.state c.args.rules.now.sets c.args.clock.now (asking c.args.settings.now.force c.args.settings.now.mailer) c.args.reached.now c.in-Err.fault c.args.progress.now.faults.items c.add_unknown.new.faults.items c.requires.none (rw c.in-Err.is at c.in_ok-remembered.ensures.told) c.add_unknown.ensures.faults
+returns-in-Err-clause-told g c = unknown_done c.args.settings.now.state c.args.rules.now.sets c.args.clock.now (asking c.args.settings.now.force c.args.settings.now.mailer) c.args.reached.now c.in-Err.fault c.args.progress.now.faults.items c.add_fault.new.faults.items c.requires.none (rw c.in-Err.is at c.in_ok-remembered.ensures.told) c.add_fault.ensures.faults
 
 pub returns-in-Ok-clause-went : goal.returns-in-Ok-clause-went
 returns-in-Ok-clause-went g c = went_behind c.look_and_act.result c.args.progress.now.faults.items c.look_and_act.new.progress.faults.items _ _ _ c.in_ok-remembered.ensures.counts c.look_and_act.ensures.went
 
 pub returns-in-Err-clause-went : goal.returns-in-Err-clause-went
 returns-in-Err-clause-went g c = record {
-  adds = unknown_counted c.args.settings.now.state c.in-Err.fault c.args.progress.now.faults.items c.add_unknown.new.faults.items _ _ c.add_unknown.ensures.faults (c.in_ok-remembered.ensures.only c.in-Err.fault (ap Ok c.in-Err.is)) (λ kind path is. c.in_ok-remembered.ensures.counted kind path (ap Ok (c.in-Err.is ∙ ap Err is))) c.in_ok-remembered.ensures.counts.0;
+  adds = unknown_counted c.args.settings.now.state c.in-Err.fault c.args.progress.now.faults.items c.add_fault.new.faults.items _ _ c.add_fault.ensures.faults (c.in_ok-remembered.ensures.only c.in-Err.fault (ap Ok c.in-Err.is)) (λ kind path is. c.in_ok-remembered.ensures.counted kind path (ap Ok (c.in-Err.is ∙ ap Err is))) c.in_ok-remembered.ensures.counts.0;
   onward = c.in_ok-remembered.ensures.counts;
 }
