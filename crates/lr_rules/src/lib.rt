@@ -18,7 +18,6 @@ mod civil;
 mod clock;
 mod copies;
 mod fault;
-mod fault_copy;
 mod form;
 mod listed;
 mod memory;

@@ -15,6 +15,7 @@ mod acting;
 mod answer;
 mod asked;
 mod dry;
+mod fault_copy;
 mod known;
 mod laws;
 mod locked;

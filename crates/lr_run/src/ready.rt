@@ -10,6 +10,7 @@ ghost use Rattle.lr_state.specs.Measured.{measured_text};
 ghost use Rattle.lr_run.specs.Runs.{logs_in};
 ghost use Rattle.lr_run.specs.Internal.{IsRunReady, MayBeReady};
 
+use crate::fault_copy::copy_fault;
 use crate::paths::logs_of_plan;
 use lr_acts::{Progress, take_room};
 use lr_plan::{Plan, SetSteps};
@@ -51,7 +52,7 @@ pub fn add_all(alloc: Global, faults: &mut Vec<Fault>, more: &[Fault]) -> Result
     ensures { OnOk result (faults.new.items ≡ faults.old.items ++ more.now) }
 {
     for fault in more {
-        faults.push(fault.copy(alloc)?)?;
+        faults.push(copy_fault(alloc, fault)?)?;
     }
     Ok(())
 }

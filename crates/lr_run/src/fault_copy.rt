@@ -2,7 +2,7 @@
 ghost use Rattle.std.specs.Prelude.{◌≡◌, IfOk};
 ghost use Rattle.lr_rules.specs.declared.fault.Fault.TheVariants as fault;
 
-use crate::{CallKind, ConfKind, Ended, Fault, Memory, Path, Phase, Text};
+use lr_rules::{CallKind, ConfKind, Ended, Fault, Memory, Path, Phase, Text};
 use std::alloc::Global;
 
 fn conf(alloc: Global, file: &Path, line: u32, kind: ConfKind) -> Result<Fault, Memory>
@@ -92,33 +92,31 @@ fn too_long(alloc: Global, path: &Path) -> Result<Fault, Memory>
     Ok(Fault::TooLong(path.copy(alloc)?))
 }
 
-impl Fault {
-    /// An equal fault.
-    pub fn copy(&self, alloc: Global) -> Result<Fault, Memory>
-        ensures { IfOk result (λ copy. copy ≡ self.now) }
-    {
-        match self {
-            Fault::Conf { file, line, kind } => conf(alloc, file, *line, *kind),
-            Fault::Clock => Ok(Fault::Clock),
-            Fault::Zone(why) => Ok(Fault::Zone(*why)),
-            Fault::State { line, kind } => Ok(Fault::State {
-                line: *line,
-                kind: *kind,
-            }),
-            Fault::Missing(word) => missing(alloc, word),
-            Fault::NotFile(path) => not_file(alloc, path),
-            Fault::NoDir(path) => no_dir(alloc, path),
-            Fault::Duplicate(path) => duplicate(alloc, path),
-            Fault::Overlap(first, other) => overlap(alloc, first, other),
-            Fault::Taken(path) => taken(alloc, path),
-            Fault::Unfinished(path) => unfinished(alloc, path),
-            Fault::TooHigh(path) => too_high(alloc, path),
-            Fault::LongName(word) => long_name(alloc, word),
-            Fault::TooMany(word) => too_many(alloc, word),
-            Fault::TooLong(path) => too_long(alloc, path),
-            Fault::Call(kind, path) => call(alloc, *kind, path),
-            Fault::Script(phase, on, ended) => script(alloc, *phase, on, *ended),
-            Fault::Out => Ok(Fault::Out),
-        }
+/// An equal fault.
+pub fn copy_fault(alloc: Global, from: &Fault) -> Result<Fault, Memory>
+    ensures { IfOk result (λ copy. copy ≡ from.now) }
+{
+    match from {
+        Fault::Conf { file, line, kind } => conf(alloc, file, *line, *kind),
+        Fault::Clock => Ok(Fault::Clock),
+        Fault::Zone(why) => Ok(Fault::Zone(*why)),
+        Fault::State { line, kind } => Ok(Fault::State {
+            line: *line,
+            kind: *kind,
+        }),
+        Fault::Missing(word) => missing(alloc, word),
+        Fault::NotFile(path) => not_file(alloc, path),
+        Fault::NoDir(path) => no_dir(alloc, path),
+        Fault::Duplicate(path) => duplicate(alloc, path),
+        Fault::Overlap(first, other) => overlap(alloc, first, other),
+        Fault::Taken(path) => taken(alloc, path),
+        Fault::Unfinished(path) => unfinished(alloc, path),
+        Fault::TooHigh(path) => too_high(alloc, path),
+        Fault::LongName(word) => long_name(alloc, word),
+        Fault::TooMany(word) => too_many(alloc, word),
+        Fault::TooLong(path) => too_long(alloc, path),
+        Fault::Call(kind, path) => call(alloc, *kind, path),
+        Fault::Script(phase, on, ended) => script(alloc, *phase, on, *ended),
+        Fault::Out => Ok(Fault::Out),
     }
 }
