@@ -1,5 +1,5 @@
 // What the acts came to so far.
-ghost use Rattle.std.specs.Prelude.{◌≡◌, ◌+◌, ◌++◌, ◌∷◌, []};
+ghost use Rattle.std.specs.Prelude.{◌≡◌, ◌++◌, ◌∷◌, []};
 ghost use Rattle.lr_acts.specs.Adding.{HasRoom, FillsRoom};
 
 use lr_plan::Mark;

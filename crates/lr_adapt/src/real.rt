@@ -177,7 +177,6 @@ impl<R> RealHost<R> {
 #[tactic(auto, using(lr_host::proofs::Entered::untold))]
 impl<R: Files<File = File> + Processes + AllocGlobal + Eprint + Clock + Drop> Host for RealHost<R> {
     ghost use Rattle.std.specs.Prelude.{None, is_some};
-    ghost use Rattle.lr_host.specs.Told.{Counts};
 
     ghost told = { λ _. None };
 

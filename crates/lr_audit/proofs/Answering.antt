@@ -1,21 +1,19 @@
 -- What a call prints, and so answers.
-use Rattle.std.proofs.Common.{◌≡◌, ◌≢◌, ◌≤◌, ◌⊎◌, inl, inr, ℕ, List, ◌++◌, Option, Some, None, Result, Ok, Err, OnOk, OnErr, refl, sym, ap, ◌∙◌, subst}
+use Rattle.std.proofs.Common.{◌≡◌, ◌⊎◌, inl, inr, ℕ, List, Option, None, Result, Ok, Err, OnOk, OnErr, refl, sym, ap, ◌∙◌, subst}
 use Rattle.std.specs.Prelude.{Contains, IfOk}
 use Rattle.lr_rules.specs.declared.fault.Fault.{Fault}
 use Rattle.lr_rules.specs.declared.fault.Fault.TheVariants as fault
 use Rattle.lr_rules.specs.declared.fault.Notice.{Notice}
 use Rattle.lr_rules.specs.declared.memory.Memory.{Memory}
 use Rattle.lr_host.specs.declared.sink.SinkFault.{SinkFault}
-use Rattle.lr_host.specs.Told.{Counts, Rose}
+use Rattle.lr_host.specs.Told.{Rose}
 use Rattle.lr_report.specs.declared.outcome.Outcome.{Outcome}
 use Rattle.lr_report.specs.declared.outcome.Outcome.TheVariants.{BadWords, Held, OutOfMemory}
-use Rattle.lr_report.specs.declared.outcome.Report.{Report}
 use Rattle.lr_report.specs.Outcome.{outcome_text}
 use Rattle.lr_report.specs.Puts.{Took, TookPart}
 use Rattle.lr_report.specs.Reported.{HasNoOut}
 use Rattle.lr_report.proofs.Reported.{no_out_among, notices_in, faults_in}
 use Rattle.lr_shown.specs.Puts.{Puts}
-use Rattle.lr_audited.specs.declared.line.Audit.{Audit}
 use Rattle.lr_audit.specs.declared.told.Told.{Told}
 use Rattle.lr_audit.specs.Came.{answer_of, audit_told}
 use Rattle.lr_audit.specs.Says.{said_text, with_out, PrintsAnswer, whole, broken_off, WhereDone}

@@ -1,7 +1,6 @@
 -- What the parts of a call came to, put together.
-use Rattle.std.proofs.Common.{◌≡◌, ◌≢◌, ◌≤◌, ◌⊎◌, inl, inr, ℕ, true, List, [], ◌∷◌, ◌++◌, Option, Some, None, Result, Ok, Err, OnOk, OnErr, refl, sym, ap, ◌∙◌, subst, arith, append_assoc}
-use Rattle.std.specs.Prelude.{ℤ, All, IfOk, IfErr}
-use Rattle.std.proofs.lemmas.List.{append-nil}
+use Rattle.std.proofs.Common.{◌≡◌, ◌≤◌, List, [], ◌∷◌, ◌++◌, Option, Some, None, Result, Ok, Err, OnErr, refl, sym, ap, ◌∙◌, subst, arith, append_assoc}
+use Rattle.std.specs.Prelude.{ℤ, All, IfOk}
 use Rattle.std.proofs.lemmas.List.Elements.{recursion_from_All}
 use Rattle.lr_rules.specs.declared.clock.Clock.{Clock}
 use Rattle.lr_rules.specs.declared.fault.Fault.{Fault}
@@ -12,9 +11,9 @@ use Rattle.lr_rules.specs.declared.rule.Rule.{Rule}
 use Rattle.lr_rules.specs.declared.rules.Rules.{Rules}
 use Rattle.lr_host.specs.declared.entry.Entry.{Entry}
 use Rattle.lr_host.specs.declared.journal.Journal.{Journal}
-use Rattle.lr_host.specs.Counted.{calls_in, RoseBy, AreCounted, Went, WentBy}
+use Rattle.lr_host.specs.Counted.{calls_in, RoseBy, AreCounted, Went}
 use Rattle.lr_host.specs.Quiet.{AreQuiet}
-use Rattle.lr_host.specs.Told.{Counts, Left, NoneFell, Onward, Then, not_told, is_told}
+use Rattle.lr_host.specs.Told.{Counts, Left, NoneFell, not_told, is_told}
 use Rattle.lr_host.proofs.Counts.{counted_on}
 use Rattle.lr_host.proofs.Left.{left_as, left_first, left_then}
 use Rattle.lr_host.proofs.Quiet.{quiet_both}
@@ -31,7 +30,6 @@ use Rattle.lr_laws_looks.proofs.Quiet.{whole_quiet, part_quiet}
 use Rattle.lr_clock.specs.declared.clock.ClockStop.{ClockStop}
 use Rattle.lr_clock.specs.declared.clock.ClockStop.TheVariants as stop
 use Rattle.lr_clock.specs.Clock.{ShowsClock, LacksClock, ClockStopped, HasClock, IsClockFault, IsClocked, with_clock, without_clock, clock_answer}
-use Rattle.lr_report.specs.declared.outcome.Outcome.{Outcome}
 use Rattle.lr_report.specs.declared.outcome.Outcome.TheVariants.{Done, OutOfMemory}
 use Rattle.lr_report.specs.Reported.{AreReported}
 use Rattle.lr_audited.specs.declared.line.Audit.{Audit}
@@ -41,11 +39,9 @@ use Rattle.lr_command.specs.Words.{mail_program}
 use Rattle.lr_report.proofs.Reported.{no_out_of, notices_in, faults_in}
 use Rattle.lr_include.proofs.Scriptless.{none_scripted}
 use Rattle.lr_clock.proofs.Quiet.{clock_quiet, lost_quiet}
-use Rattle.lr_audited.specs.Audits.{IsAudit}
 use Rattle.lr_audit.specs.Audits.{AddsSaw, Audits}
-use Rattle.lr_audit.specs.Came.{Came, ShowsConfs, ShowsCame, answer_of, audit_told, CallEnds, no_clock, no_memory, audited}
+use Rattle.lr_audit.specs.Came.{Came, answer_of, audit_told, CallEnds, no_clock, no_memory, audited}
 use Rattle.lr_audit.specs.Internal.{CameTo, RulesCame, ConfsCame}
-use Rattle.lr_audit.proofs.Filing.{went_by}
 use Rattle.lr_audit.proofs.Summing.{saw_quiet}
 
 -- ---- the logs of rules

@@ -1,6 +1,6 @@
 -- Looks at the names in directories, one behind another.
-use Rattle.std.proofs.Common.{◌≡◌, ◌≢◌, ◌⊎◌, inl, inr, ⊎_elim, ℕ, ◌<◌, ◌≤◌, ◌+◌, Bool, true, false, cond, List, [], ◌∷◌, ◌++◌, length, take, get_or, map, Option, Some, None, Result, Ok, Err, OnOk, OnErr, refl, sym, ap, ◌∙◌, subst, arith, append_assoc}
-use Rattle.std.specs.Prelude.{filter, is_none, All, IfErr}
+use Rattle.std.proofs.Common.{◌≡◌, ◌≢◌, ⊎_elim, ℕ, ◌<◌, ◌≤◌, ◌+◌, Bool, true, false, cond, List, [], ◌∷◌, ◌++◌, length, take, get_or, map, Option, Some, None, Result, Ok, Err, OnOk, OnErr, refl, sym, ap, ◌∙◌, subst, append_assoc}
+use Rattle.std.specs.Prelude.{filter, is_none, All}
 use Rattle.std.specs.List.{flat_map}
 use Rattle.std.proofs.lemmas.List.{append-nil, map-append, take_more, take_all}
 use Rattle.std.proofs.lemmas.List.Elements.{filter-append, All-append, All-cons, All-nil, All-head, All-tail}
@@ -19,15 +19,14 @@ use Rattle.lr_host.specs.declared.entry.Entry.TheVariants as entry
 use Rattle.lr_host.specs.declared.journal.Journal.{Journal}
 use Rattle.lr_host.specs.Counted.{Went, WentBy}
 use Rattle.lr_host.specs.Listing.{HasListed}
-use Rattle.lr_host.specs.Looks.{Sees, IsNothing}
 use Rattle.lr_host.specs.Quiet.{AreQuiet}
-use Rattle.lr_host.specs.Told.{Left, Counts, Onward, Rose, Then}
-use Rattle.lr_host.proofs.Counts.{went_same, went_call, went_then, went_behind, onward_on}
+use Rattle.lr_host.specs.Told.{Left, Counts, Onward, Rose}
+use Rattle.lr_host.proofs.Counts.{went_same, went_call}
 use Rattle.lr_host.proofs.Left.{left_as, left_first, left_then}
 use Rattle.lr_host.proofs.Quiet.{quiet_both, sees_quiet, then_quiet}
 use Rattle.lr_family.specs.declared.stand.StandStop.{StandStop}
 use Rattle.lr_family.specs.declared.stand.StandStop.TheVariants as stop
-use Rattle.lr_family.specs.Listed.{ShowsListing, NotListed, NotListedAt, ShowsNoDir}
+use Rattle.lr_family.specs.Listed.{ShowsListing, NotListed, NotListedAt}
 use Rattle.lr_family.specs.Stands.{IsFailedStand}
 use Rattle.lr_audit.specs.Files.{are_path_bytes, paths_in, FileSight, file_path, file_by, fault_by, look_by, sight_file, sight_fault, file_looks, LookedAtEach, ShowsDir, listed, not_listed, no_directory, list_fault, DirSight, IsShown, ShowsDirs, AddsFiles}
 

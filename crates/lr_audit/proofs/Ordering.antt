@@ -1,6 +1,6 @@
 -- Directories, each once and in order of bytes.
-use Rattle.std.proofs.Common.{◌≡◌, ℕ, true, List, sym, ap, subst}
-use Rattle.std.specs.Prelude.{◌↔◌, Contains, Any}
+use Rattle.std.proofs.Common.{◌≡◌, List, sym, subst}
+use Rattle.std.specs.Prelude.{Contains}
 use Rattle.std.specs.Cmp.Lexicographic.{slice_cmp}
 use Rattle.std.specs.List.{dedup}
 use Rattle.std.specs.List.Sorted.{IsPermutation, IsSortedByKey, IsStrictlySortedBy}

@@ -1,10 +1,8 @@
 -- What is told of a call.
-use Rattle.std.proofs.Common.{◌≡◌, ◌⊎◌, ℕ, Bool, true, false, cond, ◌&&◌, bytes_eq, List, [], ◌∷◌, map, Option, Some, None, Result, Ok, Err, refl, sym, ap, ◌∙◌, subst}
+use Rattle.std.proofs.Common.{◌≡◌, ◌⊎◌, ℕ, Bool, true, false, cond, ◌&&◌, bytes_eq, List, [], ◌∷◌, map, Option, Some, None, Result, refl, sym, ◌∙◌, subst}
 use Rattle.std.specs.Prelude.{ℤ, Contains, IfOk, codes}
 use Rattle.std.proofs.lemmas.Option.{none-some, same_Some}
-use Rattle.lr_rules.specs.declared.fault.Fault.{Fault}
 use Rattle.lr_rules.specs.declared.fault.Fault.TheVariants as fault
-use Rattle.lr_rules.specs.declared.fault.Notice.{Notice}
 use Rattle.lr_rules.specs.declared.memory.Memory.{Memory}
 use Rattle.lr_rules.specs.declared.path.Path.{Path}
 use Rattle.lr_rules.specs.Path.{cleaned}
@@ -27,7 +25,7 @@ use Rattle.lr_report.specs.Reported.{AreReported}
 use Rattle.lr_audited.specs.declared.line.Audit.{Audit}
 use Rattle.lr_audit.specs.declared.told.Told.{Told}
 use Rattle.lr_audit.specs.declared.words.Wanted.{Wanted}
-use Rattle.lr_audit.specs.Came.{Came, answer_of, audit_told, CallEnds, CallShows, not_read, read}
+use Rattle.lr_audit.specs.Came.{answer_of, audit_told, CallEnds, CallShows, not_read, read}
 use Rattle.lr_audit.specs.Internal.{CameTo}
 use Rattle.lr_audit.specs.Says.{said_text, with_out, PrintsAnswer, WhereDone, AuditSays}
 use Rattle.lr_audit.specs.Words.{are_names, wanted, wanted_behind, wanted_by}

@@ -1,19 +1,11 @@
 -- A call changes nothing: what it leaves are looks, listings and reads.
-use Rattle.std.proofs.Common.{ℕ, List, ◌++◌, Option, sym, subst}
+use Rattle.std.proofs.Common.{List, ◌++◌, Option, sym, subst}
 use Rattle.std.specs.Prelude.{ℤ}
 use Rattle.lr_host.specs.declared.entry.Entry.{Entry}
-use Rattle.lr_host.specs.declared.journal.Journal.{Journal}
-use Rattle.lr_host.specs.Told.{Then, Left}
-use Rattle.lr_host.specs.Reading.{ReadsAll}
-use Rattle.lr_host.specs.Looks.{IsFile}
 use Rattle.lr_host.specs.Quiet.{AreQuiet}
-use Rattle.lr_host.proofs.Left.{left_as}
 use Rattle.lr_host.proofs.Quiet.{quiet_both}
 use Rattle.lr_due.specs.declared.tz.Zone.{Zone}
 use Rattle.lr_include.proofs.AllQuiet.{reads_quiet}
-use Rattle.lr_clock.specs.declared.clock.ClockStop.{ClockStop}
-use Rattle.lr_clock.specs.declared.clock.ClockStop.TheVariants as stop
-use Rattle.lr_clock.specs.Clock.{ClockStopped}
 use Rattle.lr_laws_looks.proofs.Quiet.{whole_quiet}
 use Rattle.lr_report.specs.declared.outcome.Outcome.{Outcome}
 use Rattle.lr_clock.proofs.Quiet.{clock_quiet, lacks_quiet}

@@ -1,5 +1,5 @@
 -- The parts of an audit, one behind another.
-use Rattle.std.proofs.Common.{◌≡◌, List, [], ◌++◌, Option, Result, Ok, Err, OnOk, OnErr, refl, sym, ap, ◌∙◌, subst}
+use Rattle.std.proofs.Common.{◌≡◌, List, [], ◌++◌, Option, Result, Ok, Err, OnErr, sym, ap, ◌∙◌, subst}
 use Rattle.std.specs.Prelude.{IfOk}
 use Rattle.std.specs.Cmp.Lexicographic.{slice_cmp}
 use Rattle.std.specs.Ordering.{nat_cmp}
@@ -16,7 +16,7 @@ use Rattle.lr_host.proofs.Left.{left_as}
 use Rattle.lr_plan.specs.declared.looks.Looks.{Looks}
 use Rattle.lr_audited.specs.declared.line.Audit.{Audit}
 use Rattle.lr_audited.specs.Audits.{IsAudit}
-use Rattle.lr_audit.specs.Audits.{SawFiles, AddsSaw, Audits}
+use Rattle.lr_audit.specs.Audits.{AddsSaw, Audits}
 use Rattle.lr_audit.specs.Dirs.{asked_dirs, AreDirs}
 use Rattle.lr_audit.specs.Files.{ShowsDirs, AddsFiles}
 use Rattle.lr_audit.proofs.Filing.{dirs_quiet}

@@ -1,6 +1,6 @@
 -- What an audit saw of files is true of the disk.
-use Rattle.std.proofs.Common.{◌≡◌, ◌≢◌, ◌⊎◌, inl, inr, ⊎_elim, ℕ, Bool, true, false, cond, List, [], ◌∷◌, ◌++◌, map, reverse, Option, Some, None, refl, sym, ap, ◌∙◌, subst}
-use Rattle.std.specs.Prelude.{All, Contains, filter, is_none}
+use Rattle.std.proofs.Common.{◌≡◌, ◌⊎◌, inl, inr, ⊎_elim, ℕ, Bool, true, false, cond, List, [], ◌∷◌, map, reverse, Option, Some, None, refl, sym, ap, ◌∙◌, subst}
+use Rattle.std.specs.Prelude.{Contains, filter, is_none}
 use Rattle.std.specs.List.Sorted.{IsPermutation}
 use Rattle.std.proofs.lemmas.List.Elements.{All-contains}
 use Rattle.std.proofs.lemmas.List.Sorted.{Contains-permutation, IsPermutation-sym}
@@ -25,15 +25,15 @@ use Rattle.lr_host.specs.Lists.{IsIn}
 use Rattle.lr_host.specs.Looks.{Sees as SeesPath, IsFile, IsDir, IsNoDir, IsNothing}
 use Rattle.lr_host.specs.Opening.{IsJournal}
 use Rattle.lr_host.specs.Quiet.{ChangeNothing}
-use Rattle.lr_host.specs.Told.{Made, Then}
+use Rattle.lr_host.specs.Told.{Made}
 use Rattle.lr_host.specs.World.{Past, World, world, names}
 use Rattle.lr_host.proofs.Lists.{in_from, in_to, in_map, in_unmap, in_front, in_back, from_reverse, to_flat, of_flat}
-use Rattle.lr_host.proofs.Looked.{nothing_no_file, nothing_no_dir, seen_file, seen_none}
+use Rattle.lr_host.proofs.Looked.{nothing_no_file, seen_file}
 use Rattle.lr_host.proofs.More.{file_more, directory_more}
 use Rattle.lr_host.proofs.Quiet.{IsAny, Moment, moment, quiet_more, since_any}
 use Rattle.lr_laws.specs.Rooted.{IsParted}
 use Rattle.lr_laws.proofs.StandsIn.{stands_in}
-use Rattle.lr_family.specs.Listed.{ShowsListing, NotListedAt, ShowsNoDir}
+use Rattle.lr_family.specs.Listed.{NotListedAt}
 use Rattle.lr_laws_looks.specs.Finds.{StoodOrCame}
 use Rattle.lr_laws_looks.proofs.Came.{quiet_prefix, stood_or_came}
 use Rattle.lr_laws_looks.proofs.Families.{file_seen}

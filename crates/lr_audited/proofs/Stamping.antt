@@ -1,5 +1,5 @@
 -- Of a plan each log with dated members gets the name of the clock's moment, with the serial number that comes next.
-use Rattle.std.proofs.Common.{◌≡◌, ℕ, Bool, true, false, cond, List, [], ◌∷◌, ◌++◌, Option, Some, Result, Ok, Err, refl, sym, ap, ◌∙◌, subst}
+use Rattle.std.proofs.Common.{◌≡◌, Bool, true, false, cond, List, [], ◌∷◌, Some, Result, Ok, Err, refl, sym, ap, ◌∙◌, subst}
 use Rattle.std.specs.Prelude.{All, IfOk}
 use Rattle.std.proofs.lemmas.List.Elements.{All-append, All-cons, All-nil, All-head, All-tail}
 use Rattle.lr_rules.specs.declared.clock.Clock.{Clock}
@@ -26,7 +26,7 @@ use Rattle.lr_plan.specs.declared.plan.LogPlan.{LogPlan}
 use Rattle.lr_plan.specs.declared.plan.Plan.{Plan}
 use Rattle.lr_plan.specs.declared.plan.SetPlan.{SetPlan}
 use Rattle.lr_plan.specs.Asked.{Asked, asking}
-use Rattle.lr_plan.specs.Planned.{makes_dir, empty_stand, stand_for, standing, first_path, make_for, hindrances, ready_for, log_plan, none_hinders, plans_of, where_due, log_plans, set_plan, all_plans, decision, plan_of, CanPlan, CanPlanSet, CanPlanAll}
+use Rattle.lr_plan.specs.Planned.{makes_dir, empty_stand, stand_for, first_path, make_for, hindrances, ready_for, log_plan, none_hinders, plans_of, where_due, log_plans, set_plan, all_plans, decision, plan_of, CanPlan, CanPlanAll}
 use Rattle.lr_laws_looks.proofs.Hindrances.{free_of_members}
 use Rattle.lr_audited.specs.declared.line.Why.{Why}
 use Rattle.lr_audited.specs.Audits.{going_of}

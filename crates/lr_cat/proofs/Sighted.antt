@@ -1,5 +1,5 @@
 -- What a call leaves between its begin and its end: looks, listings and reads.
-use Rattle.std.proofs.Common.{◌≢◌, List, [], ◌∷◌, ◌++◌, Bool, Option, Result, sym, subst}
+use Rattle.std.proofs.Common.{List, [], ◌∷◌, Bool, Option, Result, sym, subst}
 use Rattle.lr_rules.specs.declared.path.Path.{Path}
 use Rattle.lr_rules.specs.declared.rule.Naming.{Naming}
 use Rattle.lr_rules.specs.declared.fault.Fault.{Fault}

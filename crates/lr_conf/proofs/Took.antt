@@ -12,7 +12,7 @@ use Rattle.lr_conf.specs.declared.stop.Include.{Include}
 use Rattle.lr_conf.specs.declared.stop.LayerStop.{LayerStop}
 use Rattle.lr_conf.specs.declared.stop.LayerStop.TheVariants as stop
 use Rattle.lr_conf.specs.Meaning.{Line, End, Meaning, ◌and◌, told, conf}
-use Rattle.lr_conf.specs.Internal.Draft.{step, gives, run, kept, state_of, coming_from, Stepped, Unchanged, Steps, TookIn, EndsFile}
+use Rattle.lr_conf.specs.Internal.Draft.{gives, run, kept, state_of, coming_from, Stepped, Unchanged, Steps, TookIn, EndsFile}
 
 abbrev all_of : List Rule → List Notice → List Fault → Meaning
 all_of rules notices faults = record { rules = rules; notices = notices; faults = faults }

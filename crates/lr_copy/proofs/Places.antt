@@ -1,9 +1,6 @@
 -- Each call of a copy fits, wherever those before it left the disk.
-use Rattle.std.proofs.Common.{◌≡◌, ◌≢◌, ⊎_elim, inl, refl, sym, ◌∙◌, ap, subst, true, List, [], ◌∷◌, reverse, Option, Some, None}
+use Rattle.std.proofs.Common.{◌≡◌, ⊎_elim, refl, sym, ◌∙◌, ap, subst, true, List, [], ◌∷◌, Option, Some, None}
 use Rattle.std.specs.Prelude.{filter}
-use Rattle.std.proofs.lemmas.List.{reverse-reverse}
-use Rattle.lr_rules.specs.declared.path.Path.{Path}
-use Rattle.lr_host.specs.declared.thing.Thing.{Thing}
 use Rattle.lr_host.specs.declared.thing.Thing.TheVariants as thing
 use Rattle.lr_host.specs.declared.entry.Entry.{Entry}
 use Rattle.lr_host.specs.declared.entry.Entry.TheVariants as entry
@@ -11,11 +8,9 @@ use Rattle.lr_host.specs.declared.journal.Journal.{Journal}
 use Rattle.lr_host.specs.World.{Past, ◌▸◌, past, world, Names, names, put}
 use Rattle.lr_host.specs.Fits.{Fits, IsFileAt, IsDirectoryAt}
 use Rattle.lr_host.specs.Steps.{is_naming}
-use Rattle.lr_host.specs.Told.{Made, at_first, by_writer, by_tool, Left, not_told, is_told, Can, CanCall, WhereTold}
-use Rattle.lr_host.proofs.Each.{filter_reverse, none_passed}
-use Rattle.lr_host.proofs.Left.{still_step}
-use Rattle.lr_host.proofs.Looked.{nothing_no_dir, file_no_dir}
-use Rattle.lr_host.proofs.More.{IsMore, more_on, made_more, wrote_names, file_same}
+use Rattle.lr_host.specs.Told.{Left, Can, CanCall, WhereTold}
+use Rattle.lr_host.proofs.Looked.{file_no_dir}
+use Rattle.lr_host.proofs.More.{made_more}
 use Rattle.lr_host.proofs.Names.{put_here, put_other}
 use Rattle.lr_host.proofs.Stays.{Stays, left_still, left_one, told_as, dir_more, file_more, dir_put, file_put, no_dir}
 use Rattle.lr_copy.specs.declared.job.Job.{Job}

@@ -1,8 +1,8 @@
 -- The entries of a copy.
-use Rattle.std.specs.Prelude.{◌≡◌, ◌⊎◌, ℕ, List, [], ◌∷◌, ◌++◌, cond}
+use Rattle.std.specs.Prelude.{ℕ, List, [], ◌∷◌, ◌++◌, cond}
 use Rattle.lr_host.specs.declared.entry.Entry.{Entry}
 use Rattle.lr_host.specs.declared.entry.Entry.TheVariants.{Renames, Makes, Truncates, Unlinks, SyncsFile, SyncsDir}
-use Rattle.lr_host.specs.Told.{Then, Are, Maybe}
+use Rattle.lr_host.specs.Told.{Then, Are}
 use Rattle.lr_copy.specs.declared.job.Job.{Job}
 use Rattle.lr_copy.specs.Bytes.{AllBytes}
 

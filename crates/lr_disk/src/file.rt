@@ -1,5 +1,5 @@
 // A file in memory.
-ghost use Rattle.std.specs.Prelude.{◌≡◌, ◌≤◌, ◌<◌, ◌+◌, ◌++◌, ◌-◌, min, length, take, drop, OnOk, vec_len, vec_capacity};
+ghost use Rattle.std.specs.Prelude.{◌≡◌, ◌≤◌, ◌+◌, ◌-◌, min, length, take, drop, OnOk, vec_len, vec_capacity};
 ghost use Rattle.lr_disk.specs.State.{as_file, fed_file, synced_file, emptied_file, cut_file};
 
 use std::alloc::AllocError;

@@ -1,5 +1,5 @@
 // The names that stand in a directory.
-ghost use Rattle.std.specs.Prelude.{◌≡◌, ◌++◌, IfOk, OnOk, None, take, length};
+ghost use Rattle.std.specs.Prelude.{◌≡◌, ◌++◌, OnOk, None, take, length};
 ghost use Rattle.lr_rules.specs.Path.{path_fault};
 ghost use Rattle.lr_host.specs.Fits.{AreNamesIn};
 ghost use Rattle.lr_host.specs.Lists.{AreDistinct};

@@ -1,8 +1,8 @@
 // Whether an opening is a disk.
-ghost use Rattle.std.specs.Prelude.{◌≡◌, ◌≢◌, ◌↔◌, ◌<◌, ◌≤◌, ◌==◌, ℕ, IsTrue, Contains, All, map, length, count_by, [], ◌∷◌};
+ghost use Rattle.std.specs.Prelude.{◌≡◌, ◌≢◌, ◌↔◌, ◌<◌, ◌≤◌, ◌==◌, ℕ, IsTrue, Contains, All, length, count_by};
 ghost use Rattle.lr_rules.specs.Path.{parent_of};
-ghost use Rattle.lr_host.specs.Lists.{AreDistinct, IsNotIn};
-ghost use Rattle.lr_host.specs.Opening.{IsValid, opening_paths};
+ghost use Rattle.lr_host.specs.Lists.{AreDistinct};
+ghost use Rattle.lr_host.specs.Opening.{IsValid};
 ghost use Rattle.lr_disk.specs.Pairs.{keys};
 ghost use Rattle.lr_disk.specs.Names.{opening_pairs};
 

@@ -1,8 +1,5 @@
 // The members that a listing names.
 ghost use Rattle.std.specs.Prelude.{◌≡◌, bytes_eq, true, IfOk, OnOk};
-ghost use Rattle.std.specs.Ordering.{is_lt};
-ghost use Rattle.std.specs.List.Sorted.{IsPermutation, IsStrictlySortedBy};
-ghost use Rattle.std.specs.List.{dedup};
 ghost use Rattle.lr_rules.specs.Limits.{is_format, or_none};
 ghost use Rattle.lr_host.specs.Listing.{NamesRise};
 ghost use Rattle.lr_family.specs.Spots.{by_path, HasSpots, AreSpots, AddsSpot};

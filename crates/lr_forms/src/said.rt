@@ -1,5 +1,5 @@
 // What one line says by itself.
-ghost use Rattle.std.specs.Prelude.{◌≡◌, IfOk};
+ghost use Rattle.std.specs.Prelude.{◌≡◌};
 ghost use Rattle.lr_forms.specs.Says.{line_of, has_brace, closes};
 
 use crate::set::Set;

@@ -1,6 +1,6 @@
 // Scripts.
 ghost use Rattle.std.specs.Prelude.{◌≡◌};
-ghost use Rattle.lr_forms.specs.Says.{directive_of, phase_of, phase_named, script_in, script_says};
+ghost use Rattle.lr_forms.specs.Says.{directive_of, phase_of, script_in, script_says};
 
 use crate::row::directive_of;
 use crate::said::Said;

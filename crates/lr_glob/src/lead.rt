@@ -1,7 +1,6 @@
 // The parts of a word, one after another.
 ghost use Rattle.std.specs.Prelude.{◌≡◌, ◌∷◌, [], ◌++◌, OnOk, IfOk, IfErr};
 ghost use Rattle.lr_host.specs.Told.{Left, Onward, Rose};
-ghost use Rattle.lr_glob.specs.Parts.{parts_in};
 ghost use Rattle.lr_glob.specs.Rounds.{Led};
 ghost use Rattle.lr_glob.specs.Stops.{IsFailedGlob, NotLed};
 ghost use Rattle.lr_rules.specs.Path.{is_slash};

@@ -1,7 +1,5 @@
 // The paths that one part of a word gives in a directory.
-ghost use Rattle.std.specs.Prelude.{◌≡◌, ◌≢◌, OnOk, IfOk};
-ghost use Rattle.std.specs.List.{slice_split};
-ghost use Rattle.lr_rules.specs.Path.{is_slash};
+ghost use Rattle.std.specs.Prelude.{◌≢◌, OnOk, IfOk};
 ghost use Rattle.lr_rules.specs.Match.{literal_path};
 ghost use Rattle.lr_glob.specs.Gathers.{Gathers, AddsPaths};
 ghost use Rattle.lr_glob.specs.Parts.{JoinOf, PickOf};

@@ -1,13 +1,13 @@
 -- What reads of one path show.
-use Rattle.std.proofs.Common.{◌≡◌, ◌<◌, ◌≤◌, ◌+◌, ◌⊎◌, inl, inr, ℕ, Bool, true, false, ◌||◌, List, [], ◌∷◌, ◌++◌, length, refl, sym, ap, ◌∙◌, subst, append_assoc, append-nil, arith, length-append}
+use Rattle.std.proofs.Common.{◌≡◌, ◌<◌, ◌+◌, ◌⊎◌, inl, inr, ℕ, Bool, true, false, ◌||◌, List, [], ◌∷◌, ◌++◌, length, refl, sym, ap, ◌∙◌, subst, append_assoc, append-nil, arith, length-append}
 use Rattle.std.specs.List.{list_any}
 use Rattle.lr_rules.specs.declared.path.Path.{Path}
 use Rattle.lr_rules.specs.Path.{is_empty}
 use Rattle.lr_rules.proofs.Heads.{heads, tails}
 use Rattle.lr_host.specs.declared.entry.Entry.{Entry}
 use Rattle.lr_host.specs.declared.entry.Entry.TheVariants.{Reads}
-use Rattle.lr_host.specs.Told.{Each, Are, Then}
-use Rattle.lr_host.specs.Reading.{IsReadOf, text, is_last_read, ReadsOf, ReadsAll, to_limit, to_end}
+use Rattle.lr_host.specs.Told.{Each}
+use Rattle.lr_host.specs.Reading.{IsReadOf, text, is_last_read, ReadsAll, to_limit, to_end}
 use Rattle.lr_host.proofs.Each.{each_append}
 
 -- all of them are reads of the path

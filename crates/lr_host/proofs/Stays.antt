@@ -1,5 +1,5 @@
 -- Facts of names that stay where files come, and what one entry does to them.
-use Rattle.std.proofs.Common.{◌≡◌, ◌≢◌, ⊎_elim, inl, refl, sym, ◌∙◌, ap, subst, List, [], ◌∷◌, reverse, Option, Some, None}
+use Rattle.std.proofs.Common.{◌≡◌, ◌≢◌, ⊎_elim, sym, ◌∙◌, ap, subst, List, [], ◌∷◌, reverse, Option, Some, None}
 use Rattle.std.specs.Prelude.{filter}
 use Rattle.std.proofs.lemmas.List.{reverse-reverse}
 use Rattle.lr_rules.specs.declared.path.Path.{Path}

@@ -4,7 +4,6 @@ ghost use Rattle.lr_rules.specs.declared.fault.ConfKind.TheVariants as kinds;
 ghost use Rattle.lr_conf.specs.Meaning.{conf};
 ghost use Rattle.lr_conf.specs.Fold.{entered, file_of_layer};
 ghost use Rattle.lr_include.specs.declared.task.Piece.TheVariants as piece;
-ghost use Rattle.lr_include.specs.Stages.{ask_of};
 ghost use Rattle.lr_include.specs.Course.{SameRest, CourseTells, TellsAnswer, TakesPiece, ClosesFile, ToldFault};
 
 use crate::course::Course;

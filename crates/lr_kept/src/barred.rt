@@ -1,5 +1,5 @@
 // Which logs have a reserved name.
-ghost use Rattle.std.specs.Prelude.{◌≡◌, ◌<◌, length, MatchOption};
+ghost use Rattle.std.specs.Prelude.{◌≡◌, length, MatchOption};
 ghost use Rattle.lr_kept.specs.Barred.{AreOpened, HasNoName, IsFirstName, NoneShut, Opens};
 
 use crate::choice::Choice;

@@ -1,5 +1,5 @@
 -- The state file stays whole over a call: at each moment of it, and after each cut that the machine may make then.
-use Rattle.std.specs.Prelude.{◌≡◌, ◌≢◌, ◌⊎◌, ◌≤◌, ℕ, false, List, [], ◌∷◌, ◌++◌, length, reverse, codes, Option, Some, None}
+use Rattle.std.specs.Prelude.{◌≡◌, ◌≢◌, ◌⊎◌, ◌≤◌, ℕ, false, List, [], ◌∷◌, length, reverse, Option, Some, None}
 use Rattle.std.specs.List.{list_any}
 use Rattle.lr_rules.specs.declared.path.Path.{Path}
 use Rattle.lr_rules.specs.StatePath.{state_part}

@@ -7,7 +7,7 @@ ghost use Rattle.lr_host.specs.Opening.{IsJournal};
 ghost use Rattle.lr_host.specs.Quiet.{AttachedOnlySince};
 ghost use Rattle.lr_host.specs.Safe.{IsPrefix};
 ghost use Rattle.lr_host.specs.Told.{Made};
-ghost use Rattle.lr_host.specs.World.{Past, names};
+ghost use Rattle.lr_host.specs.World.{Past};
 ghost use Rattle.lr_laws.specs.Renewing.{MayRenew, Renews, IsWritten, HasText};
 ghost use Rattle.lr_laws.specs.StateWhole.{IsSettled, WritersSpareState, IsWholeAt};
 

@@ -1,5 +1,5 @@
 -- What the looks of a stand show, wherever they stand among others.
-use Rattle.std.proofs.Common.{◌⊎◌, inl, ⊎_elim, ℕ, Bool, true, refl, sym, subst, List}
+use Rattle.std.proofs.Common.{inl, ⊎_elim, ℕ, Bool, true, refl, sym, subst, List}
 use Rattle.std.specs.List.Sorted.{IsPermutation}
 use Rattle.std.proofs.lemmas.List.Sorted.{Contains-permutation}
 use Rattle.lr_rules.specs.declared.rule.Naming.{Naming}

@@ -1,5 +1,4 @@
 // A log that is copied, worked through.
-ghost use Rattle.std.specs.Prelude.{◌≡◌};
 ghost use Rattle.lr_host.specs.Opening.{IsJournal};
 ghost use Rattle.lr_host.specs.World.{Opens};
 ghost use Rattle.lr_laws.specs.Chain.{log, third, found};

@@ -6,7 +6,6 @@ use Rattle.lr_rules.specs.declared.rule.Naming.{Naming}
 use Rattle.lr_rules.specs.Names.{aside_path}
 use Rattle.lr_rules.specs.Path.{joined, parent_of, last_of}
 use Rattle.lr_rules.proofs.PathLemmas.{parent_joined, last_joined}
-use Rattle.lr_host.specs.declared.thing.Kind.TheVariants as kind
 use Rattle.lr_host.specs.declared.thing.Seen.{Seen}
 use Rattle.lr_host.specs.declared.thing.Thing.{Thing}
 use Rattle.lr_host.specs.declared.thing.Thing.TheVariants as thing

@@ -1,5 +1,5 @@
 -- The names of a family's members and of their part files, and what was seen of the members.
-use Rattle.std.proofs.Common.{◌≡◌, ℕ, ◌+◌, false, List, [], ◌∷◌, ◌++◌, refl, ◌∙◌, ap, append_assoc, if◌then◌else◌}
+use Rattle.std.proofs.Common.{◌≡◌, ℕ, false, List, [], ◌∷◌, ◌++◌, refl, ◌∙◌, ap, append_assoc, if◌then◌else◌}
 use Rattle.std.specs.Prelude.{◌==◌, length}
 use Rattle.std.proofs.lemmas.List.Elements.{All-contains}
 use Rattle.lr_rules.specs.declared.path.Path.{Path}

@@ -7,7 +7,6 @@ ghost use Rattle.lr_rules.specs.declared.path.Path.{Path};
 ghost use Rattle.lr_rules.specs.Match.{WordGives, is_wildcard, literal_path};
 ghost use Rattle.lr_rules.specs.Path.{path_fault};
 ghost use Rattle.lr_host.specs.declared.entry.Entry.{Entry};
-ghost use Rattle.lr_host.specs.declared.thing.Kind.TheVariants as kind;
 ghost use Rattle.lr_host.specs.declared.thing.Thing.TheVariants as thing;
 ghost use Rattle.lr_host.specs.Fits.{IsFileAt};
 ghost use Rattle.lr_host.specs.Opening.{IsJournal};

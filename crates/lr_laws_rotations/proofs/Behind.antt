@@ -1,5 +1,5 @@
 -- What goes behind a copy of the log, once the copy has the newest name: the members go as they do behind the log's rename, and the copy itself by the count alone.
-use Rattle.std.proofs.Common.{◌≡◌, ◌≢◌, ◌⊎◌, inl, inr, ⊎_elim, ℕ, suc, ◌+◌, ◌≤◌, Bool, true, false, bytes_eq, refl, sym, ◌∙◌, ap, subst, append_assoc, arith, Option, Some, None, List, [], ◌∷◌, ◌++◌, map, reverse, ℤ, pos}
+use Rattle.std.proofs.Common.{◌≡◌, ◌≢◌, ◌⊎◌, inl, inr, ⊎_elim, ℕ, suc, ◌≤◌, Bool, true, false, bytes_eq, refl, sym, ◌∙◌, ap, subst, append_assoc, arith, Option, Some, None, List, [], ◌∷◌, ◌++◌, map, reverse, ℤ, pos}
 use Rattle.std.specs.Prelude.{Contains, All}
 use Rattle.std.proofs.lemmas.List.{reverse-reverse}
 use Rattle.std.proofs.lemmas.List.Elements.{All-head, All-tail}

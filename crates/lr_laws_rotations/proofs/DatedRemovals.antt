@@ -1,5 +1,5 @@
 -- Each removal of a dated rotation is a step of it.
-use Rattle.std.proofs.Common.{◌≡◌, ◌⊎◌, inl, inr, ⊎_elim, ℕ, suc, ◌≤◌, Bool, true, false, cond, ◌||◌, refl, sym, ◌∙◌, subst, arith, Option, Some, List, [], ◌∷◌, ◌++◌, length, map, ℤ, ◌<ℤ◌}
+use Rattle.std.proofs.Common.{◌≡◌, inl, inr, ⊎_elim, ℕ, suc, ◌≤◌, Bool, true, false, cond, ◌||◌, refl, sym, ◌∙◌, subst, arith, Option, Some, List, [], ◌∷◌, ◌++◌, length, map, ℤ, ◌<ℤ◌}
 use Rattle.std.proofs.lemmas.Bool.{leb-true, or_cases}
 use Rattle.lr_rules.specs.declared.path.Path.{Path}
 use Rattle.lr_rules.specs.declared.rule.Count.{Count}

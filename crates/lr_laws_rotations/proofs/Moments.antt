@@ -1,5 +1,5 @@
 -- What looks showed of a log is so behind them, where the tool changed nothing of the disk.
-use Rattle.std.proofs.Common.{◌≡◌, inl, ◌+◌, refl, sym, subst, List, ◌++◌, reverse, Option, Some, None}
+use Rattle.std.proofs.Common.{◌≡◌, inl, refl, sym, subst, List, ◌++◌, reverse, Option, Some, None}
 use Rattle.lr_rules.specs.declared.path.Path.{Path}
 use Rattle.lr_rules.specs.Path.{joined}
 use Rattle.lr_host.specs.declared.thing.Seen.{Seen}

@@ -1,5 +1,5 @@
 -- The paths of a log that may be set aside, as those of its set: where it waits it has no place, and its part file lies outside.
-use Rattle.std.proofs.Common.{◌≡◌, ◌≢◌, ◌⊎◌, inr, ⊎_elim, Bool, true, false, ◌&&◌, ◌||◌, bytes_eq, refl, sym, ◌∙◌, ap, subst, Option, Some, None, is_some, ℤ}
+use Rattle.std.proofs.Common.{◌≡◌, ◌≢◌, inr, ⊎_elim, Bool, true, false, ◌&&◌, bytes_eq, refl, sym, ◌∙◌, ap, subst, Option, Some, None, is_some, ℤ}
 use Rattle.std.proofs.lemmas.Bool.{and_parts, or_cases}
 use Rattle.std.proofs.lemmas.Slice.Eq.{bytes_eq-Decides}
 use Rattle.lr_rules.specs.declared.path.Path.{Path}

@@ -1,5 +1,5 @@
 -- Stretches of a run between the renames of a log that is set aside: over each the set stays safe, and its newest name may be taken.
-use Rattle.std.proofs.Common.{◌≡◌, ◌≢◌, ◌⊎◌, inl, inr, ℕ, ◌<◌, true, false, sym, ◌∙◌, ap, subst, arith, Some, List, [], ◌++◌, reverse, append-nil, ℤ, pos}
+use Rattle.std.proofs.Common.{◌≡◌, ◌⊎◌, inl, inr, ℕ, ◌<◌, true, false, sym, ◌∙◌, ap, subst, arith, Some, List, [], ◌++◌, reverse, append-nil, ℤ, pos}
 use Rattle.std.specs.Prelude.{filter}
 use Rattle.std.proofs.lemmas.List.{reverse-append}
 use Rattle.lr_rules.specs.declared.path.Path.{Path}

@@ -1,5 +1,5 @@
 // The end of a stream.
-ghost use Rattle.std.specs.Prelude.{◌≡◌, ◌≤◌, ◌<◌, ◌^◌, []};
+ghost use Rattle.std.specs.Prelude.{◌≡◌, ◌≤◌, []};
 ghost use Rattle.lr_lex.specs.Holding.{IsHeld, Drops, StreamEnds, rest_of, size_of};
 
 use crate::held::Held;

@@ -1,5 +1,5 @@
 // The text of a script.
-ghost use Rattle.std.specs.Prelude.{◌≡◌, ◌<◌, ℕ, length, position, IfOk};
+ghost use Rattle.std.specs.Prelude.{◌≡◌, ◌<◌, ℕ, position, IfOk};
 ghost use Rattle.std.specs.List.{list_all};
 ghost use Rattle.lr_rules.specs.Bytes.{is_blank, is_no_blank};
 ghost use Rattle.lr_lex.specs.Lines.{line_at};

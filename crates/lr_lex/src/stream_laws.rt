@@ -1,5 +1,5 @@
 // Laws of texts that come in pieces.
-ghost use Rattle.std.specs.Prelude.{◌≡◌, ◌+◌, ◌++◌, ◌∷◌, [], ℕ, Bool, false, true, List, map};
+ghost use Rattle.std.specs.Prelude.{◌≡◌, ◌+◌, ◌++◌, ◌∷◌, [], ℕ, false, true, List, map};
 ghost use Rattle.lr_lex.specs.declared.said.Said.{Said};
 ghost use Rattle.lr_lex.specs.Items.{items_from, said, told, is_end, script, script_text};
 ghost use Rattle.lr_lex.specs.Lines.{line_at};

@@ -1,5 +1,5 @@
 // The bytes of a stream, line by line.
-ghost use Rattle.std.specs.Prelude.{◌≡◌, ◌≤◌, ◌<◌, ◌+◌, ◌-◌, ◌^◌, ◌++◌, ◌∷◌, [], ℕ, List, true, false, length, IfOk, OnOk, OnErr};
+ghost use Rattle.std.specs.Prelude.{◌≡◌, ◌≤◌, ◌<◌, ◌+◌, ◌^◌, ◌++◌, ◌∷◌, [], true, false, length, IfOk, OnOk};
 ghost use Rattle.lr_lex.specs.Items.{items};
 ghost use Rattle.lr_lex.specs.Holding.{IsHeld, IsSameToCome, ItemCame, StreamBrings, FirstOf, Filled};
 ghost use Rattle.lr_lex.specs.Holding.{BeginsLine, EndsScript, PushesLine};

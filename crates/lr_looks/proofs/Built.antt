@@ -3,7 +3,6 @@ use Rattle.std.proofs.Common.{◌≡◌, true, List, [], ◌∷◌, length, All,
 use Rattle.std.specs.List.{list_all}
 use Rattle.std.proofs.lemmas.Bool.{and_parts}
 use Rattle.std.proofs.lemmas.List.Elements.{All-cons}
-use Rattle.lr_rules.specs.declared.rule.Count.TheVariants as count
 use Rattle.lr_rules.specs.declared.rule.Rule.{Rule}
 use Rattle.lr_rules.specs.Limits.{is_log_word, is_criterion, is_count, meets_limits, IsCount}
 use Rattle.lr_rules.proofs.Counts.{count_small}

@@ -1,6 +1,6 @@
 // What taboo lists say.
 ghost use Rattle.std.specs.Prelude.{◌≡◌, ◌++◌, OnOk, IfOk, map};
-ghost use Rattle.lr_match.specs.Taboos.{first_taboo, first_extensions, taboo_after, list_after};
+ghost use Rattle.lr_match.specs.Taboos.{first_taboo, taboo_after, list_after};
 
 use crate::taboo::Taboo;
 use lr_rules::{Listed, Memory, Text, copy_texts};

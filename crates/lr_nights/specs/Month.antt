@@ -5,7 +5,7 @@ use Rattle.lr_host.specs.declared.entry.Entry.{Entry}
 use Rattle.lr_host.specs.declared.entry.Entry.TheVariants as entry
 use Rattle.lr_nights.specs.declared.month.Fed.{Fed}
 use Rattle.lr_nights.specs.declared.month.Night.{Night}
-use Rattle.lr_nights.specs.Draws.{next, drawn, behind_two, first_of, second_of, behind_logs}
+use Rattle.lr_nights.specs.Draws.{next, behind_two, first_of, second_of, behind_logs}
 
 -- the seconds of a night: five past twelve, the first on 2024-01-02
 abbrev pub seconds_of : ℕ → ℕ

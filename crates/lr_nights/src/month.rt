@@ -1,5 +1,5 @@
 // The thirty nights that a trial draws.
-ghost use Rattle.std.specs.Prelude.{◌≡◌, ◌<◌, ◌≤◌, IfOk, OnOk};
+ghost use Rattle.std.specs.Prelude.{◌≡◌, ◌≤◌, IfOk, OnOk};
 ghost use Rattle.lr_nights.specs.Draws.{behind_two, behind_logs};
 ghost use Rattle.lr_nights.specs.Month.{fed_by, feeds_from, drawn_stop, behind_stop, night_of, behind_night, nights_from};
 ghost use Rattle.lr_nights.specs.Month.{drawn_nights};

@@ -1,5 +1,5 @@
 // Texts put whole, one part behind the other.
-ghost use Rattle.std.specs.Prelude.{◌≡◌, ◌≤◌, ◌∷◌, [], OnErr, OnOk};
+ghost use Rattle.std.specs.Prelude.{◌≤◌, ◌∷◌, [], OnErr, OnOk};
 ghost use Rattle.std.specs.List.{concat};
 ghost use Rattle.lr_host.specs.Told.{Rose};
 ghost use Rattle.lr_report.specs.Puts.{Took, TookPart};

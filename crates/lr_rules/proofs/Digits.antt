@@ -1,5 +1,5 @@
 -- Numbers as they are written: runs of digits, among which no slash stands.
-use Rattle.std.proofs.Common.{◌≡◌, ℕ, ◌+◌, ◌%◌, ◌≤◌, ◌<◌, ◌^◌, Bool, true, false, List, [], ◌∷◌, ◌++◌, refl, subst, arith, length-append, nat_eq, eqb-true, ◌-◌, ◌&&◌, ◌∙◌, ap}
+use Rattle.std.proofs.Common.{◌≡◌, ℕ, ◌+◌, ◌%◌, ◌≤◌, ◌<◌, ◌^◌, Bool, true, false, List, [], ◌∷◌, ◌++◌, refl, subst, arith, length-append, nat_eq, eqb-true, ◌&&◌, ◌∙◌, ap}
 use Rattle.std.specs.Prelude.{decimal, nat_le}
 use Rattle.std.specs.List.{list_any}
 use Rattle.std.specs.Char.{digit_value}

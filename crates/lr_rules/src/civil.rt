@@ -1,5 +1,5 @@
 // Civil moments, and the three moments of a run.
-ghost use Rattle.std.specs.Prelude.{◌≡◌, ◌↔◌, IsSome, IfSome, pos, ◌≤ℤ◌, ◌<◌, ◌+◌, ◌*◌};
+ghost use Rattle.std.specs.Prelude.{◌≡◌, ◌↔◌, IsSome, IfSome, ◌<◌, ◌+◌, ◌*◌};
 ghost use Rattle.jiff_core.specs.Calendar.{days_from_civil, IsEpochDay};
 ghost use Rattle.lr_rules.specs.Civil.{IsMoment, moment_seconds};
 

@@ -1,7 +1,7 @@
 // The names of a log's members, as its rule gives them.
 ghost use Rattle.std.specs.Prelude.{◌≡◌, ◌≤◌, ◌&&◌, None, IfOk, bytes_eq, length};
 ghost use Rattle.lr_rules.specs.Names.{naming_of, family_dir, ext_of, base_of, ends_with, without, aside_path, is_aside};
-ghost use Rattle.lr_rules.specs.Path.{path_fault, parent_of, last_of};
+ghost use Rattle.lr_rules.specs.Path.{path_fault, parent_of};
 
 use crate::copies::copy_format;
 use crate::memory::Memory;

@@ -1,5 +1,5 @@
 // The programs before the removal of a file.
-ghost use Rattle.std.specs.Prelude.{◌≡◌, ◌∷◌, ◌++◌, [], None, Some, codes, map, not, OnOk, IfOk};
+ghost use Rattle.std.specs.Prelude.{◌≡◌, ◌∷◌, [], None, Some, codes, map, not, IfOk};
 ghost use Rattle.lr_scripts.specs.Commands.{script, where_so, mail, with_programs};
 
 use crate::command::Command;

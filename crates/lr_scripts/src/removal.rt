@@ -1,6 +1,5 @@
 // Removing a file.
 ghost use Rattle.std.specs.Prelude.{OnOk, IfErr, option_copied};
-ghost use Rattle.lr_rules.specs.declared.fault.Ended.TheVariants as ended;
 ghost use Rattle.lr_host.specs.Told.{Left, Are, Onward};
 ghost use Rattle.lr_host.specs.Steps.{CanAll};
 ghost use Rattle.lr_scripts.specs.Programs.{runs_of, MaybeRefused, MaybeCause};

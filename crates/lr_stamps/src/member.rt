@@ -6,7 +6,7 @@ ghost use Rattle.lr_rules.specs.Path.{joined};
 ghost use Rattle.lr_rules.specs.Dated.{serial_text, IsDatedAt};
 ghost use Rattle.lr_stamps.specs.Dated.{IsNamedBy, IsDatedBy, MayHaveSerial, clock_seconds};
 ghost use Rattle.lr_stamps.specs.Asked.{ArePartsSmall};
-ghost use Rattle.lr_stamps.specs.Clocks.{parts_of, moment_by, stamp_of, stamp_seconds};
+ghost use Rattle.lr_stamps.specs.Clocks.{parts_of, moment_by, stamp_of};
 
 use crate::serial::read_stamp;
 use crate::writing::push_stamp;

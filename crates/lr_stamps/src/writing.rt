@@ -1,5 +1,5 @@
 // A stamp, written.
-ghost use Rattle.std.specs.Prelude.{◌≡◌, ◌<◌, ◌++◌, IfOk, OnOk};
+ghost use Rattle.std.specs.Prelude.{◌≡◌, ◌<◌, ◌++◌, OnOk};
 ghost use Rattle.lr_rules.specs.declared.rule.Field.TheVariants as field;
 ghost use Rattle.lr_rules.specs.StampParts.{part};
 ghost use Rattle.lr_rules.specs.Stamps.{two, field_text, bound, piece_text, stamp_text};

@@ -1,6 +1,6 @@
 -- Where a list is cut: at the first element that passes a test.
 use Rattle.lr_state.specs.Reading.{before, from_first}
-use Rattle.std.proofs.Common.{◌≡◌, ◌∙◌, ap, refl, ℕ, ◌-◌, ◌≤◌, Bool, true, false, not, cond, List, [], ◌∷◌, length, take, drop, Some, None, arith, take_all, length-drop, suc, ◌+◌}
+use Rattle.std.proofs.Common.{◌≡◌, ◌∙◌, ap, refl, ℕ, ◌≤◌, Bool, true, false, not, cond, List, [], ◌∷◌, length, take, drop, Some, None, arith, suc, ◌+◌}
 use Rattle.std.specs.Prelude.{unwrap_or, position, nat_lt}
 use Rattle.std.specs.List.{position_or_len, slice_split, onto_first}
 use Rattle.std.proofs.lemmas.Bool.{ltb-false}

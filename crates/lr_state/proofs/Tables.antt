@@ -1,10 +1,10 @@
 -- What a text says is a table.
-use Rattle.std.proofs.Common.{◌≡◌, ◌∙◌, ap, sym, subst, refl, ⊎_elim, ℕ, ◌+◌, nat_lt, length, Bool, true, false, List, [], ◌∷◌, ◌++◌, None, is_some}
+use Rattle.std.proofs.Common.{◌≡◌, ◌∙◌, ap, sym, refl, ⊎_elim, ℕ, ◌+◌, nat_lt, length, Bool, true, false, List, [], ◌∷◌, is_some}
 use Rattle.std.specs.Prelude.{Ok}
 use Rattle.std.specs.List.{slice_split}
 use Rattle.lr_rules.specs.Bytes.{is_newline}
 use Rattle.lr_state.specs.Grammar.{AddsLine, LinesSay, BehindTop, TextLinesSay, SizedTextSays, TextSays, is_top}
-use Rattle.lr_state.specs.Table.{Entry, moment_of, is_table}
+use Rattle.lr_state.specs.Table.{Entry, is_table}
 use Rattle.lr_state.proofs.Views.{put-new, table-put}
 
 line_adds : (before : List Entry) (line : List ℕ) (later : List Entry) → is_table before ≡ true → AddsLine before line later → is_table later ≡ true

@@ -1,5 +1,5 @@
 // State texts: reading, and what is written before the lines.
-ghost use Rattle.std.specs.Prelude.{◌≡◌, ◌<◌, ◌≤◌, ◌++◌, ◌∷◌, [], ℕ, List, Ok, length, IfSome, option_map};
+ghost use Rattle.std.specs.Prelude.{◌≡◌, ◌<◌, ◌≤◌, ◌++◌, ◌∷◌, [], Ok, length, IfSome, option_map};
 ghost use Rattle.std.specs.List.{position_or_len, slice_split};
 ghost use Rattle.lr_rules.specs.Bytes.{is_newline};
 ghost use Rattle.lr_state.specs.Answer.{ReaderGives, IsSaidBy};

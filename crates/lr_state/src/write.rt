@@ -1,5 +1,5 @@
 // Pieces of a line, written to a buffer from a place on.
-ghost use Rattle.std.specs.Prelude.{◌≡◌, ◌<◌, ◌≤◌, ◌+◌, ◌*◌, ◌∷◌, [], length, unsigned_abs};
+ghost use Rattle.std.specs.Prelude.{◌<◌, ◌≤◌, ◌+◌, ◌*◌, ◌∷◌, [], length, unsigned_abs};
 ghost use Rattle.std.specs.List.{flat_map};
 ghost use Rattle.lr_state.specs.Written.{escaped, decimal, moment_text, entry_line};
 ghost use Rattle.lr_state.specs.Piece.{WritesPiece};

@@ -1,7 +1,7 @@
 // Pieces of a format of dates.
 ghost use Rattle.std.specs.Prelude.{◌≡◌, ◌∷◌, MatchOption};
 ghost use Rattle.lr_rules.specs.declared.rule.Field.{Field};
-ghost use Rattle.lr_rules.specs.Limits.{letter, is_plain_piece, rank, is_rank, times, are_first, is_epoch_alone};
+ghost use Rattle.lr_rules.specs.Limits.{letter, rank, is_rank, times, are_first, is_epoch_alone};
 ghost use Rattle.lr_words.specs.Formats.{BeginsWith, BeginsWithNone};
 
 use lr_rules::{Field, Piece};

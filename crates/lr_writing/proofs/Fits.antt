@@ -1,7 +1,6 @@
 -- Each step of the writing fits, wherever those before it left the disk.
-use Rattle.std.proofs.Common.{◌≡◌, ◌≢◌, ⊎_elim, inl, refl, sym, ◌∙◌, ap, subst, ℕ, ◌+◌, Bool, true, false, List, [], ◌∷◌, ◌++◌, map, reverse, Option, Some, None}
+use Rattle.std.proofs.Common.{◌≡◌, ◌≢◌, ⊎_elim, refl, sym, ◌∙◌, ap, subst, ℕ, Bool, true, false, List, [], ◌∷◌, ◌++◌, map, Option, Some, None}
 use Rattle.std.specs.Prelude.{filter}
-use Rattle.std.proofs.lemmas.List.{reverse-reverse}
 use Rattle.lr_rules.specs.declared.path.Path.{Path}
 use Rattle.lr_rules.specs.Path.{parent_of}
 use Rattle.lr_rules.specs.StatePath.{state_part}
@@ -14,11 +13,9 @@ use Rattle.lr_host.specs.declared.journal.Journal.{Journal}
 use Rattle.lr_host.specs.World.{Past, ◌▸◌, past, world, Names, names, put}
 use Rattle.lr_host.specs.Fits.{Fits, IsFileAt, IsDirectoryAt}
 use Rattle.lr_host.specs.Steps.{CanAll, FitAll, is_naming}
-use Rattle.lr_host.specs.Told.{Made, at_first, by_writer, by_tool, Left, not_told, is_told, CanCall, WhereTold}
-use Rattle.lr_host.proofs.Each.{filter_reverse, none_passed}
-use Rattle.lr_host.proofs.Left.{still_step}
-use Rattle.lr_host.proofs.Looked.{nothing_no_dir, file_no_dir}
-use Rattle.lr_host.proofs.More.{IsMore, more_on, made_more, wrote_names, file_same}
+use Rattle.lr_host.specs.Told.{CanCall, WhereTold}
+use Rattle.lr_host.proofs.Looked.{file_no_dir}
+use Rattle.lr_host.proofs.More.{made_more}
 use Rattle.lr_host.proofs.Names.{put_here, put_other}
 use Rattle.lr_host.proofs.Stays.{Stays, left_still, left_one, told_as, told_both, dir_more, file_more, dir_put, no_dir}
 use Rattle.lr_plan.specs.declared.step.Step.TheVariants.{Renames, Takes, Appends, SyncsFile, SyncsDir}

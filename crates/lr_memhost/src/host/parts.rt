@@ -1,13 +1,13 @@
 // What the calls have in common.
 ghost use Rattle.std.specs.Prelude.{◌≡◌, ◌≢◌, ◌≤◌, ◌⊎◌, ◌↔◌, ◌∷◌, [], true, false, Some, None, IsTrue, IsErr, OnErr, OnOk, IfOk};
-ghost use Rattle.std.specs.Prelude.{Ok, drop};
+ghost use Rattle.std.specs.Prelude.{Ok};
 ghost use Rattle.lr_rules.specs.declared.fault.Ended.{Ended};
 ghost use Rattle.lr_host.specs.declared.entry.Entry.{Entry};
 ghost use Rattle.lr_host.specs.declared.thing.Thing.TheVariants as thing;
 ghost use Rattle.lr_host.specs.World.{world, past, names};
-ghost use Rattle.lr_host.specs.Told.{Onward, Rose, Are, Did, DidWhere, Can};
+ghost use Rattle.lr_host.specs.Told.{Rose, Are, Did, DidWhere, Can};
 ghost use Rattle.lr_memhost.specs.How.{idles};
-ghost use Rattle.lr_memhost.specs.Acts.{counts_of, how_at, one_more, first_end, is_bad_ending, after_end};
+ghost use Rattle.lr_memhost.specs.Acts.{how_at, one_more, first_end, is_bad_ending, after_end};
 ghost use Rattle.lr_memhost.specs.Acts.{LockIsFree, Starved, Unraised};
 ghost use Rattle.lr_memhost.specs.Acts.{CallTurned, IsSure, IsMaking};
 ghost use Rattle.lr_memhost.specs.Calm.{StaysCalm};

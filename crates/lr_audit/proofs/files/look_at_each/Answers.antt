@@ -1,5 +1,4 @@
 use Rattle.std.proofs.Common.{◌≡◌, Err, [], ◌∷◌, ◌++◌, List, refl, sym, ap, ◌∙◌, append_assoc, rules}
-use Rattle.std.specs.Vec.Iter.{into_iter_items}
 use Rattle.lr_rules.specs.declared.path.Path.{Path}
 use Rattle.lr_host.proofs.Counts.{went_none, went_on, onward_on}
 use Rattle.lr_audit.proofs.Filing.{looked_none, looked_more, behind_looked, lost, went_lost}

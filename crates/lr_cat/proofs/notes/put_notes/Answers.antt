@@ -1,4 +1,4 @@
-use Rattle.std.proofs.Common.{ℕ, sym, subst}
+use Rattle.std.proofs.Common.{sym, subst}
 use Rattle.std.specs.Prelude.{OnOk}
 use Rattle.lr_report.specs.Puts.{Took, TookPart}
 use Rattle.lr_cat.specs.Outcome.{notes_of}

@@ -1,4 +1,4 @@
-use Rattle.std.proofs.Common.{ap, arith, ◌+◌, rules}
+use Rattle.std.proofs.Common.{ap, arith, rules}
 use Rattle.std.specs.Prelude.{filter}
 use Rattle.lr_host.specs.Steps.{is_naming}
 use Rattle.lr_host.proofs.Left.{can_stay}

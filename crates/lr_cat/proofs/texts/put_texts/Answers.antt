@@ -1,5 +1,4 @@
 use Rattle.std.proofs.Common.{arith, rules}
-use Rattle.std.proofs.Common.{◌≤◌, ℕ}
 use Rattle.lr_cat.proofs.Putting.{can_read, can_read_on, putting_first, putting_more, putting_all, putting_stops}
 use Rattle.lr_cat.proofs.texts.put_texts.Goals as goal
 

@@ -1,7 +1,6 @@
 use Rattle.std.proofs.Common.{◌≡◌, ◌∙◌, sym, ap, subst, List, [], ◌∷◌, ℕ, Option, Ok, Err, arith}
 use Rattle.lr_lex.specs.declared.item.Item.{Item}
 use Rattle.lr_lex.specs.declared.item.LexFault.{LexFault}
-use Rattle.lr_lex.specs.declared.item.LexKind.TheVariants as kind
 use Rattle.lr_lex.specs.Items.{Told, items}
 use Rattle.lr_lex.specs.Holding.{FirstOf, coming}
 use Rattle.lr_lex.proofs.Left.{left_small, left_one, left_told, left_nothing, left_none}

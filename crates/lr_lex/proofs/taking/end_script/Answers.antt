@@ -1,6 +1,5 @@
 use Rattle.std.proofs.Common.{◌≡◌, ◌∙◌, sym, ap, subst, List, ℕ, Option, Ok, Err, ◌∷◌, arith}
 use Rattle.lr_lex.specs.declared.item.Item.{Item}
-use Rattle.lr_lex.specs.declared.item.LexKind.TheVariants as kind
 use Rattle.lr_lex.specs.Items.{Told, items}
 use Rattle.lr_lex.specs.Holding.{FirstOf}
 use Rattle.lr_lex.proofs.Stepping.{other_kind, near_item, script_there, script_next, script_at, small, not_memory}

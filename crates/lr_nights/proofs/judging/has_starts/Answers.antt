@@ -1,4 +1,4 @@
-use Rattle.std.proofs.Common.{◌≡◌, true, All, rules, arith, subst}
+use Rattle.std.proofs.Common.{◌≡◌, true, All, arith, subst}
 use Rattle.std.proofs.lemmas.List.{take_all}
 use Rattle.lr_nights.specs.Month.{HasStartAt}
 use Rattle.lr_nights.proofs.JudgedLemmas.{one_more}

@@ -1,7 +1,6 @@
-use Rattle.std.proofs.Common.{◌≡◌, ◌+◌, ◌<◌, [], ◌∷◌, ◌++◌, ◌∙◌, ℕ, suc, All, None, rules, arith, sym, ap}
-use Rattle.std.proofs.lemmas.List.{append-nil, map-append}
+use Rattle.std.proofs.Common.{◌∙◌, suc, arith, sym}
+use Rattle.std.proofs.lemmas.List.{append-nil}
 use Rattle.lr_nights.specs.Summary.{logs_of}
-use Rattle.lr_nights.specs.Opening.{named_logs_from}
 use Rattle.lr_nights.proofs.LogLemmas.{one_more_log, all_numbered}
 use Rattle.lr_nights.proofs.logs.families.Goals as goal
 

@@ -1,4 +1,4 @@
-use Rattle.std.proofs.Common.{◌≡◌, [], ◌∷◌, ◌+◌, ◌++◌, ◌∙◌, ℕ, suc, rules, arith, sym, refl, ap}
+use Rattle.std.proofs.Common.{[], ◌∷◌, ◌+◌, ◌∙◌, ℕ, suc, arith, sym, ap}
 use Rattle.std.proofs.lemmas.List.{append-nil}
 use Rattle.lr_nights.specs.Month.{night_of, behind_night, nights_from}
 use Rattle.lr_nights.proofs.Fronts.{moved}

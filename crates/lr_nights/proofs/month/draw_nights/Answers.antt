@@ -1,4 +1,4 @@
-use Rattle.std.proofs.Common.{◌≡◌, ◌∙◌, ℕ, List, rules, subst, ap, sym}
+use Rattle.std.proofs.Common.{◌≡◌, ◌∙◌, ℕ, List, subst, ap, sym}
 use Rattle.std.specs.Prelude.{IfOk}
 use Rattle.lr_nights.specs.declared.month.Night.{Night}
 use Rattle.lr_nights.specs.Month.{nights_from}

@@ -1,4 +1,4 @@
-use Rattle.std.proofs.Common.{◌≡◌, ◌+◌, ℕ, suc, rules, arith}
+use Rattle.std.proofs.Common.{suc, arith}
 use Rattle.lr_nights.proofs.month.pass_logs.Goals as goal
 
 pub loop-log-preserved : goal.loop-log-preserved

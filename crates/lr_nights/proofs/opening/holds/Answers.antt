@@ -1,4 +1,4 @@
-use Rattle.std.proofs.Common.{◌≡◌, ◌+◌, [], ◌∷◌, ◌++◌, ◌∙◌, ℕ, suc, rules, arith, sym}
+use Rattle.std.proofs.Common.{◌+◌, [], ◌∷◌, ◌∙◌, suc, arith, sym}
 use Rattle.std.proofs.lemmas.List.{append-nil}
 use Rattle.lr_nights.specs.Opening.{holds_from}
 use Rattle.lr_nights.proofs.Fronts.{moved}

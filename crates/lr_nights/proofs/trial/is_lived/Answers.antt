@@ -1,4 +1,4 @@
-use Rattle.std.proofs.Common.{List, All, rules, subst}
+use Rattle.std.proofs.Common.{List, All, subst}
 use Rattle.lr_host.specs.declared.entry.Entry.{Entry}
 use Rattle.lr_nights.specs.Month.{HasStartAt}
 use Rattle.lr_nights.proofs.trial.is_lived.Goals as goal

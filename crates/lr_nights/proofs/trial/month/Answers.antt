@@ -1,4 +1,4 @@
-use Rattle.std.proofs.Common.{◌∙◌, All, rules, subst, refl}
+use Rattle.std.proofs.Common.{◌∙◌, All, subst, refl}
 use Rattle.std.proofs.lemmas.Result.{IfOk-weaker}
 use Rattle.lr_nights.specs.Month.{drawn_nights, HasStartAt}
 use Rattle.lr_nights.specs.Trial.{HasStarts, IsTrialSummary}

@@ -1,4 +1,4 @@
-use Rattle.std.proofs.Common.{◌≡◌, ◌<◌, ◌≤◌, ◌↔◌, ℕ, true, false, rules, arith, below_more}
+use Rattle.std.proofs.Common.{◌≡◌, true, false, arith, below_more}
 use Rattle.lr_nights.proofs.WordLemmas.{found_number}
 use Rattle.lr_nights.proofs.words.number_of.Goals as goal
 

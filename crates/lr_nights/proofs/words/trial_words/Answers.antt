@@ -1,4 +1,3 @@
-use Rattle.std.proofs.Common.{◌≡◌, ◌∷◌, [], ℕ, rules, arith}
 use Rattle.lr_nights.proofs.WordLemmas.{one_word, one_number}
 use Rattle.lr_nights.proofs.words.trial_words.Goals as goal
 

@@ -1,4 +1,4 @@
-use Rattle.std.proofs.Common.{rules, ◌≡◌, ◌∷◌, [], Ok, Err}
+use Rattle.std.proofs.Common.{rules, ◌≡◌, ◌∷◌, [], Err}
 use Rattle.lr_plan.specs.declared.step.Step.TheVariants as step
 use Rattle.lr_plan.specs.Steps.{copy}
 use Rattle.lr_shown.proofs.Joined.{line_alone, steps_on, steps_stop}

@@ -1,4 +1,4 @@
-use Rattle.std.proofs.Common.{rules, ◌≡◌, ◌∷◌, Ok, Err}
+use Rattle.std.proofs.Common.{rules, ◌≡◌, ◌∷◌, Err}
 use Rattle.lr_plan.specs.declared.step.Step.TheVariants as step
 use Rattle.lr_plan.specs.Steps.{made_anew, transfer}
 use Rattle.lr_shown.proofs.Joined.{steps_on, steps_stop}

@@ -1,4 +1,4 @@
-use Rattle.std.proofs.Common.{rules, ◌≡◌, ◌++◌, Ok, Err}
+use Rattle.std.proofs.Common.{rules, ◌≡◌, ◌++◌, Err}
 use Rattle.lr_rules.specs.declared.fault.Phase.TheVariants as phase
 use Rattle.lr_plan.specs.Steps.{finishing, program, removals}
 use Rattle.lr_shown.proofs.Joined.{steps_on, steps_stop}

@@ -1,5 +1,4 @@
-use Rattle.std.proofs.Common.{◌≡◌, ◌∙◌, ap, sym, subst, List, ℕ, Bool, true, false, [], ◌==◌, length, Option, Some, None, is_some, option_map, Ok, refl}
-use Rattle.lr_rules.specs.declared.civil.Civil.{Civil}
+use Rattle.std.proofs.Common.{◌≡◌, ◌∙◌, ap, sym, subst, List, ℕ, Bool, true, false, [], ◌==◌, length, None, is_some, option_map, Ok}
 use Rattle.lr_state.specs.Answer.{LineSaysOnly}
 use Rattle.lr_state.specs.Reading.{seen_name}
 use Rattle.lr_state.specs.Table.{Entry, moment_of}

@@ -1,4 +1,4 @@
-use Rattle.std.proofs.Common.{◌≡◌, ◌∙◌, ap, sym, List, ℕ, length, is_some, arith}
+use Rattle.std.proofs.Common.{◌∙◌, ap, sym, List, ℕ, length, is_some, arith}
 use Rattle.lr_state.specs.Table.{Entry, moment_of}
 use Rattle.lr_state.specs.Written.{text_of}
 use Rattle.lr_state.proofs.RecordLengths.{due_same, lacked_same, text_grows}
