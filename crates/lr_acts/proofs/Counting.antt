@@ -34,9 +34,3 @@ sets_more xs at count next y lt e f g =
     let b : length (all_of_sets (take at xs ++ get_or xs at y ∷ [])) ≡ length (all_of_sets (take at xs)) + length (all_of_set (get_or xs at y)) = sets_on (take at xs) (get_or xs at y) in
     let c : length (all_of_set y) ≡ length (all_of_set (get_or xs at y)) = ap (λ (s : SetSteps). length (all_of_set s)) e in
     omega (arith, a, b, c, f, g)
-
-pub set_count : (s : SetSteps) (each behind n : ℕ) → each ≡ length (all_of_each s.each) → behind ≡ each + length s.last → n ≡ length s.first + behind → n ≡ length (all_of_set s)
-set_count s each behind n e f g =
-    let a : length (s.first ++ (all_of_each s.each ++ s.last)) ≡ length s.first + length (all_of_each s.each ++ s.last) = length-append s.first (all_of_each s.each ++ s.last) in
-    let b : length (all_of_each s.each ++ s.last) ≡ length (all_of_each s.each) + length s.last = length-append (all_of_each s.each) s.last in
-    omega (arith, a, b, e, f, g)

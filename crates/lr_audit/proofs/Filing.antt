@@ -144,10 +144,6 @@ lost (Err e) l = l
 pub names_told : {T E : Type 0} (r : Result T E) (xs ys a b : List Path) (f g : List Fault) (o n : Option Journal) → xs ≡ ys → OnOk r (Left (AddsFiles (LookedAtEach xs) a b f g) o n) → OnOk r (Left (AddsFiles (LookedAtEach ys) a b f g) o n)
 names_told r xs ys a b f g o n e l = subst (λ (ps : List Path). OnOk r (Left (AddsFiles (LookedAtEach ps) a b f g) o n)) e l
 
--- all paths were looked at
-pub looked_all : (xs ys a b : List Path) (f g : List Fault) {o n : Option Journal} → xs ≡ ys → Left (AddsFiles (LookedAtEach ys) a b f g) o n → Left (AddsFiles (LookedAtEach xs) a b f g) o n
-looked_all xs ys a b f g {o} {n} e l = subst (λ (ps : List Path). Left (AddsFiles (LookedAtEach ps) a b f g) o n) (sym e) l
-
 -- ---- a directory
 
 listing_quiet : (dir : Path) (there parent : Bool) (names : List (List ℕ)) (ts : List Entry) → ShowsListing dir there parent names ts → AreQuiet ts

@@ -141,10 +141,6 @@ run_alike P (s ∷ steps) a b h same x own = run_alike P steps (behind s a) (beh
 
 -- ---- programs and directories
 
-pub run_program : (p : Phase) (o : Option Command) (steps : List Step) (came : Origins) → run came (program p o ++ steps) ≡ run came steps
-run_program p None steps came = refl
-run_program p (Some command) steps came = refl
-
 pub unlinked_program : (p : Phase) (o : Option Command) (steps : List Step) (came : Origins) → unlinked came (program p o ++ steps) ≡ unlinked came steps
 unlinked_program p None steps came = refl
 unlinked_program p (Some command) steps came = refl

@@ -1,5 +1,5 @@
 -- Which paths a word gives, and which definition gives a log first.
-use Rattle.std.proofs.Common.{◌≡◌, ◌⊎◌, inl, inr, ◌≤◌, ◌<◌, ◌↔◌, ℕ, zero, suc, ◌+◌, Bool, true, false, not, ◌&&◌, List, [], ◌∷◌, length, get_or, refl, sym, ap, ◌∙◌, subst, arith, drop, Some, None}
+use Rattle.std.proofs.Common.{◌≡◌, inl, inr, ◌≤◌, ◌<◌, ◌↔◌, ℕ, zero, suc, Bool, true, false, not, ◌&&◌, List, [], ◌∷◌, length, get_or, refl, sym, ap, ◌∙◌, subst, arith, drop, Some, None}
 use Rattle.std.specs.List.{list_all, list_any}
 use Rattle.std.proofs.lemmas.Bool.{and_parts}
 use Rattle.lr_rules.specs.declared.path.Path.{Path}
@@ -99,31 +99,6 @@ by_none word x wild none = ((λ (t : false ≡ true). absurd (cc)), from)
 
 abbrev pub NoneTo : {X : Type 0} → (X → Type 0) → List X → ℕ → Type 0
 NoneTo {X} P xs i = (k : ℕ) (x : X) → k < i → get_or xs k x ≡ x → P x → ⊥
-
-get_same : {X : Type 0} (xs : List X) (i : ℕ) (x y : X) → i < length xs → get_or xs i x ≡ get_or xs i y
-get_same [] i x y lt = absurd (omega (arith, lt))
-get_same (z ∷ zs) zero x y lt = refl
-get_same (z ∷ zs) (suc i) x y lt = get_same zs i x y (omega (arith, lt))
-
-less_or : (a b : ℕ) → (a < b) ⊎ (b ≤ a)
-less_or a zero = inr (omega arith)
-less_or zero (suc b) = inl (omega arith)
-less_or (suc a) (suc b) = shift (less_or a b)
-  where
-    shift : (a < b) ⊎ (b ≤ a) → (suc a < suc b) ⊎ (suc b ≤ suc a)
-    shift (inl l) = inl (omega (arith, l))
-    shift (inr l) = inr (omega (arith, l))
-
--- the next one has it not either
-pub none_more : {X : Type 0} (P : X → Type 0) (xs : List X) (i : ℕ) (x : X) → x ≡ get_or xs i x → i < length xs → (P x → ⊥) → NoneTo P xs i → NoneTo P xs (i + 1)
-none_more P xs i x is lt never none k y k_lt y_is p = go (less_or k i)
-  where
-    same : i ≤ k → y ≡ x
-    same le = let e : k ≡ i = omega (arith, le, k_lt) in sym y_is ∙ (ap (λ (j : ℕ). get_or xs j y) e ∙ (get_same xs i y x lt ∙ sym is))
-
-    go : (k < i) ⊎ (i ≤ k) → ⊥
-    go (inl l) = none k y l y_is p
-    go (inr le) = never (subst P (same le) p)
 
 -- ---- the definitions
 

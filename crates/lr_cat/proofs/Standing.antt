@@ -109,15 +109,6 @@ can_read_file path look seen l is file = seen_can_read (left_as l (λ ts e. e �
 
 -- ---- one file, or none
 
-found_so : (path : Path) (b there : Bool) {o m : Option Journal} → b ≡ there → Left (Finds (Some path) (found_if path b)) o m → Left (Finds (Some path) (found_if path there)) o m
-found_so path b there {o = o} {m = m} is l = subst (λ (t : Bool). Left (Finds (Some path) (found_if path t)) o m) is l
-
-pub find_true : (asked : Option Path) (path : Path) (b : Bool) {o m : Option Journal} → asked ≡ Some path → b ≡ true → Left (Finds (Some path) (found_if path b)) o m → Left (Finds asked (Some path)) o m
-find_true asked path b {o = o} {m = m} is t l = subst (λ (a : Option Path). Left (Finds a (Some path)) o m) (sym is) (found_so path b true t l)
-
-pub find_false : (asked : Option Path) (path : Path) (b : Bool) {o m : Option Journal} → asked ≡ Some path → b ≡ false → Left (Finds (Some path) (found_if path b)) o m → Left (Finds asked None) o m
-find_false asked path b {o = o} {m = m} is t l = subst (λ (a : Option Path). Left (Finds a None) o m) (sym is) (found_so path b false t l)
-
 pub find_not_asked : (asked : Option Path) (o : Option Journal) → asked ≡ None → Left (Finds asked None) o o
 find_not_asked asked o is = left_first (Finds asked None) o (subst (λ (a : Option Path). Finds a None []) (sym is) (refl, refl))
 

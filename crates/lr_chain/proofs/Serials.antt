@@ -1,12 +1,10 @@
 -- The serial number that comes next, and the path of the clock's stamp.
-use Rattle.std.proofs.Common.{◌≡◌, ◌⊎◌, inl, inr, ⊎_elim, ℕ, suc, max, ℤ, ◌+◌, ◌<◌, ◌≤◌, Bool, true, false, cond, List, [], ◌∷◌, ◌++◌, length, take, get_or, Option, Some, None, refl, sym, ap, ◌∙◌, subst, arith}
-use Rattle.std.specs.Prelude.{◌↔◌}
+use Rattle.std.proofs.Common.{◌≡◌, ◌⊎◌, inl, inr, ⊎_elim, ℕ, suc, max, ℤ, ◌+◌, ◌<◌, Bool, true, false, cond, List, [], ◌∷◌, ◌++◌, length, take, get_or, Option, Some, None, refl, sym, ap, ◌∙◌, arith}
 use Rattle.std.specs.Ordering.{int_eq}
 use Rattle.std.proofs.lemmas.Bool.{cases_lt}
 use Rattle.std.proofs.lemmas.List.{take_more}
 use Rattle.std.proofs.lemmas.Bool.Decides.{Decides-int_eq}
 use Rattle.lr_rules.specs.declared.clock.Clock.{Clock}
-use Rattle.lr_rules.specs.declared.path.Path.{Path}
 use Rattle.lr_rules.specs.declared.rule.Format.{Format}
 use Rattle.lr_rules.specs.declared.rule.Naming.{Naming}
 use Rattle.lr_rules.specs.Dated.{serial_text, IsDatedAt}
@@ -14,7 +12,6 @@ use Rattle.lr_rules.specs.Limits.{is_format, or_none}
 use Rattle.lr_rules.specs.Path.{joined}
 use Rattle.lr_stamps.specs.Dated.{clock_seconds, MayHaveSerial}
 use Rattle.lr_stamps.proofs.Clocks.{clock_stamp}
-use Rattle.lr_stamps.proofs.Naming.{one_member}
 use Rattle.lr_family.specs.declared.place.Place.{Place}
 use Rattle.lr_family.specs.declared.place.Place.TheVariants as at
 use Rattle.lr_family.specs.declared.stand.Member.{Member}
@@ -74,18 +71,6 @@ is_next members t = record {
   least = ⊎_elim (λ z. inl z) (λ h. inr (h.0, h.1, any_in (IsStamp t h.0) members h.2)) (least t members);
 }
 
-no_higher : (members : List Member) (t : ℤ) (j k : ℕ) → IsNext members t j → IsNext members t k → j ≤ k
-no_higher members t j k a b = ⊎_elim (λ z. omega (arith, z)) (λ h. let e = h.1 in let lt = b.above h.0 h.2 in omega (arith, e, lt)) a.least
-
-pub one_next : (members : List Member) (t : ℤ) (j k : ℕ) → IsNext members t j → IsNext members t k → j ≡ k
-one_next members t j k a b = let up = no_higher members t j k a b in let down = no_higher members t k j b a in omega (arith, up, down)
-
-pub next_is : (members : List Member) (t : ℤ) (serial : ℕ) → IsNext members t serial ↔ (serial ≡ next_serial members t)
-next_is members t serial = (
-  λ h. one_next members t serial (next_serial members t) h (is_next members t),
-  λ e. subst (IsNext members t) (sym e) (is_next members t),
-)
-
 -- ---- the clock's stamp
 
 pub clock_path : (n : Naming) (clock : Clock) (k : ℕ) → or_none is_format n.dated ≡ true → MayHaveSerial n.dated k → IsDatedAt n (clock_seconds n.dated clock) k (dated_path n clock k)
@@ -94,15 +79,3 @@ clock_path n clock k good may = go n.dated refl good may
     go : (d : Option Format) → n.dated ≡ d → or_none is_format d ≡ true → MayHaveSerial d k → IsDatedAt n (clock_seconds n.dated clock) k (dated_path n clock k)
     go None e good may = absurd may
     go (Some f) e good may = clock_stamp n f clock k (dated_path n clock k) e good may (ap (λ (d : Option Format). joined n.dir (n.base ++ (stamp_by d clock ++ serial_text k) ++ n.ext)) e)
-
-pub may_have : (n : Naming) (t : ℤ) (k : ℕ) (x : Path) → IsDatedAt n t k x → MayHaveSerial n.dated k
-may_have n t k x a = subst (λ (d : Option Format). MayHaveSerial d k) (sym a.dated) a.is.numbered
-
-pub path_of_clock : (n : Naming) (clock : Clock) (k : ℕ) (x : Path) → or_none is_format n.dated ≡ true → IsDatedAt n (clock_seconds n.dated clock) k x → x ≡ dated_path n clock k
-path_of_clock n clock k x good a = one_member n (clock_seconds n.dated clock) k x (dated_path n clock k) good a (clock_path n clock k good (may_have n (clock_seconds n.dated clock) k x a))
-
-pub path_is : (n : Naming) (clock : Clock) (k : ℕ) (x : Path) → or_none is_format n.dated ≡ true → MayHaveSerial n.dated k → IsDatedAt n (clock_seconds n.dated clock) k x ↔ (x ≡ dated_path n clock k)
-path_is n clock k x good may = (
-  λ a. path_of_clock n clock k x good a,
-  λ e. subst (IsDatedAt n (clock_seconds n.dated clock) k) (sym e) (clock_path n clock k good may),
-)

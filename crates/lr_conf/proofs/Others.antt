@@ -5,12 +5,10 @@ use Rattle.std.specs.Prelude.{option_to_list}
 use Rattle.lr_rules.specs.declared.path.Path.{Path}
 use Rattle.lr_rules.specs.declared.fault.ConfKind.{ConfKind}
 use Rattle.lr_rules.specs.declared.fault.Fault.{Fault}
-use Rattle.lr_rules.specs.declared.fault.Phase.{Phase}
 use Rattle.lr_forms.specs.declared.said.Said.{Said}
 use Rattle.lr_forms.specs.declared.said.Said.TheVariants as says
 use Rattle.lr_forms.specs.Says.{closes, said}
 use Rattle.lr_conf.specs.declared.draft.Draft.{Draft}
-use Rattle.lr_conf.specs.declared.fields.Fields.{Fields}
 use Rattle.lr_conf.specs.declared.place.Place.{Place}
 use Rattle.lr_conf.specs.declared.place.Place.TheVariants.{Outside, Good, Dropped}
 use Rattle.lr_conf.specs.declared.stop.Include.{Include}
@@ -28,9 +26,6 @@ use Rattle.lr_conf.specs.Internal.Draft.{State, spoken, turned, outside, scripte
 abbrev inside_next : Place → Line → Bool
 inside_next Outside e = opens (past e)
 inside_next p e = not (ends e)
-
-abbrev st : Place → Fields → List (List ℕ) → Option ℕ → Fields → List Phase → State
-st place d ws first f ps = record { place = place; defaults = d; words = ws; first = first; fields = f; scripts = ps }
 
 turned_inside : (o : Option ℕ) (s : State) → is_inside (turned true o s).place ≡ true
 turned_inside None s = refl

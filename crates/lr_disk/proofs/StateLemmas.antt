@@ -7,7 +7,7 @@ use Rattle.lr_host.specs.declared.thing.Thing.{Thing}
 use Rattle.lr_host.specs.declared.thing.Thing.TheVariants as thing
 use Rattle.lr_host.specs.declared.entry.Entry.{Entry}
 use Rattle.lr_host.specs.declared.entry.Entry.TheVariants as entry
-use Rattle.lr_host.specs.World.{World, File, Change, Puts, Moves, Drops, changed, names, names_after, names_kept, kept_at, undone_at, settled, effect, holds_file, is_file, length_of, makes, making, attached, drawn_after, durable_after, pending_after}
+use Rattle.lr_host.specs.World.{World, File, Change, Puts, Moves, Drops, changed, names, names_after, names_kept, kept_at, undone_at, settled, effect, length_of, makes, making, attached, drawn_after, durable_after, pending_after}
 use Rattle.lr_host.specs.Below.{NamesBelow, IsBelow, AllBelow}
 use Rattle.lr_host.specs.Told.{IsTools}
 use Rattle.lr_host.proofs.Below.{after_below, kept_below, undone_below, all_more}
@@ -19,7 +19,7 @@ use Rattle.lr_disk.specs.Names.{named_in}
 use Rattle.lr_disk.specs.Pending.{pending_of}
 use Rattle.lr_disk.specs.Tree.{IsTree, IsSameTree, CanChange, IsChanged, IsSynced, IsTreeLeft}
 use Rattle.lr_disk.specs.Lengths.{names_left}
-use Rattle.lr_disk.specs.State.{ShowsWorld, EntryHasRoom, CanDraw, IsFiled, as_file, no_file, file_with, file_named, hold_in, fed_file, synced_file, emptied_file, cut_file, made_world}
+use Rattle.lr_disk.specs.State.{ShowsWorld, EntryHasRoom, CanDraw, IsFiled, as_file, no_file, file_with, hold_in, cut_file, made_world}
 use Rattle.lr_disk.proofs.PairLemmas.{numbers_tell}
 use Rattle.lr_disk.proofs.StepLemmas.{names_alike}
 use Rattle.lr_disk.proofs.TreeLemmas.{same_self}
@@ -122,101 +122,6 @@ filed_one s t k f x y tree holds now set lt is made = record {
 pub filed_as : (s t : State) (o : Option ℕ) (k : ℕ) (f : File → File) (x y : MemFile) → o ≡ Some k → t.tree ≡ s.tree → t.holds.items ≡ s.holds.items → t.moment ≡ s.moment
     → t.files.items ≡ slice_set s.files.items k y → k < length s.files.items → x ≡ get_or s.files.items k x → as_file y ≡ f (as_file x) → IsFiled f o s t
 filed_as s t o k f x y some tree holds now set lt is made = subst (λ p. IsFiled f p s t) (sym some) (filed_one s t k f x y tree holds now set lt is made)
-
--- no file is there
-pub filed_none : (s t : State) (k : ℕ) (f : File → File) → t.tree ≡ s.tree → t.holds.items ≡ s.holds.items → t.moment ≡ s.moment
-    → t.files.items ≡ s.files.items → length s.files.items ≤ k → IsFiled f (Some k) s t
-filed_none s t k f tree holds now files le = record {
-  tree = tree;
-  holds = holds;
-  now = now;
-  size = ap length files;
-  files = λ id lt. ap (λ l. file_with l id) files ∙ go id lt (nat_eq k id) refl;
-}
-  where
-    go : (id : ℕ) → id < length s.files.items → (b : Bool) → nat_eq k id ≡ b → file_with s.files.items id ≡ cond b (f (file_with s.files.items id)) (file_with s.files.items id)
-    go id lt true e = absurd (let same : k ≡ id = (numbers_tell k id).0 e in omega arith)
-    go id lt false e = refl
-
-pub filed_not : (s t : State) (f : File → File) → t.tree ≡ s.tree → t.holds.items ≡ s.holds.items → t.moment ≡ s.moment → t.files.items ≡ s.files.items → IsFiled f None s t
-filed_not s t f tree holds now files = record { tree = tree; holds = holds; now = now; size = ap length files; files = λ id lt. ap (λ l. file_with l id) files }
-
--- A file changed.
-pub shows_filed : (s t : State) (w v : World) (f : File → File) (o p : Option ℕ) → ShowsWorld s w → IsFiled f o s t → o ≡ p → v.drawn ≡ w.drawn
-    → ((id : ℕ) → v.files id ≡ cond (holds_file p id) (f (w.files id)) (w.files id)) → ((id : ℕ) → (v.files id).mode ≡ (w.files id).mode)
-    → v.durable ≡ w.durable → v.pending ≡ w.pending → ((u : ℕ) → v.holds u ≡ w.holds u) → v.now ≡ w.now → ShowsWorld t v
-shows_filed s t w v f o p shows filed same drawn files mode durable pending holds now = record {
-  tree = subst IsTree (sym filed.tree) shows.tree;
-  named = λ x. ap (λ r. named_in r.names.items x) filed.tree ∙ (shows.named x ∙ sym (alike_names w v durable pending x));
-  durable = λ x. ap (λ r. named_in r.durable.items x) filed.tree ∙ (shows.durable x ∙ sym (ap (λ d. d x) durable));
-  changes = ap (λ r. pending_of r.changes.items) filed.tree ∙ (shows.changes ∙ sym pending);
-  drawn = filed.size ∙ (shows.drawn ∙ sym drawn);
-  files = λ id lt. go id (subst (λ n. id < n) drawn lt) ∙ sym (files id);
-  holds = λ u. ap (λ hs. hold_in hs u) filed.holds ∙ (shows.holds u ∙ sym (holds u));
-  below = λ x g e. subst (λ n. g < n) (sym drawn) (shows.below x g (sym (alike_names w v durable pending x) ∙ e));
-  below_durable = subst (λ n. NamesBelow n v.durable) (sym drawn) (subst (NamesBelow w.drawn) (sym durable) shows.below_durable);
-  below_pending = subst (λ n. AllBelow n v.pending) (sym drawn) (subst (AllBelow w.drawn) (sym pending) shows.below_pending);
-  unmade = λ id le. mode id ∙ shows.unmade id (subst (λ n. n ≤ id) drawn le);
-  now = filed.now ∙ (shows.now ∙ sym now);
-}
-  where
-    go : (id : ℕ) → id < w.drawn → file_with t.files.items id ≡ cond (holds_file p id) (f (w.files id)) (w.files id)
-    go id lt =
-        filed.files id (subst (λ n. id < n) (sym shows.drawn) lt)
-        ∙ (ap (λ q. cond (holds_file q id) (f (file_with s.files.items id)) (file_with s.files.items id)) same
-        ∙ ap (λ g. cond (holds_file p id) (f g) g) (shows.files id lt))
-
-fed_is : (b : Bool) (f : File) (bytes : List ℕ) (at : ℤ) → same_file (record { bytes = cond b (f.bytes ++ bytes) f.bytes; synced = f.synced; mtime = cond b at f.mtime; mode = f.mode }) (cond b (fed_file bytes at f) f)
-fed_is true f bytes at = refl
-fed_is false f bytes at = refl
-
-synced_is : (b : Bool) (f : File) → same_file (record { bytes = f.bytes; synced = cond b (length f.bytes) f.synced; mtime = f.mtime; mode = f.mode }) (cond b (synced_file f) f)
-synced_is true f = refl
-synced_is false f = refl
-
-emptied_is : (b : Bool) (f : File) (at : ℤ) → same_file (record { bytes = cond b [] f.bytes; synced = cond b 0 f.synced; mtime = cond b at f.mtime; mode = f.mode }) (cond b (emptied_file at f) f)
-emptied_is true f at = refl
-emptied_is false f at = refl
-
-pub is_file_of : (t : Thing) (id : ℕ) → is_file t id ≡ holds_file (file_named t) id
-is_file_of thing.Nothing id = refl
-is_file_of (thing.File g) id = refl
-is_file_of thing.Directory id = refl
-is_file_of thing.Other id = refl
-
--- the entries of files
-pub shows_fed : (s t : State) (w : World) (writer : ℕ) (bytes : List ℕ) (at : ℤ) → ShowsWorld s w → IsFiled (fed_file bytes at) (hold_in s.holds.items writer) s t → ShowsWorld t (effect w (entry.Feed writer bytes at))
-shows_fed s t w writer bytes at shows filed =
-    shows_filed s t w (effect w (entry.Feed writer bytes at)) (fed_file bytes at) (hold_in s.holds.items writer) (w.holds writer) shows filed (shows.holds writer) refl
-    (λ id. fed_is (holds_file (w.holds writer) id) (w.files id) bytes at) (λ id. refl) refl refl (λ u. refl) refl
-
-pub shows_flushed : (s t : State) (w : World) (writer : ℕ) → ShowsWorld s w → IsFiled synced_file (hold_in s.holds.items writer) s t → ShowsWorld t (effect w (entry.Flush writer))
-shows_flushed s t w writer shows filed =
-    shows_filed s t w (effect w (entry.Flush writer)) synced_file (hold_in s.holds.items writer) (w.holds writer) shows filed (shows.holds writer) refl
-    (λ id. synced_is (holds_file (w.holds writer) id) (w.files id)) (λ id. refl) refl refl (λ u. refl) refl
-
-pub shows_appended : (s t : State) (w : World) (x : Path) (bytes : List ℕ) → ShowsWorld s w → IsFiled (fed_file bytes s.moment) (file_named (named_in s.tree.names.items x)) s t → ShowsWorld t (effect w (entry.Appends x bytes))
-shows_appended s t w x bytes shows filed =
-    shows_filed s t w (effect w (entry.Appends x bytes)) (fed_file bytes w.now) (file_named (named_in s.tree.names.items x)) (file_named (names w x)) shows
-    (subst (λ at. IsFiled (fed_file bytes at) (file_named (named_in s.tree.names.items x)) s t) shows.now filed) (ap file_named (shows.named x)) refl
-    (λ id. subst (λ b. same_file (record { bytes = cond b ((w.files id).bytes ++ bytes) (w.files id).bytes; synced = (w.files id).synced; mtime = cond b w.now (w.files id).mtime; mode = (w.files id).mode }) (cond (holds_file (file_named (names w x)) id) (fed_file bytes w.now (w.files id)) (w.files id)))
-    (sym (is_file_of (names w x) id)) (fed_is (holds_file (file_named (names w x)) id) (w.files id) bytes w.now))
-    (λ id. refl) refl refl (λ u. refl) refl
-
-pub shows_emptied : (s t : State) (w : World) (x : Path) → ShowsWorld s w → IsFiled (emptied_file s.moment) (file_named (named_in s.tree.names.items x)) s t → ShowsWorld t (effect w (entry.Truncates x))
-shows_emptied s t w x shows filed =
-    shows_filed s t w (effect w (entry.Truncates x)) (emptied_file w.now) (file_named (named_in s.tree.names.items x)) (file_named (names w x)) shows
-    (subst (λ at. IsFiled (emptied_file at) (file_named (named_in s.tree.names.items x)) s t) shows.now filed) (ap file_named (shows.named x)) refl
-    (λ id. subst (λ b. same_file (record { bytes = cond b [] (w.files id).bytes; synced = cond b 0 (w.files id).synced; mtime = cond b w.now (w.files id).mtime; mode = (w.files id).mode }) (cond (holds_file (file_named (names w x)) id) (emptied_file w.now (w.files id)) (w.files id)))
-    (sym (is_file_of (names w x) id)) (emptied_is (holds_file (file_named (names w x)) id) (w.files id) w.now))
-    (λ id. refl) refl refl (λ u. refl) refl
-
-pub shows_synced : (s t : State) (w : World) (x : Path) → ShowsWorld s w → IsFiled synced_file (file_named (named_in s.tree.names.items x)) s t → ShowsWorld t (effect w (entry.SyncsFile x))
-shows_synced s t w x shows filed =
-    shows_filed s t w (effect w (entry.SyncsFile x)) synced_file (file_named (named_in s.tree.names.items x)) (file_named (names w x)) shows filed (ap file_named (shows.named x)) refl
-    (λ id. subst (λ b. same_file (record { bytes = (w.files id).bytes; synced = cond b (length (w.files id).bytes) (w.files id).synced; mtime = (w.files id).mtime; mode = (w.files id).mode }) (cond (holds_file (file_named (names w x)) id) (synced_file (w.files id)) (w.files id)))
-    (sym (is_file_of (names w x) id)) (synced_is (holds_file (file_named (names w x)) id) (w.files id)))
-    (λ id. refl) refl refl (λ u. refl) refl
 
 -- A directory was synced.
 pub shows_settled : (s t : State) (w : World) (dir : Path) → ShowsWorld s w → IsSynced dir s.tree t.tree → t.files.items ≡ s.files.items → t.holds.items ≡ s.holds.items → t.moment ≡ s.moment → ShowsWorld t (effect w (entry.SyncsDir dir))
@@ -489,13 +394,3 @@ starts_is s t w e state now rules is shows tree files holds moment = subst (λ d
 
 pub makes_is : (s t : State) (w : World) (e : Entry) (x : Path) (mode : Option ℕ) → e ≡ entry.Makes x mode → ShowsWorld s w → EntryHasRoom s e → ((v : World) (y : Path) → CanDraw s y → ShowsWorld s v → ShowsWorld t (made_world v y s.moment mode)) → ShowsWorld t (effect w e)
 makes_is s t w e x mode is shows ready made = subst (λ d. ShowsWorld t (effect w d)) (sym is) (subst (λ at. ShowsWorld t (made_world w x at mode)) shows.now (made w x (subst (EntryHasRoom s) is ready) shows))
-
--- an entry that is none of a writer's and no cut is one of the tool
-pub tools_left : (e : Entry) → ((v : ℕ) (x : Path) (at : ℤ) → e ≡ entry.Attach v x at → ⊥) → ((v : ℕ) (bytes : List ℕ) (at : ℤ) → e ≡ entry.Feed v bytes at → ⊥) → ((v : ℕ) → e ≡ entry.Flush v → ⊥) → ((v : ℕ) → e ≡ entry.Detach v → ⊥)
-    → ((kept : List ℕ) (lengths : List (ℕ × ℕ)) → e ≡ entry.Cut kept lengths → ⊥) → IsTools e
-tools_left (entry.Attach v x at) na nf ns nd nc = absurd (na v x at refl)
-tools_left (entry.Feed v bytes at) na nf ns nd nc = absurd (nf v bytes at refl)
-tools_left (entry.Flush v) na nf ns nd nc = absurd (ns v refl)
-tools_left (entry.Detach v) na nf ns nd nc = absurd (nd v refl)
-tools_left (entry.Cut kept lengths) na nf ns nd nc = absurd (nc kept lengths refl)
-tools_left _ na nf ns nd nc = tt

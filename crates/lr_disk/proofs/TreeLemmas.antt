@@ -13,9 +13,6 @@ use Rattle.lr_disk.proofs.StepLemmas.{known_more}
 pub same_self : (t : Tree) → IsTree t → IsSameTree t t
 same_self t i = record { tree = i; named = λ x. refl; durable = λ x. refl; changes = refl }
 
-pub same_on : (s m t : Tree) → IsSameTree s m → IsSameTree m t → IsSameTree s t
-same_on s m t a b = record { tree = b.tree; named = λ x. b.named x ∙ a.named x; durable = λ x. b.durable x ∙ a.durable x; changes = b.changes ∙ a.changes }
-
 -- tables that have more paths
 pub same_wider : (s t : Tree) → IsTree s → ((x : Path) → named_in t.names.items x ≡ named_in s.names.items x) → AreDistinct (keys t.names.items)
     → ((x : Path) → named_in t.durable.items x ≡ named_in s.durable.items x) → AreDistinct (keys t.durable.items) → ((x : Path) → has_path s.durable.items x ≡ true → has_path t.durable.items x ≡ true)

@@ -1,7 +1,7 @@
 -- When an opening is a disk, piece by piece.
-use Rattle.std.proofs.Common.{◌≡◌, ◌≢◌, ◌↔◌, ⊎_elim, ℕ, zero, suc, ◌+◌, ◌<◌, ◌≤◌, List, [], ◌∷◌, length, get_or, drop, All, sym, ap, subst, arith, ◌∙◌}
+use Rattle.std.proofs.Common.{◌≡◌, ◌≢◌, ◌↔◌, ⊎_elim, ℕ, zero, suc, ◌+◌, ◌<◌, List, [], ◌∷◌, length, get_or, drop, All, sym, ap, subst, arith, ◌∙◌}
 use Rattle.std.proofs.lemmas.Bool.{cases_eq}
-use Rattle.std.proofs.lemmas.List.{drop_more, drop_all, get_or_default}
+use Rattle.std.proofs.lemmas.List.{drop_more, get_or_default}
 use Rattle.lr_host.specs.Lists.{AreDistinct, IsNotIn}
 use Rattle.lr_disk.specs.Pairs.{keys}
 
@@ -27,9 +27,6 @@ once_on ps i d lt so_far new = (
 
 pub once_new : {K V : Type 0} (ps : List (K × V)) (i : ℕ) (d : K × V) → i < length ps → AreDistinct (keys (drop i ps)) ↔ AreDistinct (keys ps) → AreDistinct (keys ps) → All (λ p. (get_or ps i d).0 ≢ p.0) (drop (i + 1) ps)
 once_new ps i d lt so_far all = all_not_in (get_or ps i d).0 (drop (i + 1) ps) (subst (λ qs. AreDistinct (keys qs)) (drop_more ps i d lt) (so_far.1 all)).0
-
-pub once_all : {K V : Type 0} (ps : List (K × V)) (i : ℕ) → length ps ≤ i → AreDistinct (keys (drop i ps)) ↔ AreDistinct (keys ps) → AreDistinct (keys ps)
-once_all ps i le so_far = so_far.0 (subst (λ qs. AreDistinct (keys qs)) (sym (drop_all i ps le)) tt)
 
 -- one element more has it
 pub each_more : {X : Type 0} (P : X → Type 0) (xs : List X) (i : ℕ) (x : X) → x ≡ get_or xs i x → i < length xs → ((k : ℕ) (d : X) → k < i → P (get_or xs k d)) → P x → (k : ℕ) (d : X) → k < i + 1 → P (get_or xs k d)

@@ -1,5 +1,5 @@
 -- Facts of each number of a list, by recursion, and of lists that fall.
-use Rattle.std.proofs.Common.{◌≡◌, ◌⊎◌, inl, inr, ℕ, zero, suc, ◌<◌, Bool, true, false, ◌==◌, ◌||◌, cond, List, [], ◌∷◌, ◌++◌, length, reverse, refl, sym, subst, arith, eqb-true, eq-eqb, ap, ◌∙◌}
+use Rattle.std.proofs.Common.{◌≡◌, ◌⊎◌, inl, inr, ℕ, zero, suc, ◌<◌, Bool, true, false, ◌==◌, ◌||◌, cond, List, [], ◌∷◌, ◌++◌, length, reverse, refl, sym, subst, arith, eqb-true, eq-eqb}
 use Rattle.std.specs.Prelude.{filter, Contains, Any, All}
 use Rattle.std.specs.List.{list_any, AllPairs}
 use Rattle.std.proofs.lemmas.List.{reverse-append}
@@ -82,11 +82,6 @@ pub falls_reverse : (ks : List ℕ) → AllPairs (λ a b. a < b) ks → Falls (r
 falls_reverse [] h = tt
 falls_reverse (k ∷ ks) h = subst Falls (sym (reverse-append (k ∷ []) ks)) (falls_push (reverse ks) k (falls_reverse ks (rest_rises k ks h)) (every_reverse (λ j. k < j) ks (later k ks h)))
 
--- the number at the head of the list
-abbrev pub IsHead : ℕ → List ℕ → Type 0
-IsHead top [] = ⊥
-IsHead top (k ∷ ks) = k ≡ top
-
 pub among : (top : ℕ) (ks : List ℕ) (P : ℕ → Type 0) → list_any (λ k. k == top) ks ≡ true → Every P ks → P top
 among top [] P h a = absurd (cc)
 among top (k ∷ ks) P h a = go (k == top) refl (λ r. among top ks P r a.1) h
@@ -94,23 +89,6 @@ among top (k ∷ ks) P h a = go (k == top) refl (λ r. among top ks P r a.1) h
     go : (b : Bool) → (k == top) ≡ b → (list_any (λ j. j == top) ks ≡ true → P top) → (b || list_any (λ j. j == top) ks) ≡ true → P top
     go true e further h = subst P (eqb-true k top e) a.0
     go false e further h = further h
-
--- the highest of those that pass is this number, where it is among them, passes, and none above it does
-pub head_of : (p : ℕ → Bool) (top : ℕ) (ks : List ℕ) → p top ≡ true → ((k : ℕ) → top < k → p k ≡ false) → Falls ks → list_any (λ k. k == top) ks ≡ true → IsHead top (filter p ks)
-head_of p top [] is above f h = absurd (cc)
-head_of p top (k ∷ ks) is above f h = go (k == top) refl (λ r. head_of p top ks is above f.1 r) h
-  where
-    keep : (b : Bool) → b ≡ true → k ≡ top → IsHead top (cond b (k ∷ filter p ks) (filter p ks))
-    keep true t e = e
-    keep false t e = absurd (cc)
-
-    pass : (b : Bool) → b ≡ false → IsHead top (filter p ks) → IsHead top (cond b (k ∷ filter p ks) (filter p ks))
-    pass true t r = absurd (cc)
-    pass false t r = r
-
-    go : (b : Bool) → (k == top) ≡ b → (list_any (λ j. j == top) ks ≡ true → IsHead top (filter p ks)) → (b || list_any (λ j. j == top) ks) ≡ true → IsHead top (filter p (k ∷ ks))
-    go true e further h = let same : k ≡ top = eqb-true k top e in keep (p k) (ap p same ∙ is) same
-    go false e further h = pass (p k) (above k (among top ks (λ j. j < k) h f.0)) (further h)
 
 pub in_or_not : (ks : List ℕ) (k : ℕ) → Contains ks k ⊎ (Contains ks k → ⊥)
 in_or_not ks k = go (list_any (λ j. j == k) ks) refl

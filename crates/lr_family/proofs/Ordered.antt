@@ -5,13 +5,12 @@ use Rattle.std.specs.BTreeMap.{is_at}
 use Rattle.std.specs.Cmp.{IsTotalOrder}
 use Rattle.std.specs.List.{list_any}
 use Rattle.std.specs.List.Sorted.{IsStrictlySortedBy}
-use Rattle.std.proofs.lemmas.Cmp.{nat_list_cmp_total}
 use Rattle.std.proofs.lemmas.List.Folds.{Any-from_list_any, list_any-from_Any}
-use Rattle.std.proofs.lemmas.Map.Lookups.{CmpEqualImpliesEq, exact_bytes, btree_set_from_contains}
+use Rattle.std.proofs.lemmas.Map.Lookups.{CmpEqualImpliesEq, btree_set_from_contains}
 use Rattle.lr_rules.specs.declared.path.Path.{Path}
 use Rattle.lr_rules.specs.declared.rule.Naming.{Naming}
 use Rattle.lr_rules.proofs.Bools.{same_bools}
-use Rattle.lr_family.specs.Parts.{IsPartAmong, AreParts, by_bytes}
+use Rattle.lr_family.specs.Parts.{IsPartAmong}
 
 any_same : {K : Type 0} (p : K → Bool) (xs ys : List K) → ((x : K) → Contains xs x → Contains ys x) → list_any p xs ≡ true → list_any p ys ≡ true
 any_same p xs ys f e = go (Any-from_list_any p xs e)
@@ -31,8 +30,3 @@ AreAmong names more = (name : List ℕ) → Contains names name → Contains mor
 
 pub part_more : (n : Naming) (names more : List (List ℕ)) (x : Path) → AreAmong names more → IsPartAmong n names x → IsPartAmong n more x
 part_more n names more x f p = record { part = p.part; name = p.name; listed = f p.name p.listed; named = p.named }
-
--- the part files among the same names are the same
-pub same_parts : (n : Naming) (names more : List (List ℕ)) (paths others : List Path) → AreAmong names more → AreAmong more names → AreParts n names paths → AreParts n more others → paths ≡ others
-same_parts n names more paths others f g are be = same_rising {R = by_bytes} nat_list_cmp_total exact_bytes paths others are.rising be.rising
-    (λ x c. (be.all x).1 (part_more n names more x f ((are.all x).0 c))) (λ x c. (are.all x).1 (part_more n more names x g ((be.all x).0 c)))

@@ -1,5 +1,5 @@
 -- What looks at part files, one after another, leave.
-use Rattle.std.proofs.Common.{◌≡◌, inl, inr, ⊎_elim, ℕ, ◌≤◌, List, [], ◌∷◌, ◌++◌, length, map, Option, Some, None, refl, sym, ap, ◌∙◌, subst, append_assoc, arith}
+use Rattle.std.proofs.Common.{◌≡◌, inl, inr, ℕ, ◌≤◌, List, [], ◌∷◌, ◌++◌, length, map, Option, Some, None, refl, sym, ap, ◌∙◌, subst, append_assoc, arith}
 use Rattle.std.specs.Prelude.{flat_map, Contains}
 use Rattle.std.specs.List.Sorted.{IsStrictlySortedBy}
 use Rattle.std.proofs.lemmas.Grind.{flat_map-append}
@@ -17,7 +17,6 @@ use Rattle.lr_host.specs.declared.journal.Journal.{Journal}
 use Rattle.lr_host.specs.Lists.{IsIn}
 use Rattle.lr_host.specs.Told.{Left}
 use Rattle.lr_host.proofs.Left.{left_first, left_as, left_then}
-use Rattle.lr_host.proofs.Lists.{in_append}
 use Rattle.lr_host.specs.Looks.{PathSight, look_of}
 use Rattle.lr_family.specs.declared.stand.StandStop.{StandStop}
 use Rattle.lr_family.specs.declared.stand.StandStop.TheVariants as stop
@@ -128,13 +127,3 @@ one_seen path x (Some s) h = go s.kind refl h
     go kind.File e (inr none) = absurd none
     go kind.Dir e none = absurd none
     go kind.Other e none = absurd none
-
-sight_seen : (x : Path) (sights : List PathSight) → IsIn x (flat_map part_in sights) → (s : Seen) × (s.kind ≡ kind.File) × IsIn (entry.Look x (Some s)) (map look_of sights)
-sight_seen x [] h = absurd h
-sight_seen x (g ∷ gs) h = ⊎_elim
-    (λ a. let r = one_seen g.path x g.seen a in (r.1.0, r.1.1, inl (ap (λ (p : Path). entry.Look p g.seen) r.0 ∙ ap (λ (v : Option Seen). entry.Look x v) r.1.2)))
-    (λ b. let r = sight_seen x gs b in (r.0, r.1, inr r.2))
-    (in_append x (part_in g) (flat_map part_in gs) h)
-
-pub part_was_seen : (n : Naming) (names : List (List ℕ)) (parts : List Path) (x : Path) (ts : List Entry) → PartsAmong n names parts ts → IsIn x parts → (s : Seen) × (s.kind ≡ kind.File) × IsIn (entry.Look x (Some s)) ts
-part_was_seen n names parts x ts t h = let r = sight_seen x t.sights (subst (IsIn x) t.parts_are h) in (r.0, r.1, subst (IsIn (entry.Look x (Some r.0))) (sym t.looks) r.2)

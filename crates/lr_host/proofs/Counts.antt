@@ -156,8 +156,3 @@ went_as (Err x) a b k l p h = h
 pub went_onward : {T E : Type 0} (r : Result T E) (a b : List Fault) (k l : Counts) → WentBy r a b k l → Onward k l
 went_onward (Ok x) a b k l h = h.onward
 went_onward (Err x) a b k l h = h
-
--- what it added where it ended well
-pub went_adds : {T E : Type 0} (r : Result T E) (a b : List Fault) (k l : Counts) → WentBy r a b k l → OnOk r (AddsFaults a b k l)
-went_adds (Ok x) a b k l h = h.adds
-went_adds (Err x) a b k l h = tt

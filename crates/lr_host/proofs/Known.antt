@@ -1,9 +1,8 @@
 -- What a call that was left teaches.
-use Rattle.std.proofs.Common.{◌≡◌, ◌⊎◌, inl, inr, ℕ, refl, sym, ◌∙◌, ap, subst, Option, Some, List, [], ◌∷◌, reverse}
+use Rattle.std.proofs.Common.{◌≡◌, ◌⊎◌, inl, inr, sym, ◌∙◌, ap, subst, Option, Some, List, [], ◌∷◌, reverse}
 use Rattle.std.proofs.lemmas.List.{reverse-reverse}
 use Rattle.std.specs.Prelude.{filter}
 use Rattle.lr_rules.specs.declared.path.Path.{Path}
-use Rattle.lr_host.specs.declared.thing.Thing.TheVariants as thing
 use Rattle.lr_host.specs.declared.thing.Kind.TheVariants as kind
 use Rattle.lr_host.specs.declared.thing.Seen.{Seen}
 use Rattle.lr_host.specs.declared.entry.Entry.{Entry}
@@ -15,18 +14,12 @@ use Rattle.lr_host.specs.Fits.{Fits}
 use Rattle.lr_host.specs.Opening.{IsJournal}
 use Rattle.lr_host.specs.Told.{WhereTold, Made, at_first, by_writer, by_tool, Left, not_told, is_told, CanCall, Can}
 use Rattle.lr_host.specs.Steps.{is_naming}
-use Rattle.lr_host.proofs.Names.{put_here}
-use Rattle.lr_host.proofs.More.{IsMore, more_on, can_more, wrote_names}
+use Rattle.lr_host.proofs.More.{IsMore, can_more, wrote_names}
 use Rattle.lr_host.proofs.Each.{filter_reverse, none_passed}
 use Rattle.lr_host.proofs.Left.{still_step}
 use Rattle.lr_host.proofs.Lists.{from_reverse}
 use Rattle.lr_host.proofs.Made.{made_journal}
 use Rattle.lr_host.proofs.Looked.{seen_file}
-
--- What one entry that was left says of the world now: what it makes so, writers don't end.
-writers_more : (p q : Past) → Made p [] q → IsMore (names (world p)) (names (world q))
-writers_more p _ at_first = λ y. inl refl
-writers_more p _ (by_writer {q = q} {e = e} m i f) = more_on (names (world p)) (names (world q)) (names (world (q ▸ e))) (writers_more p q m) (λ y. wrote_names q e y i)
 
 one_tells : (P : Names → Type 0) → ((n n' : Names) → IsMore n n' → P n → P n') → (p q : Past) (e : Entry) (es : List Entry) → es ≡ e ∷ [] → Made p es q
     → ((w : Past) → Fits (world w) e → P (names (world (w ▸ e)))) → P (names (world q))
@@ -49,10 +42,6 @@ entry_says {e} {e'} l f = record { can = entry_tells (λ n. CanCall n e') (λ n 
 -- a path where a look saw a file can be read, renamed and so on
 pub seen_can_read : {x : Path} {seen : Seen} {o n : Option Journal} → Left (λ ts. ts ≡ entry.Look x (Some seen) ∷ []) o n → seen.kind ≡ kind.File → Can n (entry.Reads x 0 [])
 seen_can_read {x} {seen} l k = entry_says l (λ w f. seen_file (world w) (names (world w) x) seen f k)
-
--- a path that was made can be appended to
-pub made_can_append : {x : Path} {mode : Option ℕ} {o n : Option Journal} → Left (λ ts. ts ≡ entry.Makes x mode ∷ []) o n → Can n (entry.Appends x [])
-made_can_append {x} {mode} l = entry_says l (λ w f. ((world w).drawn, put_here (names (world w)) x x (thing.File (world w).drawn) refl))
 
 -- A journal stays one.
 pub left_journal : {P : List Entry → Type 0} {o n : Option Journal} → Left P o n → WhereTold o IsJournal → WhereTold n IsJournal

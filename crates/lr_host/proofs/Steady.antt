@@ -6,7 +6,7 @@ use Rattle.lr_host.specs.World.{Past, Opens, ◌▸◌}
 use Rattle.lr_host.specs.Told.{Made, at_first, by_writer, by_tool}
 use Rattle.std.proofs.Common.{List}
 use Rattle.lr_host.specs.Sets.{LogSet}
-use Rattle.lr_host.specs.Steady.{IsSteadyBy, IsSteadyAtBy, IsSteady, IsSteadyAt, NoneAttached}
+use Rattle.lr_host.specs.Steady.{IsSteadyBy, IsSteadyAtBy, IsSteady, NoneAttached}
 
 -- ---- for logs that are rotated in any one way
 
@@ -29,9 +29,6 @@ none_attached_by way s (p ▸ e) st = (none_attached_by way s p st.0, st.2)
 
 pub steady_before : (s : LogSet) (p q : Past) (es : List Entry) → Made p es q → IsSteady s q → IsSteady s p
 steady_before s p q es m st = steady_before_by Rename s p q es m st
-
-pub steady_at : (s : LogSet) (p q : Past) (e : Entry) (es : List Entry) → Made (p ▸ e) es q → IsSteady s q → IsSteadyAt s q
-steady_at s p q e es m st = steady_at_by Rename s p q e es m st
 
 pub none_attached : (s : LogSet) (q : Past) → IsSteady s q → NoneAttached s q
 none_attached s q st = none_attached_by Rename s q st

@@ -58,10 +58,6 @@ total_mapped : {A B : Type 0} (v : A → ℕ) (w : B → ℕ) (f : A → Option 
 total_mapped v w f h [] = refl
 total_mapped v w f h (x ∷ xs) = let a = total_option w (f x) (filter_map f xs) in let b = h x in let more = total_mapped v w f h xs in omega (arith, a, b, more)
 
-total_none : {A : Type 0} (w : A → ℕ) → ((x : A) → w x ≡ 0) → (xs : List A) → total w xs ≡ 0
-total_none w h [] = refl
-total_none w h (x ∷ xs) = let a = h x in let more = total_none w h xs in omega (arith, a, more)
-
 calls_total : (fs : List Fault) → calls_in fs ≡ total call_in fs
 calls_total [] = refl
 calls_total (f ∷ fs) = ap (λ n. call_in f + n) (calls_total fs)

@@ -76,10 +76,6 @@ one_line old new before after faults includes lines inside e same files_are is k
     one : asked false (lines ++ e ∷ []) ≡ asked false lines ++ includes
     one = k.asks (e ∷ []) ∙ ap (λ (is : List Include). asked false lines ++ is) (same.1 [] ∙ append-nil includes)
 
--- a line that tells nothing
-quiet_line : (old new : Layer) (e : Line) → ((more : List Line) → coming old (e ∷ more) ≡ coming new more) → ((more : List Line) → asking old (e ∷ more) ≡ asking new more) → ((more : List Line) → banning old (e ∷ more) ≡ banning new more) → SameLines old new [] [] e
-quiet_line old new e c a b = (c, a, b)
-
 pub passed_line : (old new : Layer) (before after faults : List Fault) (lines : List Line) (inside : List Path) (e : Line)
     → ((more : List Line) → coming old (e ∷ more) ≡ (told faults and coming new more)) → ((more : List Line) → asking old (e ∷ more) ≡ asking new more) → ((more : List Line) → banning old (e ∷ more) ≡ banning new more)
     → entered new ≡ entered old → after ≡ before ++ faults → Knows old before lines inside → Knows new after (lines ++ e ∷ []) inside
@@ -181,22 +177,6 @@ pub took_spoilt : (old mid new : Course) (line : ℕ) (kind : ConfKind) → Besi
 took_spoilt old mid new line kind same means passes files pos layer told_it rest = took_fault old new line kind
     (told_fault old mid new (conf (file_of_layer old.layer) kind line) same means passes files layer (told_it ∙ ap (λ (x : Path). mid.faults.items ++ conf x kind line ∷ []) (ap (last_or []) files)) rest) pos
 
-pub closed_quiet : (old new : Course) → Beside old new → ((more : List Line) → coming old.layer (End (file_of_layer old.layer) ∷ more) ≡ coming new.layer more) → LayerPasses old.layer new.layer (End (file_of_layer old.layer)) → entered new.layer ≡ entered old.layer → ClosesFile old new
-closed_quiet old new same means passes files = record {
-  knows = λ lines inside k. passed_line old.layer new.layer old.faults.items new.faults.items [] lines inside (End (file_of_layer old.layer)) means passes.asks passes.bans files (same.0 ∙ sym (append-nil old.faults.items)) k;
-  entered_are = files;
-  rest = record { files = same.1; bytes = same.2; exposed = same.4; todo = same.3 };
-}
-
-pub closed_told : (old mid new : Course) (f : Fault) → Beside old mid → ((more : List Line) → coming old.layer (End (file_of_layer old.layer) ∷ more) ≡ (told (f ∷ []) and coming mid.layer more)) → LayerPasses old.layer mid.layer (End (file_of_layer old.layer))
-    → entered mid.layer ≡ entered old.layer → new.layer ≡ mid.layer → new.faults.items ≡ mid.faults.items ++ f ∷ [] → SameRest mid new → ClosesFile old new
-closed_told old mid new f same means passes files layer told_it rest = record {
-  knows = λ lines inside k. subst (λ (x : Layer). Knows x new.faults.items (lines ++ End (file_of_layer old.layer) ∷ []) inside) (sym layer)
-      (passed_line old.layer mid.layer old.faults.items new.faults.items (f ∷ []) lines inside (End (file_of_layer old.layer)) means passes.asks passes.bans files (told_it ∙ ap (λ (fs : List Fault). fs ++ f ∷ []) same.0) k);
-  entered_are = ap entered layer ∙ files;
-  rest = record { files = rest.files ∙ same.1; bytes = rest.bytes ∙ same.2; exposed = rest.exposed ∙ same.4; todo = rest.todo ∙ same.3 };
-}
-
 -- the file is left
 left_layer : (mid new : Layer) (faults : List Fault) (lines : List Line) (inside : List Path) → ((more : List Line) → coming new more ≡ coming mid more) → Alike mid new → entered new ≡ take (length (entered mid) - 1) (entered mid) → Knows mid faults lines inside
     → Knows new faults lines (take (length inside - 1) inside)
@@ -229,26 +209,6 @@ took_break old mid new cut f t means passes files same c a e pos = by_entered ol
       exposed = same.4 ∙ t.rest.exposed;
       todo = ap reverse (same.3 ∙ t.rest.todo) ∙ ap (λ (ts : List Task). ts ++ reverse old.todo.items) (sym (asks_of_open (entered old.layer) lines (piece.Break f) (some_file old.layer pos)));
     })
-
--- where no file is read
-pub took_none : (c : Course) (p : Piece) → length (entered c.layer) ≡ 0 → TakesPiece c c p
-took_none c p e lines inside k = by inside p (sym (ap length k.files) ∙ e) k
-  where
-    none : (p : Piece) → open_behind [] p ≡ []
-    none (piece.Item i) = refl
-    none (piece.Fault at kind) = refl
-    none piece.End = refl
-    none (piece.Break f) = refl
-
-    by : (inside : List Path) (p : Piece) → length inside ≡ 0 → Knows c.layer c.faults.items lines inside → TookPiece c c p lines inside
-    by [] p e k = record {
-      knows = subst (λ (files : List Path). Knows c.layer c.faults.items (lines ++ []) files) (sym (none p)) (subst (λ (ls : List Line). Knows c.layer c.faults.items ls []) (sym (append-nil lines)) k);
-      files = refl;
-      bytes = refl;
-      exposed = refl;
-      todo = refl;
-    }
-    by (f ∷ fs) p e k = absurd (omega (arith, e))
 
 -- ---- stages
 

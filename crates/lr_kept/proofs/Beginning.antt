@@ -14,9 +14,6 @@ use Rattle.lr_kept.specs.declared.front.Front.{Front}
 use Rattle.lr_kept.specs.Chosen.{IsKeptAt}
 use Rattle.lr_kept.specs.Fronts.{HaveFronts, AddsFronts, aside_front, fronts_at, front_at, member_front, below}
 
-pub no_fronts : (logs : List (Bor Family)) (choices : List Choice) → HaveFronts logs choices 0 []
-no_fronts logs choices = record { places = All-nil (λ f. f.place < length logs); each = λ k f lt. absurd (let l : k < 0 = lt in omega arith) }
-
 -- what is there stays there
 wider : (old more fs : List Front) → All (Contains old) fs → All (Contains (old ++ more)) fs
 wider old more fs all = All-weaker (Contains old) (Contains (old ++ more)) (λ x c. Contains-append_left old more x c) fs all

@@ -1,5 +1,5 @@
 -- Which logs are kept once all pairs are settled.
-use Rattle.std.proofs.Common.{◌≡◌, ◌≢◌, ◌∙◌, sym, ap, subst, refl, inl, inr, ⊎_elim, ◌⊎◌, ℕ, ◌<◌, ◌≤◌, ◌+◌, List, Bool, length, set, Some, slice_get, get_or, length-set, arith}
+use Rattle.std.proofs.Common.{◌≡◌, ◌≢◌, ◌∙◌, sym, ap, subst, inl, inr, ⊎_elim, ◌⊎◌, ℕ, ◌<◌, ◌≤◌, ◌+◌, List, Bool, length, set, Some, slice_get, get_or, length-set, arith}
 use Rattle.std.specs.Borrow.{Bor}
 use Rattle.std.proofs.lemmas.Bool.{cases_lt, cases_eq}
 use Rattle.std.proofs.lemmas.List.Elements.{All-contains}
@@ -15,23 +15,6 @@ use Rattle.lr_kept.specs.Chosen.{IsAgain, MeetAt, IsKeptAt, IsChoice, AreChosen}
 use Rattle.lr_kept.specs.Members.{IsOwn, ArePassed}
 use Rattle.lr_kept.specs.Pairs.{pair_at, IsPair, HavePairs, PairsRise, IsPairSettled, IsPairAmong, AreSettled}
 use Rattle.lr_kept.proofs.Elements.{read_set_same, read_set_other, contains_read, contains_from}
-
-abbrev HasNone : List Choice → Type 0
-HasNone begun = (k i : ℕ) → slice_get begun k ≡ Some (Meets i) → ⊥
-
-pub begins_settled : (begun : List Choice) (pairs : List Pair) → HasNone begun → AreSettled begun pairs 0 begun
-begins_settled begun pairs none = record {
-  as_many = refl;
-  kept = λ k h. h;
-  again = λ k i h. h;
-  joined = λ k i h. h;
-  barred = λ k i h. h;
-  met_new = λ k i h. absurd (none k i h);
-  met_kept = λ k i h. absurd (none k i h);
-  met_pair = λ k i h. absurd (none k i h);
-  met_first = λ k i j h. absurd (none k i h);
-  apart = λ k j m. absurd (let l : m.0 < 0 = m.1 in omega arith);
-}
 
 -- one pair more
 module _ (pairs : List Pair) (n : ℕ) (p : Pair) (at : slice_get pairs n ≡ Some p) where

@@ -1,10 +1,10 @@
 -- The pairs of logs that meet.
-use Rattle.std.proofs.Common.{◌≡◌, ◌≢◌, ◌∙◌, sym, ap, subst, inl, inr, ⊎_elim, ℕ, ◌<◌, ◌≤◌, ◌+◌, List, [], ◌∷◌, ◌++◌, length, Bool, true, false, not, cond, Some, slice_get, true≢false, arith}
+use Rattle.std.proofs.Common.{◌≡◌, ◌≢◌, ◌∙◌, sym, ap, subst, inl, inr, ⊎_elim, ℕ, ◌<◌, ◌≤◌, ◌+◌, List, [], ◌∷◌, ◌++◌, length, Bool, true, false, not, cond, Some, slice_get, arith}
 use Rattle.std.specs.Prelude.{All, Contains, ◌↔◌}
 use Rattle.std.specs.Borrow.{Bor}
 use Rattle.std.specs.List.Sorted.{IsPermutation}
 use Rattle.std.proofs.lemmas.Bool.{not-true, lt-ltb, le-ltb, cases_order, cases_lt}
-use Rattle.std.proofs.lemmas.List.Elements.{All-nil, All-push, All-weaker, Contains-append_left, Contains-push, All-head, All-tail}
+use Rattle.std.proofs.lemmas.List.Elements.{All-push, All-weaker, Contains-append_left, Contains-push, All-head, All-tail}
 use Rattle.std.proofs.lemmas.List.Sorted.{Contains-permutation, All-permutation}
 use Rattle.std.proofs.lemmas.Option.{slice_get_within}
 use Rattle.lr_rules.specs.Names.{aside_path, Meet}
@@ -65,9 +65,6 @@ adds_pair logs i k old new ne m is = subst (λ (ps : List Pair). AddsPair logs i
   found = λ _ _. Contains-push old (pair_of i k);
 })
 
-pub adds_none : (logs : List (Bor Family)) (i k : ℕ) (old : List Pair) → ((i ≢ k) × MeetAt logs i k → ⊥) → AddsPair logs i k old old
-adds_none logs i k old none = record { grows = stays logs old; found = λ ne m. absurd (none (ne, m)) }
-
 module _ (logs : List (Bor Family)) (fronts : List Front) (place from : ℕ) where
   pub between_none : (old : List Pair) → AddsBetween logs fronts place from from old old
   between_none old = record { grows = stays logs old; found = λ t f at le l. absurd (omega arith) }
@@ -100,12 +97,6 @@ aside_found logs fronts place f old new at a = record {
   found = λ g bytes k here on c h. a.found bytes k c (subst (λ (x : Bor Family). Begins (aside_path x.now.log) bytes) (same_read logs place g f here at) h);
 }
 
-pub aside_none : (logs : List (Bor Family)) (fronts : List Front) (place : ℕ) (f : Bor Family) (old : List Pair) → slice_get logs place ≡ Some f → f.now.naming.aside ≡ false → AddsAside logs fronts place old old
-aside_none logs fronts place f old at off = record {
-  grows = stays logs old;
-  found = λ g bytes k here on c h. absurd (let same : g ≡ f = same_read logs place g f here at in true≢false (sym on ∙ (ap (λ (x : Bor Family). x.now.naming.aside) same ∙ off)));
-}
-
 pub found_all : (logs : List (Bor Family)) (choices : List Choice) (fronts : List Front) (place : ℕ) (f : Bor Family) (old mid more new : List Pair) → slice_get logs place ≡ Some f → AddsPairs logs fronts place (member_front f.now.naming) old mid → AddsPairs logs fronts place (below f.now.log) mid more
     → AddsAside logs fronts place more new → AddsPairsOf logs choices fronts place old new
 found_all logs choices fronts place f old mid more new at a b d = record {
@@ -117,12 +108,6 @@ found_all logs choices fronts place f old mid more new at a b d = record {
     by g bytes k c same here (inl h) = has_still logs mid new place k (grows_on logs mid more new b.grows d.grows) (a.found bytes k c (subst (λ (x : Bor Family). Begins (member_front x.now.naming) bytes) (sym same) h))
     by g bytes k c same here (inr (inl h)) = has_still logs more new place k d.grows (b.found bytes k c (subst (λ (x : Bor Family). Begins (below x.now.log) bytes) (sym same) h))
     by g bytes k c same here (inr (inr h)) = d.found g bytes k here h.0 c h.1
-
-pub found_none : (logs : List (Bor Family)) (choices : List Choice) (fronts : List Front) (place : ℕ) (old : List Pair) → (IsKeptAt choices place → ⊥) → AddsPairsOf logs choices fronts place old old
-found_none logs choices fronts place old none = record { grows = stays logs old; found = λ g bytes k here kept c finds. absurd (none kept) }
-
-pub begins_found : (logs : List (Bor Family)) (choices : List Choice) (fronts : List Front) → HaveFound logs choices fronts 0 []
-begins_found logs choices fronts = record { sound = All-nil (IsPair logs); found = λ i f bytes k lt. absurd (let l : i < 0 = lt in omega arith) }
 
 pub more_found : (logs : List (Bor Family)) (choices : List Choice) (fronts : List Front) (n : ℕ) (mid new : List Pair) → HaveFound logs choices fronts n mid → AddsPairsOf logs choices fronts n mid new → HaveFound logs choices fronts (n + 1) new
 more_found logs choices fronts n mid new so_far adds = record {

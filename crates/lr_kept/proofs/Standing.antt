@@ -1,5 +1,5 @@
 -- Where the fronts stand that begin with given bytes.
-use Rattle.std.proofs.Common.{◌≡◌, ◌∙◌, sym, ap, subst, refl, ⊎_elim, ◌↔◌, ℕ, ◌+◌, ◌<◌, ◌≤◌, List, length, get_or, drop, Bool, true, false, ◌||◌, Some, slice_get, eqb, true≢false, arith}
+use Rattle.std.proofs.Common.{◌≡◌, ◌∙◌, sym, subst, refl, ⊎_elim, ◌↔◌, ℕ, ◌<◌, ◌≤◌, List, length, get_or, drop, Bool, true, false, ◌||◌, Some, slice_get, eqb, true≢false, arith}
 use Rattle.std.specs.List.{starts_with}
 use Rattle.std.specs.List.Sorted.{IsPartitionedBy, IsPartitionPoint}
 use Rattle.std.proofs.lemmas.Bool.{cases_Bool, cases_lt, or_left, or_right, or_cases}
@@ -47,17 +47,6 @@ module _ (p : Front → Bool) (fs : List Front) (i : ℕ) (point : IsPartitionPo
 
   from_where : p f ≡ false → i ≤ t
   from_where h = ⊎_elim (λ (l : t < i). absurd (true≢false (sym (holds_below l) ∙ h))) (λ l. l) (cases_lt t i)
-
--- one more begins so
-pub begun_more : (b : List ℕ) (fs : List Front) (from to : ℕ) (f : Front) → slice_get fs to ≡ Some f → starts_with eqb f.bytes b ≡ true → AreBegunWithin fs b from to → AreBegunWithin fs b from (to + 1)
-begun_more b fs from to f at h so_far t g here le l = ⊎_elim
-    (λ (lo : t < to). so_far t g here le lo)
-    (λ (hi : to ≤ t).
-    let same : to ≡ t = omega arith in
-    let read : slice_get fs to ≡ Some g = ap (λ n. slice_get fs n) same ∙ here in
-    let is : f ≡ g = cc (at, read) in
-    subst (λ (x : Front). starts_with eqb x.bytes b ≡ true) is h)
-    (cases_lt t to)
 
 module _ (b : List ℕ) (fs : List Front) (from to : ℕ) (order : AreInOrder fs) (first : IsPartitionPoint (λ y. is_before b y ≡ true) (λ y. is_before b y ≡ false) fs from)
     (le : from ≤ to) (begun : AreBegunWithin fs b from to) (ends : (f : Front) → slice_get fs to ≡ Some f → starts_with eqb f.bytes b ≡ false) where

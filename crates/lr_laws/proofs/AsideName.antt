@@ -13,17 +13,15 @@ use Rattle.lr_rules.specs.declared.rule.Naming.{Naming}
 use Rattle.lr_rules.specs.declared.rule.Piece.{Piece}
 use Rattle.lr_rules.specs.declared.rule.Piece.TheVariants as piece
 use Rattle.lr_rules.specs.declared.rule.Rule.{Rule}
-use Rattle.lr_rules.specs.declared.rule.Way.TheVariants.{RenameCopy}
 use Rattle.lr_rules.specs.Dated.{IsDatedAt}
 use Rattle.lr_rules.specs.Limits.{is_log_word, is_olddir, is_extension, is_address, is_small, is_size, is_count, is_criterion, is_make, is_plain_piece, written, are_first, is_epoch_alone, is_format, times, or_none, meets_limits}
-use Rattle.lr_rules.specs.Names.{AreDigits, IsStampShape, number_pieces, IsMiddleShape, IsMemberAt, ends_with, ext_of, base_of, aside_path, is_aside, naming_of}
+use Rattle.lr_rules.specs.Names.{AreDigits, IsStampShape, number_pieces, IsMiddleShape, IsMemberAt, ends_with, ext_of, base_of, aside_path, naming_of}
 use Rattle.lr_rules.specs.Path.{path_fault, parent_of, last_of, joined, is_slash}
 use Rattle.lr_rules.proofs.Digits.{decimal_run, decimal_plain, IsDigit, digit_is}
 use Rattle.lr_rules.proofs.PathLemmas.{plain_both, last_joined, joined_parts, last_plain}
 use Rattle.lr_rules.specs.Bytes.{is_digit}
 use Rattle.lr_rules.proofs.Bools.{first_true}
 use Rattle.lr_stamps.proofs.StampShapes.{numbered_shape}
-use Rattle.lr_host.specs.Sets.{LogSet, Order, Numbered, Dated, order, IsKeyBy, IsAsideOf}
 use Rattle.lr_laws.proofs.PlainStamps.{field_digits, field_some, middle_plain}
 
 -- ---- digits
@@ -197,19 +195,3 @@ no_numbered r log place path good m = numbered_none r log path (names_plain r go
 
 pub no_dated : (r : Rule) (log : Path) (seconds : ℤ) (serial : ℕ) → path_fault log ≡ None → meets_limits r ≡ true → IsDatedAt (naming_of r log) seconds serial (aside_path log) → ⊥
 no_dated r log seconds serial path good at = dated_none r log path (names_plain r good) seconds serial at
-
--- so the path of a set whose naming a rule gives has no key
-pub waits_aside : (s : LogSet) (r : Rule) → meets_limits r ≡ true → r.way ≡ RenameCopy → naming_of r s.log ≡ s.naming → IsAsideOf s (aside_path s.log)
-waits_aside s r good way same = record {
-  asked = ap (λ (n : Naming). n.aside) (sym same) ∙ ap is_aside way;
-  path = refl;
-  keyless = none (s.key (aside_path s.log)) refl;
-}
-  where
-    clash : (o : Order) (k : ℤ) → order s ≡ o → IsKeyBy o s.naming s.key → s.key (aside_path s.log) ≡ Some k → ⊥
-    clash Numbered k q keys is = let m = (keys (aside_path s.log) k).0 is in no_numbered r s.log m.0 s.log_path good (subst (λ (n : Naming). IsMemberAt n m.0 (aside_path s.log)) (sym same) m.2)
-    clash Dated k q keys is = let m = (keys (aside_path s.log) k).0 is in no_dated r s.log m.0 m.1 s.log_path good (subst (λ (n : Naming). IsDatedAt n m.0 m.1 (aside_path s.log)) (sym same) m.3)
-
-    none : (o : Option ℤ) → s.key (aside_path s.log) ≡ o → s.key (aside_path s.log) ≡ None
-    none None q = q
-    none (Some k) q = absurd (clash (order s) k refl s.keys q)

@@ -60,9 +60,6 @@ guess (piece.Field f ∷ ps) w p = guess ps (drop (width f (length w - length ps
 two_read : (v : ℕ) (rest : List ℕ) → v < 100 → two_of (two v ++ rest) ≡ v
 two_read v rest lt = omega arith
 
-drop_two : (v : ℕ) (rest : List ℕ) → drop 2 (two v ++ rest) ≡ rest
-drop_two v rest = refl
-
 -- the length of the digits is known where it counts
 abbrev IsKnown : Field → ℕ → ℕ → Type 0
 IsKnown field.Epoch n m = n ≡ m

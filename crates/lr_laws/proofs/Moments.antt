@@ -11,7 +11,7 @@ use Rattle.lr_host.specs.declared.entry.Entry.{Entry}
 use Rattle.lr_host.specs.Fits.{IsFileAt}
 use Rattle.lr_host.specs.Forward.{IsForward}
 use Rattle.lr_host.specs.Quiet.{Quiet, here, wrote, looked}
-use Rattle.lr_host.specs.Sets.{LogSet, Order, Numbered, Dated, order, IsKeyBy}
+use Rattle.lr_host.specs.Sets.{LogSet, Order, Dated, order, IsKeyBy}
 use Rattle.lr_host.specs.Steady.{IsKeyless}
 use Rattle.lr_host.specs.World.{Past, ◌▸◌, world, names, step}
 use Rattle.lr_host.proofs.Quiet.{wrote_same, looked_names}
@@ -75,9 +75,3 @@ by_quiet s p _ seconds dated (looked {q = q} {e = e} w i f h) by = by_on s q e s
 
 pub for_quiet : (clock : Clock) (s : LogSet) (p q : Past) → Quiet (IsKeyless s) p q → IsForwardFor clock s p → IsForwardFor clock s q
 for_quiet clock s p q quiet forward dated = by_quiet s p q _ dated quiet (forward dated)
-
-pub for_numbered : (clock : Clock) (s : LogSet) (p : Past) → order s ≡ Numbered → IsForwardFor clock s p
-for_numbered clock s p numbered dated = absurd (clash (order s) numbered dated)
-  where
-    clash : (o : Order) → o ≡ Numbered → o ≡ Dated → ⊥
-    clash o a b = cc

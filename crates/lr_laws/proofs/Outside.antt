@@ -10,10 +10,7 @@ use Rattle.lr_rules.specs.Names.{aside_path, IsMemberAt, IsMiddleShape, HasMembe
 use Rattle.lr_rules.specs.Dated.{stamp_key, IsDatedAt}
 use Rattle.lr_rules.proofs.Digits.{decimal_run}
 use Rattle.lr_stamps.proofs.StampShapes.{dated_shape}
-use Rattle.lr_host.specs.declared.entry.Entry.{Entry}
-use Rattle.lr_host.specs.declared.entry.Entry.TheVariants as entry
 use Rattle.lr_host.specs.Sets.{LogSet, Order, Numbered, Dated, order, order_of, IsKeyBy, is_unplaced, in_reach}
-use Rattle.lr_laws.specs.Follow.{IsElsewhere, MeetsNone}
 
 numbered_none : (d : Option Format) → order_of d ≡ Numbered → d ≡ None
 numbered_none None q = refl
@@ -60,15 +57,6 @@ outside s x none = go (in_reach s x) refl
     go : (b : Bool) → in_reach s x ≡ b → in_reach s x ≡ false
     go true q = absurd (none (inl (in_reach_own s x q)))
     go false q = q
-
-pub no_name_elsewhere : (s : LogSet) (e : Entry) → MeetsNone s e → IsElsewhere s e
-no_name_elsewhere s (entry.Attach writer x at) h = outside s x (h 0 x (omega arith))
-no_name_elsewhere s (entry.Renames from to) h = (outside s from (h 0 from (omega arith)), outside s to (h 1 to (omega arith)))
-no_name_elsewhere s (entry.Makes x mode) h = outside s x (h 0 x (omega arith))
-no_name_elsewhere s (entry.Appends x bytes) h = outside s x (h 0 x (omega arith))
-no_name_elsewhere s (entry.Truncates x) h = outside s x (h 0 x (omega arith))
-no_name_elsewhere s (entry.Unlinks x) h = outside s x (h 0 x (omega arith))
-no_name_elsewhere s _ h = tt
 
 -- the set doesn't reach what is a name of another set that it doesn't meet
 pub apart_outside : (s : LogSet) (other : Path) (n : Naming) (x : Path) → (Meet s.log s.naming other n → ⊥) → IsName other n x → in_reach s x ≡ false

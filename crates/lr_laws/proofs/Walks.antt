@@ -193,13 +193,6 @@ pub far_attached : (P : Path → Type 0) (x : Path) (e : Entry) → ((y : Path) 
 far_attached P x (entry.Attach v y at) far a = far y a
 far_attached P x _ far a = tt
 
-pub guard_walk : (P : Path → Type 0) (x : Path) (g : ℕ) (bytes : List ℕ) (p q : Past) (es : List Entry) → ((y : Path) → P y → y ≢ x) → Made p es q → AttachedOnlySince P p q → Each (LeavesFile x) es → IsGuarded x g bytes (world p) → IsGuarded x g bytes (world q)
-guard_walk P x g bytes p _ _ far at_first only a h = h
-guard_walk P x g bytes p _ es far (by_writer {q = q} {e = e} m i f) only a h =
-    let b = before_last P p q e es m only in writer_guards q x g bytes (guard_walk P x g bytes p q es far m b.0 a h) e i (far_attached P x e far b.1)
-guard_walk P x g bytes p _ _ far (by_tool {es = es} {q = q} {e = e} m i f) only a h =
-    let b = before_last P p q e es m only in tool_guards q x g bytes (guard_walk P x g bytes p q es far m b.0 a.1 h) e i a.0
-
 pub safe_walk : (P : Path → Type 0) (x : Path) (g : ℕ) (bytes : List ℕ) (p q : Past) (es : List Entry) → ((y : Path) → P y → y ≢ x) → Made p es q → AttachedOnlySince P p q → Each (LeavesFile x) es → IsSafeFile x g bytes p → IsSafeFile x g bytes q
 safe_walk P x g bytes p _ _ far at_first only a h = h
 safe_walk P x g bytes p _ es far (by_writer {q = q} {e = e} m i f) only a h =

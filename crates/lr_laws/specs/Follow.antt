@@ -1,7 +1,6 @@
 -- What an entry needs so that what is kept stays so.
-use Rattle.std.specs.Prelude.{◌≡◌, ◌≢◌, ◌⊎◌, ℕ, false, List, [], ◌∷◌, All}
+use Rattle.std.specs.Prelude.{◌≡◌, ◌≢◌, ◌⊎◌, ℕ, false, List, [], ◌∷◌}
 use Rattle.lr_rules.specs.declared.path.Path.{Path}
-use Rattle.lr_rules.specs.Names.{IsName}
 use Rattle.lr_host.specs.declared.thing.Thing.TheVariants as thing
 use Rattle.lr_host.specs.declared.entry.Entry.{Entry}
 use Rattle.lr_host.specs.declared.entry.Entry.TheVariants as entry
@@ -73,7 +72,3 @@ changed_paths (entry.Truncates x) = x ∷ []
 changed_paths (entry.Unlinks x) = x ∷ []
 changed_paths (entry.MakesDir x mode) = x ∷ []
 changed_paths _ = []
-
--- none of them is a name of the set
-abbrev pub MeetsNone : LogSet → Entry → Type 0
-MeetsNone s e = All (λ x. IsName s.log s.naming x → ⊥) (changed_paths e)

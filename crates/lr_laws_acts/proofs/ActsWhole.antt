@@ -23,9 +23,6 @@ use Rattle.lr_laws_family.proofs.Weaving.{weave_on, weave_others}
 
 -- ---- all parts whole
 
-whole_of : List (List Entry) → List Entry
-whole_of parts = flat_map (λ part. part) parts
-
 pub nil_split : {A : Type 0} (xs ys zs : List A) → xs ≡ ys ++ zs → xs ≡ [] → (ys ≡ []) × (zs ≡ [])
 nil_split xs [] zs e n = (refl, sym e ∙ n)
 nil_split xs (y ∷ ys) zs e n = absurd (cc)

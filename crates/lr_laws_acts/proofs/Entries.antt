@@ -4,7 +4,7 @@ use Rattle.lr_rules.specs.declared.path.Path.{Path}
 use Rattle.lr_host.specs.declared.entry.Entry.{Entry}
 use Rattle.lr_host.specs.declared.entry.Entry.TheVariants as entry
 use Rattle.lr_host.specs.Quiet.{IsQuiet, AreQuiet}
-use Rattle.lr_host.specs.Told.{Each, Then}
+use Rattle.lr_host.specs.Told.{Each}
 use Rattle.lr_host.proofs.Each.{each_as, each_last}
 use Rattle.lr_copy.specs.declared.job.Job.{Job}
 use Rattle.lr_copy.specs.Stops.{EmptiesNone}
@@ -48,9 +48,6 @@ both_empty P xs ys f g = λ before log after is. go before log after (stands (en
 
 pub same_empties : (P : Job → Type 0) (xs ts : List Entry) → ts ≡ xs → EmptiesCopied P xs → EmptiesCopied P ts
 same_empties P xs ts is f = subst (EmptiesCopied P) (sym is) f
-
-pub then_empties : (P : Job → Type 0) (Q R : List Entry → Type 0) (ts : List Entry) → ((us : List Entry) → Q us → EmptiesCopied P us) → ((us : List Entry) → R us → EmptiesCopied P us) → Then Q R ts → EmptiesCopied P ts
-then_empties P Q R ts f g t = same_empties P (t.front ++ t.back) ts t.joined (both_empty P t.front t.back (f t.front t.first) (g t.back t.second))
 
 -- ---- behind a copy
 

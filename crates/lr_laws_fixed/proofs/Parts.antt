@@ -1,5 +1,5 @@
 -- The looks at the part files among names show one thing alone.
-use Rattle.std.proofs.Common.{◌≡◌, inl, inr, ℕ, List, [], ◌∷◌, ◌++◌, map, refl, sym, ap, ◌∙◌}
+use Rattle.std.proofs.Common.{◌≡◌, ℕ, List, [], ◌∷◌, ◌++◌, map, refl, sym, ap, ◌∙◌}
 use Rattle.std.specs.Prelude.{Contains, flat_map}
 use Rattle.std.specs.List.Sorted.{IsPermutation}
 use Rattle.std.proofs.lemmas.Cmp.{nat_list_cmp_total}
@@ -13,7 +13,7 @@ use Rattle.lr_host.specs.Looks.{PathSight, look_of}
 use Rattle.lr_host.proofs.Fronts.{front_same, saw_same}
 use Rattle.lr_family.specs.declared.stand.StandStop.TheVariants as stop
 use Rattle.lr_family.specs.Among.{StopsBehind}
-use Rattle.lr_family.specs.Parts.{IsPartAmong, AreParts, part_in, PartsAmong, StopsBefore}
+use Rattle.lr_family.specs.Parts.{IsPartAmong, AreParts, part_in, PartsAmong}
 use Rattle.lr_family.proofs.Ordered.{same_rising}
 use Rattle.lr_family.proofs.PartLooks.{never_no_file}
 use Rattle.lr_laws_looks.proofs.OneWord.{sight_same}
@@ -64,11 +64,6 @@ parts_same n names more perm parts others ts us vs ws h g e = (
     r = same_sights h.sights g.sights vs ws (parts_fixed n names more _ _ perm h.all g.all) (front_same ts us (map look_of h.sights) (map look_of g.sights) vs ws h.looks g.looks e)
 
 -- ---- they never stop at what is no file
-
-before_never : (after : List Path) (path : Path) → StopsBefore after (stop.NotFile path) → ⊥
-before_never [] path e = cc
-before_never (x ∷ xs) path (inl e) = cc
-before_never (x ∷ xs) path (inr e) = cc
 
 pub behind_never : (n : Naming) (names : List (List ℕ)) (path : Path) (ts : List Entry) → StopsBehind n names (stop.NotFile path) ts → ⊥
 behind_never n names path ts s = never_no_file n names path s.1.back s.1.second

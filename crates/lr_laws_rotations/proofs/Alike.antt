@@ -165,10 +165,6 @@ pub fit_both : (n : Names) (xs ys : List Entry) → FitCalls n xs → FitCalls (
 fit_both n [] ys a b = b
 fit_both n (x ∷ xs) ys a b = (a.0, fit_both (after_call n x) xs ys a.1 b)
 
-pub afters_on : (n : Names) (xs ys : List Entry) → afters n (xs ++ ys) ≡ afters (afters n xs) ys
-afters_on n [] ys = refl
-afters_on n (x ∷ xs) ys = afters_on (after_call n x) xs ys
-
 one_after : (n : Names) (e : Entry) → IsTurn e → names_after n (changes_of (e ∷ [])) ≡ after_call n e
 one_after n (entry.Renames from to) t = refl
 one_after n (entry.Unlinks x) t = refl

@@ -1,12 +1,10 @@
 -- Entries over which a run stays the same, and begins no rotation of a set.
-use Rattle.std.proofs.Common.{◌≡◌, Bool, true, false, ◌||◌, cond, refl, ◌∙◌, List, ◌∷◌, reverse}
-use Rattle.std.specs.Prelude.{filter}
+use Rattle.std.proofs.Common.{◌≡◌, Bool, true, false, ◌||◌, refl, ◌∙◌, List, reverse}
 use Rattle.std.proofs.lemmas.Bool.{or_from}
 use Rattle.lr_host.specs.declared.entry.Entry.{Entry}
 use Rattle.lr_host.specs.declared.entry.Entry.TheVariants as entry
 use Rattle.lr_host.specs.World.{Past, ◌▸◌}
 use Rattle.lr_host.specs.Told.{Each, IsWriters, Made, at_first, by_writer, by_tool}
-use Rattle.lr_host.specs.Steps.{is_change}
 use Rattle.lr_host.specs.Opening.{IsJournal}
 use Rattle.lr_host.specs.Sets.{LogSet, in_set}
 use Rattle.lr_host.specs.Runs.{rules_of, has_begun}
@@ -74,31 +72,3 @@ made_aside s p _ _ (by_tool {es = es} {q = q} {e = e} m i f) out = still_on s p 
 -- entries that change nothing lie aside
 pub made_still : (s : LogSet) (p q : Past) (es : List Entry) → Made p es q → AreQuiet es → IsStill s p q
 made_still s p q es m quiet = made_aside s p q es m (quiet_aside s es quiet)
-
--- ---- entries that start no run
-
-abbrev pub IsNoStart : Entry → Type 0
-IsNoStart (entry.Starts state now rules) = ⊥
-IsNoStart _ = Unit {0}
-
-one_same : (p : Past) (e : Entry) → IsNoStart e → rules_of (p ▸ e) ≡ rules_of p
-one_same p (entry.Starts state now rules) i = absurd i
-one_same p _ i = refl
-
-wrote_no_start : (e : Entry) → IsWriters e → IsNoStart e
-wrote_no_start (entry.Starts state now rules) i = i
-wrote_no_start _ i = tt
-
-no_change_no_start : (e : Entry) → is_change e ≡ false → IsNoStart e
-no_change_no_start (entry.Starts state now rules) h = absurd (cc)
-no_change_no_start _ h = tt
-
--- where no change starts a run, its rules are the same
-pub rules_same : (p q : Past) (es : List Entry) → Made p es q → Each IsNoStart (filter is_change es) → rules_of q ≡ rules_of p
-rules_same p _ _ at_first a = refl
-rules_same p _ es (by_writer {q = q} {e = e} m i f) a = one_same q e (wrote_no_start e i) ∙ rules_same p q es m a
-rules_same p _ _ (by_tool {es = es} {q = q} {e = e} m i f) a = go (λ b. rules_same p q es m b) (is_change e) refl a
-  where
-    go : (Each IsNoStart (filter is_change es) → rules_of q ≡ rules_of p) → (b : Bool) → is_change e ≡ b → Each IsNoStart (cond b (e ∷ filter is_change es) (filter is_change es)) → rules_of (q ▸ e) ≡ rules_of p
-    go further true h a = one_same q e a.0 ∙ further a.1
-    go further false h a = one_same q e (no_change_no_start e h) ∙ further a

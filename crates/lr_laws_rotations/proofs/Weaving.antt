@@ -7,8 +7,6 @@ use Rattle.lr_host.specs.declared.entry.Entry.{Entry}
 use Rattle.lr_host.specs.declared.entry.Entry.TheVariants as entry
 use Rattle.lr_host.specs.declared.entry.Entry.TheVariants.{Renames, Unlinks, Makes, MakesDir}
 use Rattle.lr_host.specs.World.{Names, put, names_after, Past, world, names}
-use Rattle.lr_host.specs.Fits.{IsFileAt}
-use Rattle.lr_host.specs.Told.{CanCall}
 use Rattle.lr_host.specs.Steps.{changes_of}
 use Rattle.lr_host.specs.Sets.{LogSet, is_unplaced, in_reach}
 use Rattle.lr_host.proofs.Names.{put_other}
@@ -120,9 +118,6 @@ pub record IsWoven (s : LogSet) (p : Past) (limit : ℕ) (os es : List Entry) : 
   pub fits : LogFits s (names (world p)) es
   pub limits : limit_after s limit os ≡ limit_after s limit es
   pub alike : AreAlike s (names_after (names (world p)) (changes_of os)) (names_after (names (world p)) (changes_of es))
-
-pub log_there : (s : LogSet) (n : Names) (e : Entry) (to : Path) → e ≡ Renames s.log to → CanCall n e → IsFileAt n s.log
-log_there s n e to is can = (subst (CanCall n) is can).0
 
 -- the entry is apart, or makes the set's log anew
 abbrev pub IsApartOrMakes : LogSet → Entry → Type 0

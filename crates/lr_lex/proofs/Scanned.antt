@@ -5,7 +5,7 @@ use Rattle.lr_lex.specs.declared.sign.Sign.{Sign}
 use Rattle.lr_lex.specs.declared.sign.Sign.TheVariants.{Blank, Mark, Plain, Quoted}
 use Rattle.lr_lex.specs.declared.scan.Scan.{Scan}
 use Rattle.lr_lex.specs.Words.{words, onto, joined, one, goes_on, is_gap, sign_text}
-use Rattle.lr_lex.specs.Scanning.{ahead, to_come, draft, draft_bytes, with_draft, extended, behind_sign, WordEnds, Extends}
+use Rattle.lr_lex.specs.Scanning.{ahead, to_come, draft, draft_bytes, with_draft, extended, behind_sign, Extends}
 
 -- ---- parts of a state: words, whether a word is being read, and the word
 
@@ -17,9 +17,6 @@ stops : (ws : List Word) (inside : Bool) (w : Word) (at : ℕ) (ss : List Sign) 
 stops ws false w at ss stop = refl
 stops ws true w at ss stop =
     ap (λ b. ws ++ (cond b (onto w (words at ss)) (w ∷ words at ss))) stop ∙ sym (append_assoc ws (w ∷ []) (words at ss))
-
-gap-law : (ws : List Word) (inside : Bool) (w : Word) (at : ℕ) (ss : List Sign) → so_far ws inside w at (Blank ∷ ss) ≡ with_draft inside ws w ++ words (at + 1) ss
-gap-law ws inside w at ss = stops ws inside w at (Blank ∷ ss) refl
 
 -- a sign that goes on with a word
 plain-one : (at : ℕ) (s : Sign) (ss : List Sign) → is_gap s ≡ false → words at (s ∷ ss) ≡ ahead true (one at s) (at + 1) ss
@@ -52,9 +49,6 @@ plain-law ws true w at s ss gap =
 come-is : (s : Scan) (ws : List Word) (inside : Bool) (w : Word) (at : ℕ) (ss : List Sign) → s.words ≡ ws → s.inside ≡ inside → draft s ≡ w → to_come s at ss ≡ so_far ws inside w at ss
 come-is s ws inside w at ss a b c =
     ap (λ x. so_far x s.inside (draft s) at ss) a ∙ ap (λ x. so_far ws x (draft s) at ss) b ∙ ap (λ x. so_far ws inside x at ss) c
-
-pub at_gap : (old new : Scan) (at : ℕ) → WordEnds old new → (ss : List Sign) → to_come old at (Blank ∷ ss) ≡ to_come new (at + 1) ss
-at_gap old new at e ss = gap-law old.words old.inside (draft old) at ss ∙ sym (come-is new _ false (draft new) (at + 1) ss e.words e.inside refl)
 
 pub at_ink : (old new : Scan) (at : ℕ) (s : Sign) → is_gap s ≡ false → Extends old new at s → (ss : List Sign) → to_come old at (s ∷ ss) ≡ to_come new (at + 1) ss
 at_ink old new at s gap e ss = plain-law old.words old.inside (draft old) at s ss gap ∙ sym (come-is new _ true _ (at + 1) ss e.words e.inside e.word)

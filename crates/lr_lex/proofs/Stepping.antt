@@ -121,13 +121,6 @@ by_other kind.NotUtf8 P Q not q = q
 by_other kind.OpenQuote P Q not q = q
 by_other kind.NoEndscript P Q not q = q
 
-pub by_memory : (k : LexKind) (P Q : Type 0) → k ≡ kind.Memory → P → ByKind k P Q
-by_memory kind.Memory P Q e p = p
-by_memory kind.LineTooLong P Q e p = absurd (cc e)
-by_memory kind.NotUtf8 P Q e p = absurd (cc e)
-by_memory kind.OpenQuote P Q e p = absurd (cc e)
-by_memory kind.NoEndscript P Q e p = absurd (cc e)
-
 -- ---- a script has begun
 
 pub number_first : (n at : ℕ) (xs : List ℕ) (l : NumberedLine) (ls : List NumberedLine) → lines n at xs ≡ l ∷ ls → l.number ≡ n

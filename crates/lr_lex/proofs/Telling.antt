@@ -1,18 +1,15 @@
 -- What whole lines tell.
-use Rattle.std.proofs.Common.{◌≡◌, ◌+◌, ℕ, suc, true, false, Bool, cond, eqb, true≢false, List, [], ◌∷◌, ◌++◌, length, map, refl, sym, ap, ◌∙◌, subst, append_assoc, length-append, arith}
+use Rattle.std.proofs.Common.{◌≡◌, ◌+◌, ℕ, suc, true, false, Bool, cond, eqb, true≢false, List, [], ◌∷◌, ◌++◌, length, refl, sym, ap, ◌∙◌, append_assoc, length-append, arith}
 use Rattle.std.specs.Prelude.{◌||◌}
 use Rattle.std.specs.List.{list_any}
-use Rattle.std.proofs.lemmas.List.{append-nil}
 use Rattle.lr_lex.specs.declared.word.Word.{Word}
 use Rattle.lr_lex.specs.declared.said.Said.{Said}
 use Rattle.lr_lex.specs.declared.said.Said.TheVariants as says
 use Rattle.lr_lex.specs.Lines.{NumberedLine, line_at, lines, line_of, after_line}
 use Rattle.lr_lex.specs.Pieces.{has_line}
-use Rattle.lr_lex.specs.Items.{Told, said, items_of, items_from, items, body, ended, is_end, script_text, told, taken, script}
+use Rattle.lr_lex.specs.Items.{said, items_of, items_from, body, ended, is_end, script_text, told, taken, script}
 use Rattle.lr_lex.proofs.LawsOf.{lines-more}
-use Rattle.lr_lex.specs.Moved.{moved}
 use Rattle.lr_lex.specs.Whole.{AreLinesOf, IsPlainSaid, Tell, IsScriptBegun}
-use Rattle.lr_lex.proofs.Further.{items_moved}
 
 -- ---- a line and its newline
 
@@ -43,9 +40,6 @@ there (b ∷ x) = by (eqb b 10) (there x)
     by false h = h
 
 -- ---- whole lines
-
-pub no_lines : (n at : ℕ) → AreLinesOf n at [] []
-no_lines n at more = ap (λ m. lines m at more) (omega arith) ∙ ap (λ a. lines (n + 0) a more) (omega arith)
 
 pub one_line : (n at : ℕ) (x : List ℕ) → has_line x ≡ false → (more : List ℕ) → lines n at ((x ++ 10 ∷ []) ++ more) ≡ line_at n at x ∷ lines (n + 1) (at + length x + 1) more
 one_line n at x h more =
@@ -164,15 +158,3 @@ script_goes_on n at p count x b h goes = record {
         by : (t : Bool) → (t || list_any is_end ls) ≡ false → (list_any is_end ls ≡ false → list_any is_end (ls ++ e ∷ []) ≡ false) → (t || list_any is_end (ls ++ e ∷ [])) ≡ false
         by true k rest = absurd (true≢false k)
         by false k rest = rest k
-
--- ---- what a lexer gives of them alone
-
--- Where bytes tell one thing alone, it is what the bytes by themselves tell first, moved to their place.
-pub tells_first : (n at : ℕ) (p : List ℕ) (count : ℕ) (u : Told) → Tell (1 + n) at p count (u ∷ []) → (t : Told) (ts : List Told) → items p ≡ t ∷ ts → Tell (1 + n) at p count (moved n at t ∷ [])
-tells_first n at p count u tell t ts is = subst (λ (x : Told). Tell (1 + n) at p count (x ∷ [])) same tell
-  where
-    both : moved n at t ∷ map (moved n at) ts ≡ u ∷ items_from (1 + n + count) (at + length p) []
-    both = ap (λ xs. map (moved n at) xs) (sym is) ∙ (sym (items_moved n at 1 0 p) ∙ (ap (λ a. items_from (1 + n) a p) (omega arith) ∙ (ap (λ t. items_from (1 + n) at t) (sym (append-nil p)) ∙ tell [])))
-
-    same : u ≡ moved n at t
-    same = sym (cc both)

@@ -1,11 +1,9 @@
 -- The signs of a class, one by one.
-use Rattle.std.proofs.Common.{◌≡◌, ◌≤◌, ℕ, ◌==◌, Bool, true, false, cond, ◌||◌, ◌&&◌, List, [], ◌∷◌, ◌++◌, length, drop, nat_le, refl, sym, ap, ◌∙◌, arith}
+use Rattle.std.proofs.Common.{◌≡◌, ℕ, ◌==◌, Bool, true, false, cond, ◌||◌, ◌&&◌, List, [], ◌∷◌, ◌++◌, drop, nat_le, refl, sym, ap, ◌∙◌, arith}
 use Rattle.std.specs.List.{list_any}
-use Rattle.std.proofs.lemmas.Bool.{or_parts}
 use Rattle.std.proofs.lemmas.Bool.Decides.{nat_tests}
 use Rattle.std.proofs.lemmas.List.Folds.{list_any-append}
 use Rattle.lr_rules.specs.Match.{ranges_have, is_close, IsClass}
-use Rattle.lr_rules.proofs.Heads.{heads, tails}
 use Rattle.lr_match.specs.Classes.{before_close, signs_of, TurnedClass, HasNoClass}
 
 -- ---- ranges
@@ -37,10 +35,6 @@ not_range from (dash ∷ b ∷ signs) h c = by (dash == 45) refl
     by false is = ap (λ e. e || ranges_have (dash ∷ b ∷ signs) c) (single from c)
 
 -- ---- the `]`
-
--- what one closes stays closed one character before
-pub close_behind : (d : ℕ) (text : List ℕ) → is_close d ≡ false → (rest : List ℕ) → text ≡ before_close text ++ 93 ∷ rest → d ∷ text ≡ before_close (d ∷ text) ++ 93 ∷ rest
-close_behind d text not_close rest h = ap (λ t. d ∷ t) h ∙ ap (λ b. cond b [] (d ∷ before_close text) ++ 93 ∷ rest) (sym not_close)
 
 none_closes : (cs : List ℕ) → list_any is_close (before_close cs) ≡ false
 none_closes [] = refl
@@ -90,28 +84,8 @@ pub class_by : (cs bs rest : List ℕ) (t : Bool) → TurnedClass cs t bs → En
 class_by cs bs rest true h e = class_turned cs bs rest true refl h e
 class_by cs bs rest false h e = class_straight cs bs rest false refl (sym h.0) h.1 e
 
-pub turned_shorter : (cs bs : List ℕ) (t : Bool) → TurnedClass cs t bs → length bs ≤ length cs
-turned_shorter cs bs true h = let l = ap length h in omega (arith, l)
-turned_shorter cs bs false h = let l = ap length h.0 in omega (arith, l)
-
--- what no `]` closes
-tail_free : (xs : List ℕ) → list_any is_close (drop 1 xs) ≡ false → list_any is_close (drop 2 xs) ≡ false
-tail_free [] h = refl
-tail_free (x ∷ []) h = refl
-tail_free (x ∷ y ∷ ys) h = (or_parts (is_close y) (list_any is_close ys) h).1
-
-pub none_by : (cs bs : List ℕ) (t : Bool) → TurnedClass cs t bs → list_any is_close (drop 1 bs) ≡ false → list_any is_close (drop 2 cs) ≡ false
-none_by cs bs true h n = ap (λ xs. list_any is_close (drop 2 xs)) h ∙ n
-none_by cs bs false h n = tail_free cs (ap (λ xs. list_any is_close (drop 1 xs)) (sym h.0) ∙ n)
-
 closed_behind : (sign : ℕ) (bs more rest : List ℕ) → bs ≡ sign ∷ more ++ 93 ∷ rest → list_any is_close (drop 1 bs) ≡ false → ⊥
 closed_behind sign bs more rest e n = let t = sym (some_closes more rest) ∙ (ap (λ xs. list_any is_close (drop 1 xs)) (sym e) ∙ n) in absurd (cc)
-
-pub no_class_by : (cs bs : List ℕ) (t : Bool) → TurnedClass cs t bs → list_any is_close (drop 1 bs) ≡ false → (u : Bool) (signs rest : List ℕ) → IsClass cs u signs rest → ⊥
-no_class_by cs bs true h n _ _ _ (IsClass.straight sign more rest other none e) = other (heads sign 33 (more ++ 93 ∷ rest) bs (sym e ∙ h))
-no_class_by cs bs true h n _ _ _ (IsClass.turned sign more rest none e) = closed_behind sign bs more rest (tails 33 33 bs (sign ∷ more ++ 93 ∷ rest) (sym h ∙ e)) n
-no_class_by cs bs false h n _ _ _ (IsClass.straight sign more rest other none e) = closed_behind sign bs more rest (h.0 ∙ e) n
-no_class_by cs bs false h n _ _ _ (IsClass.turned sign more rest none e) = h.1 (sign ∷ more ++ 93 ∷ rest) e
 
 -- ---- where no class begins
 
@@ -119,7 +93,3 @@ no_class_by cs bs false h n _ _ _ (IsClass.turned sign more rest none e) = h.1 (
 pub no_class_behind : (behind : List ℕ) → HasNoClass (91 ∷ behind) → (u : Bool) (signs rest : List ℕ) → IsClass behind u signs rest → ⊥
 no_class_behind behind n _ _ _ (IsClass.straight sign more rest other none e) = closed_behind sign behind more rest e n
 no_class_behind behind n _ _ _ (IsClass.turned sign more rest none e) = closed_behind 33 behind (sign ∷ more) rest e n
-
--- nor further on
-pub no_class_on : (c : ℕ) (text : List ℕ) → HasNoClass (c ∷ text) → HasNoClass text
-no_class_on c text h = tail_free text h

@@ -218,19 +218,6 @@ single_some f text s rest b single m = by (went f text [] m)
     by (Went.run_goes_on c part r te ne o m) = not_empty refl ne
     by (Went.of_class c part r signs behind t te ne k o has m) = not_empty refl ne
 
--- an empty pattern matches the empty name alone
-pub empty_from : (f : Bool) (text name : List ℕ) → text ≡ [] → Matches f text name → name ≡ []
-empty_from f text name e m = by (went f text name m)
-  where
-    by : Went f text name → name ≡ []
-    by (Went.ended te ne) = ne
-    by (Went.itself c part r te ne plain m) = absurd (not_empty e te)
-    by (Went.escaped c part r te ne m) = absurd (not_empty e te)
-    by (Went.any_one c part r te ne o m) = absurd (not_empty e te)
-    by (Went.run_ends part te m) = absurd (not_empty e te)
-    by (Went.run_goes_on c part r te ne o m) = absurd (not_empty e te)
-    by (Went.of_class c part r signs behind t te ne k o has m) = absurd (not_empty e te)
-
 pub empty_to : (text name : List ℕ) → text ≡ [] → name ≡ [] → Matches false text name
 empty_to text name e e' = subst (λ x. Matches false x name) (sym e) (subst (Matches false []) (sym e') Matches.ends)
 

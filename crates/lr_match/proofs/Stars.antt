@@ -6,13 +6,10 @@ use Rattle.lr_match.specs.declared.sign.Sign.TheVariants as sign
 use Rattle.lr_match.specs.declared.class.Class.{Class}
 use Rattle.lr_match.specs.Signs.{BeginsWithSign, sign_has, IsSingle}
 use Rattle.lr_match.specs.Reached.{MatchesEnd, MatchLeadsTo}
-use Rattle.lr_match.proofs.Matching.{head_is, tail_is, not_empty, differ, RunWent, run_went, MayGo, single_from, single_to, single_some, same_of, empty_from, empty_to, loosened}
+use Rattle.lr_match.proofs.Matching.{head_is, tail_is, not_empty, differ, RunWent, run_went, MayGo, single_from, single_to, single_some, same_of, empty_to, loosened}
 
 pub leads_over : (pattern name text left rest : List ℕ) → MatchLeadsTo pattern name text left → text ≡ 42 ∷ rest → MatchLeadsTo pattern name (42 ∷ rest) left
 leads_over pattern name text left rest l e = subst (λ t. MatchLeadsTo pattern name t left) e l
-
-pub leads_nowhere : (pattern name : List ℕ) → MatchLeadsTo pattern name pattern name
-leads_nowhere pattern name = record { on = λ m. m; back = λ m. m; ends = λ m. m }
 
 free : (s : Sign) (c : ℕ) → MayGo s false c
 free sign.Run c = λ is. absurd (cc)
@@ -88,14 +85,6 @@ run_takes asked c left left' e none m = by (run_went false (42 ∷ asked) asked 
 pub run_took : (asked : List ℕ) (c : ℕ) (left left' : List ℕ) → left ≡ c ∷ left' → Matches false (42 ∷ asked) left' → Matches false (42 ∷ asked) left
 run_took asked c left left' e m = subst (Matches false (42 ∷ asked)) (sym e) (Matches.run_goes_on refl (λ is. absurd (cc)) m)
 
--- there is nothing to take in
-pub run_ended : (asked left : List ℕ) → left ≡ [] → (Matches false asked left → ⊥) → Matches false (42 ∷ asked) left → ⊥
-run_ended asked left e none m = by (run_went false (42 ∷ asked) asked left refl m)
-  where
-    by : RunWent false asked left → ⊥
-    by (RunWent.ends m) = none m
-    by (RunWent.goes_on d r ne o m) = not_empty e ne
-
 -- ---- a first dot
 
 -- a `*` doesn't go with it
@@ -148,9 +137,6 @@ pub stuck_other : (pattern name text left : List ℕ) (s : Sign) (rest : List �
 stuck_other pattern name text left s rest c left' l b single e other m =
     let has = (single_from false text s rest c left' b single (subst (Matches false text) e (l.on m))).has in
     absurd (cc)
-
-pub stuck_long : (pattern name text left : List ℕ) (c : ℕ) (left' : List ℕ) → MatchLeadsTo pattern name text left → text ≡ [] → left ≡ c ∷ left' → Matches false pattern name → ⊥
-stuck_long pattern name text left c left' l none e m = not_empty (empty_from false text left none (l.on m)) e
 
 pub both_end : (pattern name text left : List ℕ) → MatchLeadsTo pattern name text left → text ≡ [] → left ≡ [] → Matches false pattern name
 both_end pattern name text left l e e' = l.back (empty_to text left e e')

@@ -1,12 +1,12 @@
 -- A calm host stays so, and no count rises but for want of memory.
 use Rattle.std.proofs.Common.{◌≡◌, ◌⊎◌, inl, inr, ⊎_elim, ℕ, suc, ◌-◌, ◌≤◌, Bool, true, false, cond, List, [], ◌∷◌, drop, Option, Some, None, refl, sym, ap, subst, ◌∙◌, arith, All}
-use Rattle.std.specs.Prelude.{◌^◌, min, is_some, Result, Ok, Err, OnOk, OnErr}
+use Rattle.std.specs.Prelude.{◌^◌, min, is_some}
 use Rattle.lr_rules.specs.declared.fault.Ended.{Ended}
 use Rattle.lr_host.specs.declared.entry.Entry.{Entry}
 use Rattle.lr_memhost.specs.declared.act.How.TheVariants as way
 use Rattle.lr_memhost.specs.declared.act.How.{How}
 use Rattle.lr_memhost.specs.How.{downs, idles}
-use Rattle.lr_memhost.specs.Acts.{View, Rest, how_of, how_at, is_bad_ending, first_end, after_end, one_more, IsNextListed, Starved, Unraised, CallTurned}
+use Rattle.lr_memhost.specs.Acts.{View, Rest, how_of, how_at, is_bad_ending, first_end, after_end, one_more, Starved, CallTurned}
 use Rattle.lr_memhost.specs.Calm.{IsCalm, StaysCalm}
 use Rattle.lr_memhost.proofs.TurnLemmas.{Alike}
 
@@ -41,16 +41,8 @@ calm_same v w failing calls down rest faults calm = (
   ⊎_elim (λ same. inl (same, ap (λ r. r.bad_ends) rest, ap (λ r. r.held) rest)) (λ s. inr s) faults,
 )
 
-pub calm_kept : {P : List Entry → Type 0} {v w : View} → CallTurned P v w → w.rest ≡ v.rest → (w.faults ≡ v.faults) ⊎ Starved v w → StaysCalm v w
-calm_kept {P} {v} {w} t rest faults = calm_same v w t.failing t.calls t.down rest faults
-
 pub calm_alike : {P : List Entry → Type 0} {v m w : View} → CallTurned P v m → Alike m w → w.rest ≡ v.rest → (w.faults ≡ v.faults) ⊎ Starved v w → StaysCalm v w
 calm_alike {P} {v} {m} {w} t alike rest faults = calm_same v w (alike.failing ∙ t.failing) (alike.calls ∙ t.calls) (alike.down ∙ t.down) rest faults
-
--- a call that fails where it is listed, or where memory was wanting
-pub calm_called : {P : List Entry → Type 0} {T E : Type 0} (r : Result T E) {v w : View} → CallTurned P v w → w.rest ≡ v.rest → OnOk r (Unraised v w) → OnErr r (IsNextListed v ⊎ Starved v w) → StaysCalm v w
-calm_called (Ok x) t rest ok err calm = calm_kept t rest (inl ok.0) calm
-calm_called (Err f) {v} {w} t rest ok err calm = ⊎_elim (λ listed. absurd (listed (calm_how v calm))) (λ s. calm_kept t rest (inr s) calm) err
 
 abbrev pub with_mine : Bool → Rest → Rest
 with_mine b r = record { ends = r.ends; piece = r.piece; mine = b; another = r.another; bad_ends = r.bad_ends; held = r.held }

@@ -3,7 +3,6 @@ use Rattle.std.proofs.Common.{◌≡◌, ◌≢◌, ◌⊎◌, inl, inr, ℕ, ze
 use Rattle.std.proofs.lemmas.List.{take_more, drop_more, get_or_default, take_all, drop_all, append-nil, take-append-drop}
 use Rattle.std.specs.Prelude.{option_to_list, filter, Result, Ok, Err, IfOk, IsOk, IsErr}
 use Rattle.lr_rules.specs.declared.path.Path.{Path}
-use Rattle.lr_host.specs.declared.thing.Thing.{Thing}
 use Rattle.lr_host.specs.declared.thing.Thing.TheVariants as thing
 use Rattle.lr_host.specs.declared.entry.Entry.TheVariants as entry
 use Rattle.lr_host.specs.declared.journal.Journal.{Journal}
@@ -181,26 +180,6 @@ sure_fits p (entry.SyncsFile x) s can = can
 sure_fits p (entry.SyncsDir x) s can = can
 sure_fits p _ s can = absurd s
 
-pub making_tools : (path : Path) (e : Entry) → IsMaking path e → IsTools e
-making_tools path (entry.Makes x mode) m = tt
-making_tools path (entry.MakesDir x mode) m = tt
-making_tools path _ m = absurd m
-
-pub making_fits : (p : Past) (path : Path) (e : Entry) → IsMaking path e → CanCall (names (world p)) e → names (world p) path ≡ thing.Nothing → Fits (world p) e
-making_fits p path (entry.Makes x mode) m can free = (can, ap (names (world p)) m ∙ free)
-making_fits p path (entry.MakesDir x mode) m can free = (can, ap (names (world p)) m ∙ free)
-making_fits p path _ m can free = absurd m
-
--- what isn't something is nothing
-is_free : (t : Thing) → ¬ (t ≢ thing.Nothing) → t ≡ thing.Nothing
-is_free thing.Nothing some = refl
-is_free (thing.File g) some = absurd (some (λ e. cc))
-is_free thing.Directory some = absurd (some (λ e. cc))
-is_free thing.Other some = absurd (some (λ e. cc))
-
-pub free_if : (t : Thing) (named : Bool) → (t ≢ thing.Nothing → named ≡ true) → named ≡ false → t ≡ thing.Nothing
-free_if t named told is = is_free t (λ some. let e = told some in absurd (cc))
-
 -- writers leave whether a run stands
 came_running : (number : ℕ) (stopped : Bool) (p : Past) (acts : List Act) (q : Past) (left : List Act) → ActsCame number stopped p acts q left → (world q).running ≡ (world p).running
 came_running number stopped p _ _ _ all = refl
@@ -260,11 +239,6 @@ still_fits (Err f) h t = tt
 pub still_making : {E : Type 0} {v m : View} (r : Result Entry E) (path : Path) → IfOk r (λ x. IsMaking path x × Can (Some v.journal) x) → CallTurned (Are []) v m → IfOk r (λ x. IsMaking path x × CanCall (names (world (past m.journal))) x)
 still_making (Ok x) path h t = (h.0, still_can h.1 t)
 still_making (Err f) path h t = tt
-
--- an entry that makes something new fits where the path isn't named
-pub new_fits : {E : Type 0} (r : Result Entry E) (p : Past) (path : Path) → names (world p) path ≡ thing.Nothing → IfOk r (λ x. IsMaking path x × CanCall (names (world p)) x) → IfOk r (λ x. Fits (world p) x)
-new_fits (Ok x) p path free h = making_fits p path x h.0 h.1 free
-new_fits (Err f) p path free h = tt
 
 -- a call that makes something new, and succeeds
 pub turned_new : (path : Path) (made : Bool) (e : Entry) (E : Type 0) {v m w : View} → CallTurned (Are []) v m → Alike m w → LeftNew path made e m.journal w.journal → CallTurned (DidWhere {E = E} (Ok made) e) v w

@@ -32,7 +32,6 @@ use Rattle.lr_writing.specs.Synced.{all_to_make_of}
 use Rattle.lr_writing.proofs.Telling.{MakesAmong, EachAmong, plan_among}
 use Rattle.lr_run.specs.Copied.{IsOfCopy, NoneOfCopy}
 use Rattle.lr_run.specs.Met.{IsNoOther, MetNothing}
-use Rattle.lr_run.specs.Runs.{Worked, plan_in, dirs_in}
 use Rattle.lr_run.proofs.Folded.{Folds, acts_fold}
 use Rattle.lr_run.proofs.Simple.{EachStep, IsSimple, AreSimple}
 use Rattle.lr_run.proofs.Works.{steps_simple}
@@ -177,16 +176,3 @@ met_behind dirs all xs ys e n = record {
   no_copy = none_copied_behind xs ys (subst NoneOfCopy e n.no_copy);
   no_other = none_other_behind dirs all xs ys e n.no_other;
 }
-
--- the acts of a run that tells none of these tell none
-pub acts_met : (state : Path) (rules : List Rule) (clock : Clock) (asked : Asked) (own : List Fault) (ts : List Entry) → (w : Worked state rules clock asked own ts) → MetNothing (dirs_in (plan_in state rules ts w.looked clock asked)) own → MetNothing (dirs_in (plan_in state rules ts w.looked clock asked)) w.acted.of_acts
-acts_met state rules clock asked own ts w n = met_behind dirs _ (plan_in state rules ts w.looked clock asked).faults w.acted.of_acts refl (met_behind dirs own w.looked.of_looks _ w.acted.faults_are n)
-  where
-    dirs : List Path
-    dirs = dirs_in (plan_in state rules ts w.looked clock asked)
-
--- so the steps of its logs met no fault
-pub worked_met_none : (state : Path) (rules : List Rule) (clock : Clock) (asked : Asked) (own : List Fault) (ts : List Entry) → (w : Worked state rules clock asked own ts) → MetNothing (dirs_in (plan_in state rules ts w.looked clock asked)) own → w.acted.entries.of_plan ≡ []
-worked_met_none state rules clock asked own ts w n =
-    acts_met_none rules w.looked.sets w.looked.remembered.table clock asked w.acted.marks w.acted.entries.of_plan w.acted.entries.entries.front w.acted.entries.entries.first
-    (met_before _ w.acted.of_acts w.acted.entries.of_plan w.acted.entries.of_state w.acted.entries.faults_are (acts_met state rules clock asked own ts w n))

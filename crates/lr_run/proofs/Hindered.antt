@@ -321,14 +321,6 @@ module _ (state : Path) (rules : Rules) (sets : List SetLooks) (faults : List Fa
       targets : List Target
       targets = all_targets clock decide rules.sets sets
 
--- what the plan tells as taken is a dated member of a log that was kept, and no path that the run reserves for itself
-pub taken_member : (state : Path) (rules : Rules) (sets : List SetLooks) (faults : List Fault) (looks : List Entry) (clock : Clock) (decide : Rule → LogLook → Due) → (s : ShowsLooks (reserved_by state) rules.sets sets faults looks)
-    → (path : Path) → IsIn (fault.Taken path) (all_faults clock decide rules.sets sets) → ((f : FoundLog) × IsIn f s.kept × IsDated f.log.naming path) × ((y : Path) → IsIn y (reserved_by state) → path ≢ y)
-taken_member state rules sets faults looks clock decide s path i =
-    let h = hindered_by clock decide rules.sets sets path i in
-    let f = kept state rules sets faults looks clock decide s path h in
-    ((f.0, f.1, day_kept state rules sets faults looks clock decide s path h), no_reserved state rules sets faults looks clock decide s path h)
-
 -- ---- behind the looks
 
 file_named : (m : Past) (x : Path) (id : ℕ) → names (world m) x ≡ thing.File id → names (world m) x ≢ thing.Nothing

@@ -45,10 +45,6 @@ create_split x [] ys c = inr c
 create_split x (s ∷ xs) ys (inl here) = inl (inl here)
 create_split x (s ∷ xs) ys (inr there) = ⊎_elim (λ a. inl (inr a)) (λ b. inr b) (create_split x xs ys there)
 
-pub create_later : (x : Path) (xs ys : List Step) → OneCreates x ys → OneCreates x (xs ++ ys)
-create_later x [] ys c = c
-create_later x (s ∷ xs) ys c = inr (create_later x xs ys c)
-
 pub none_creates : (x : Path) (ss : List Step) → NoneCreates x ss → OneCreates x ss → ⊥
 none_creates x [] n c = c
 none_creates x (s ∷ ss) n (inl here) = n.0 here

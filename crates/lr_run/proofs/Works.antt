@@ -185,10 +185,6 @@ carried_counted (Ok u) state rules looks remembered clock asked ready x y z m n 
     adds_on x.faults.items y.faults.items z.faults.items k k l (adds_free x.faults.items y.faults.items (plan_for rules looks remembered clock asked).faults k k r.is.faults (plan_free clock (decision remembered.table clock.now asked.force) rules.sets looks.sets) (none_fell k)) (record { added = act_faults h.acts; after_is = h.faults_are; are_counted = h.are_counted })
 carried_counted (Err u) state rules looks remembered clock asked ready x y z m n k l r h = tt
 
-pub too_big_counted : {T E : Type 0} (r : Result T E) (a b : List Fault) (k : Counts) → OnOk r (b ≡ a ++ fault.State 0 kind.TooBig ∷ []) → OnOk r (AddsFaults a b k k)
-too_big_counted (Ok u) a b k e = adds_free a b (fault.State 0 kind.TooBig ∷ []) k k e (record { calls = refl; scripts = refl; none_around = ((λ h. h), tt) }) (none_fell k)
-too_big_counted (Err u) a b k e = tt
-
 -- ---- the reading
 
 abbrev pub none_sights : StateSights

@@ -1,5 +1,5 @@
 -- What a run came to, as a value: what it saw, its plan, and what the acts came to; and how its entries show it.
-use Rattle.std.specs.Prelude.{◌≡◌, ◌≤◌, Bool, true, false, List, [], ◌∷◌, ◌++◌, length, Option, Some, None}
+use Rattle.std.specs.Prelude.{◌≡◌, ◌≤◌, Bool, true, false, List, [], ◌∷◌, ◌++◌, length}
 use Rattle.lr_rules.specs.declared.clock.Clock.{Clock}
 use Rattle.lr_rules.specs.declared.fault.Fault.{Fault}
 use Rattle.lr_rules.specs.declared.path.Path.{Path}
@@ -47,11 +47,6 @@ pub record Work : Type 0 where
   pub reads : List Entry
   pub looks : List Entry
   pub did : List Entry
-
--- its plan, where a run came to one
-abbrev pub plan_reached : Option Work → Option Plan
-plan_reached None = None
-plan_reached (Some w) = Some w.plan
 
 -- all entries of a run by its parts, in order: a dry run takes no lock, and does nothing
 abbrev pub entries_of : Bool → Path → Clock → Rules → (dir reads looks did : List Entry) → List Entry

@@ -65,9 +65,6 @@ none_read before p ps w e f = (
   λ (r : IsStampReading ps before p w). let r' : IsStampReading [] before p w = subst (λ (qs : List Piece). IsStampReading qs before p w) e r in ap Some (sym (parts_same p before (λ g. r'.rest g refl))),
 )
 
-pub none_left : (before p : StampParts) (ps : List Piece) (c : ℕ) (w v : List ℕ) → ps ≡ [] → w ≡ c ∷ v → IsStampReading ps before p w → ⊥
-none_left before p ps c w v e f r = let t : w ≡ [] = (subst (λ (qs : List Piece). IsStampReading qs before p w) e r).text in cc
-
 -- ---- a byte
 
 pub byte_read : (before p : StampParts) (b : ℕ) (ps qs : List Piece) (w v : List ℕ) → qs ≡ piece.Byte b ∷ ps → w ≡ b ∷ v → IsStampReading ps before p v ↔ IsStampReading qs before p w
@@ -78,15 +75,6 @@ byte_read before p b ps qs w v e f = (
   where
     behind : (x y : ℕ) (xs ys : List ℕ) → x ∷ xs ≡ y ∷ ys → xs ≡ ys
     behind x y xs ys e = cc
-
-pub other_byte : (before p : StampParts) (b c : ℕ) (ps qs : List Piece) (w v : List ℕ) → qs ≡ piece.Byte b ∷ ps → w ≡ c ∷ v → b ≢ c → IsStampReading qs before p w → ⊥
-other_byte before p b c ps qs w v e f n r = n (front b c (stamp_text p ps) v (sym (subst (λ (os : List Piece). IsStampReading os before p w) e r).text ∙ f))
-  where
-    front : (x y : ℕ) (xs ys : List ℕ) → x ∷ xs ≡ y ∷ ys → x ≡ y
-    front x y xs ys e = cc
-
-pub no_byte : (before p : StampParts) (b : ℕ) (ps qs : List Piece) (w : List ℕ) → qs ≡ piece.Byte b ∷ ps → w ≡ [] → IsStampReading qs before p w → ⊥
-no_byte before p b ps qs w e f r = let t : w ≡ b ∷ stamp_text p ps = (subst (λ (os : List Piece). IsStampReading os before p w) e r).text in cc
 
 -- ---- a field
 

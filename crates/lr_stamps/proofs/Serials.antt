@@ -179,10 +179,6 @@ pair_some t u k l e f = ap (λ (s : ℤ). some (s, k)) e ∙ ap (λ (j : ℕ). s
 none_pair : {X : Type 0} (u : ℤ) (l : ℕ) → Same None u l → X
 none_pair u l e = absurd (cc)
 
--- no dot
-pub no_dot_counted : (ps : List Piece) (w : List ℕ) → ((front end : List ℕ) → w ≢ front ++ 46 ∷ end) → (u : ℤ) (l : ℕ) → Same None u l ↔ IsCounted ps u l w
-no_dot_counted ps w none u l = (λ e. none_pair u l e, λ c. absurd (none c.stamp (decimal l) c.text))
-
 -- the one split of it that has a serial number behind the dot
 split_of : (ps : List Piece) (w a b : List ℕ) (u : ℤ) (l : ℕ) → (w ≡ a ++ 46 ∷ b) × (list_any is_dot b ≡ false) → (c : IsCounted ps u l w) → IsOneSplit a b c.stamp (decimal l)
 split_of ps w a b u l h c = one_split a b c.stamp (decimal l) h.1 (digits_no_dot (decimal l) (decimal_run l (omega (arith, c.within))).1) (sym h.0 ∙ c.text)

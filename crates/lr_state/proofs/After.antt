@@ -172,9 +172,6 @@ one_more_new logs at log now es before after_it lt is h g =
 pub one_new : (es : List Entry) (log : Path) (now : Civil) → is_some (moment_of es log) ≡ false → put es log now ≡ with_new (log ∷ []) now es
 one_new es log now none = put-new es log now none ∙ ap (λ (b : Bool). cond b es (es ++ (log, now) ∷ [])) (sym none)
 
-pub none_new : (es : List Entry) (log : Path) (now : Civil) → is_some (moment_of es log) ≡ true → es ≡ with_new (log ∷ []) now es
-none_new es log now some = ap (λ (b : Bool). cond b es (es ++ (log, now) ∷ [])) (sym some)
-
 -- the names of so many logs, and of one more
 pub one_more_name : (logs : List Path) (at : ℕ) (log : Path) (now : Civil) (before after_it : List Entry) → is_table before ≡ true → at < length logs → log ≡ get_or logs at log → after_it ≡ put before log now
     → ((q : List ℕ) → is_some (moment_of before q) ≡ is_among (take at logs) q) → (q : List ℕ) → is_some (moment_of after_it q) ≡ is_among (take (at + 1) logs) q

@@ -52,12 +52,6 @@ dated-none rest other h t =
     subst (λ (o : Option Parts). IsMomentOf o None) (parts-complete rest other t) h in
     never (subst (λ (y : ℤ). IsMoment y other.month other.day other.hour other.minute other.second) t.at_year other.valid)
 
-no_empty : (line name rest : List ℕ) → line ≡ [] → BeginsWithName line name rest → ⊥
-unfolding name_in
-no_empty line name rest e named =
-    let never : checked (name_in []) ≡ Some (name, rest) = ap (λ l. checked (name_in l)) (sym e) ∙ named-complete line name rest named in
-    absurd (cc never)
-
 -- the name that the grammar finds is the one that the reader found
 record IsFound (x : NameAndRest) (name rest : List ℕ) : Type 0 where
   pub name_is : name ≡ x.0
@@ -138,18 +132,6 @@ new-only before line x at e full h new (Err Twice) s =
     let f = entry line x at s.0 s.1 s.2 e h s.3 s.4 in
     let never : true ≡ false = sym s.5 ∙ ap (λ n. is_some (moment_of before n)) f.name_is ∙ ap is_some new in
     absurd (cc never)
-
-empty-only : (before : List Entry) (line : List ℕ) → line ≡ [] → (other : Answer) → LineSays before line other → other ≡ Ok before
-empty-only before line e (Ok after) (inl s) = ap (λ (t : List Entry). Ok t) s.1
-empty-only before line e (Ok after) (inr s) = absurd (no_empty line s.0 s.1 e s.3)
-empty-only before line e (Err TooBig) s = absurd s
-empty-only before line e (Err BadTop) s = absurd s
-empty-only before line e (Err BadName) s = absurd (s.0 e)
-empty-only before line e (Err BadDate) s = absurd (no_empty line s.0 s.1 e s.2)
-empty-only before line e (Err Twice) s = absurd (no_empty line s.0 s.1 e s.3)
-
-pub says-empty : (before : List Entry) (line : List ℕ) → line ≡ [] → LineSaysOnly before line (Ok before)
-says-empty before line e = (inl (e, refl), empty-only before line e)
 
 pub says-bad_name : (before : List Entry) (line : List ℕ) → None ≡ checked (name_in line) → (line ≡ [] → ⊥) → LineSaysOnly before line (Err BadName)
 says-bad_name before line e full = ((full, λ name rest named. no_name line name rest e named), name-only before line e full)

@@ -23,10 +23,6 @@ pub front-byte : (xs : List ℕ) (b : ℕ) (o : Option NameAndRest) → with_fro
 front-byte xs b None = refl
 front-byte xs b (Some x) = ap (λ n. Some (n, x.1)) (append_assoc xs (b ∷ []) x.0)
 
-pub front-none : (o : Option NameAndRest) → with_front [] o ≡ o
-front-none None = refl
-front-none (Some x) = refl
-
 -- the bytes before the first that passes, and those from it on
 pub cut-complete : (p q : ℕ → Bool) → ((b : ℕ) → q b ≡ true → p b ≡ false) → (xs ys : List ℕ) → list_all q xs ≡ true → starts p ys ≡ true → (before p (xs ++ ys) ≡ xs) × (from_first p (xs ++ ys) ≡ ys)
 unfolding before from_first

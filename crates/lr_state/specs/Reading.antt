@@ -1,15 +1,13 @@
 -- How the lines are read, step by step: what the reader's private parts answer.
 use Rattle.std.specs.Prelude.{Bool, true, false, ◌==◌, ◌≡◌, ℕ, ℤ, pos, ◌+◌, ◌-◌, ◌*◌, List, [], ◌∷◌, ◌++◌, Option, Some, None, Vec}
-use Rattle.std.specs.Prelude.{Result, Ok, Err, is_some, if◌then◌else◌}
+use Rattle.std.specs.Prelude.{if◌then◌else◌}
 use Rattle.std.specs.Borrow.{Bor}
 use Rattle.std.specs.declared.alloc.Global.{Global}
 use Rattle.std.specs.List.{list_all}
 use Rattle.lr_rules.specs.declared.civil.Civil.{Civil}
-use Rattle.lr_rules.specs.declared.fault.StateKind.{StateKind}
-use Rattle.lr_rules.specs.declared.fault.StateKind.TheVariants.{BadName, BadDate, Twice}
 use Rattle.lr_rules.specs.Bytes.{is_blank, is_digit, is_no_blank}
 use Rattle.lr_rules.specs.Civil.{IsMoment}
-use Rattle.lr_state.specs.Table.{Entry, moment_of, is_name}
+use Rattle.lr_state.specs.Table.{is_name}
 
 abbrev pub NameAndRest : Type 0
 NameAndRest = List ℕ × List ℕ
@@ -157,15 +155,3 @@ IsMomentOf None None = Unit {0}
 IsMomentOf None (Some at) = ⊥
 IsMomentOf (Some p) None = IsMoment (pos p.0) p.1 p.2 p.3 p.4 p.5 → ⊥
 IsMomentOf (Some p) (Some at) = HasParts at p
-
--- the answer for a line, where the moment behind its name is read
-abbrev pub named_answer : List Entry → Option NameAndRest → Option Civil → Result (List Entry) StateKind
-named_answer before None at = Err BadName
-named_answer before (Some x) None = Err BadDate
-named_answer before (Some x) (Some at) =
-    if is_some (moment_of before x.0) then Err Twice else Ok (before ++ (x.0, at) ∷ [])
-
--- the parts behind a name
-abbrev pub parts_behind : Option NameAndRest → Option Parts
-parts_behind None = None
-parts_behind (Some x) = parts_in x.1

@@ -2,7 +2,7 @@
 use Rattle.std.proofs.Common.{◌≡◌, ℕ, Bool, true, false, ◌&&◌, ◌||◌, List, length, nat_le, ap, sym, ◌∙◌}
 use Rattle.std.specs.List.{list_all}
 use Rattle.std.specs.Str.{is_utf8}
-use Rattle.std.proofs.lemmas.Bool.{and_parts, and_from}
+use Rattle.std.proofs.lemmas.Bool.{and_parts}
 use Rattle.lr_rules.specs.declared.rule.Piece.{Piece}
 use Rattle.lr_rules.specs.Limits.{written, is_plain_piece, are_first, is_epoch_alone}
 use Rattle.lr_words.specs.Formats.{WritesFormat}
@@ -26,17 +26,6 @@ parts_of word pieces w =
       utf8 = ap is_utf8 (sym w.bytes) ∙ b.0;
       short = ap (λ xs. nat_le (length xs) 64) (sym w.bytes) ∙ c.0;
       fields = c.1;
-    }
-
-pub from_parts : (word : List ℕ) (pieces : List Piece) → written pieces ≡ word → Parts word pieces → WritesFormat word pieces
-from_parts word pieces e p =
-    let fields : Bool = are_first pieces || is_epoch_alone pieces in
-    let short : Bool = nat_le (length (written pieces)) 64 in
-    record {
-      bytes = e;
-      format = and_from (list_all is_plain_piece pieces) (is_utf8 (written pieces) && (short && fields)) p.plain
-          (and_from (is_utf8 (written pieces)) (short && fields) (ap is_utf8 e ∙ p.utf8)
-          (and_from short fields (ap (λ xs. nat_le (length xs) 64) e ∙ p.short) p.fields));
     }
 
 -- the pieces of a word have no fields of a moment, and no others are written by it

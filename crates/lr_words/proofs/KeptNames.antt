@@ -152,10 +152,6 @@ slash_no_sign c h = grind (arith, nat_tests)
 slash_no_escape : (c : ℕ) → is_slash c ≡ true → (c == 92) ≡ false
 slash_no_escape c h = grind (arith, nat_tests)
 
-no_signs : (e : Bool) → has_sign e [] ≡ false
-no_signs true = refl
-no_signs false = refl
-
 -- a sign in the first of the parts, where its first character is escaped or not, or in another part
 abbrev in_parts : Bool → List (List ℕ) → Bool
 in_parts e [] = false

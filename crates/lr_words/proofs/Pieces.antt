@@ -1,8 +1,7 @@
 -- What pieces are written by is read in one way.
-use Rattle.std.proofs.Common.{◌≡◌, ℕ, ◌==◌, true, false, ◌&&◌, List, [], ◌∷◌, ◌++◌, Option, Some, refl, ap, sym, ◌∙◌, if◌then◌else◌, arith, append_assoc}
+use Rattle.std.proofs.Common.{◌≡◌, ℕ, ◌==◌, true, ◌&&◌, List, [], ◌∷◌, ◌++◌, Option, Some, refl, ap, sym, ◌∙◌, if◌then◌else◌, arith, append_assoc}
 use Rattle.std.specs.List.{list_all}
 use Rattle.std.proofs.lemmas.Bool.{and_parts, and_from}
-use Rattle.std.proofs.lemmas.List.{append-nil}
 use Rattle.std.proofs.lemmas.List.Folds.{list_all-append}
 use Rattle.std.proofs.lemmas.Bool.Decides.{nat_tests}
 use Rattle.lr_rules.specs.declared.rule.Field.{Field}
@@ -75,21 +74,6 @@ one_list (p ∷ ps) (q ∷ qs) pa pb e =
     let w = one_way p q (written ps) (written qs) a.0 b.0 (sym (written-cons p ps) ∙ (e ∙ written-cons q qs)) in
     ap (λ x. x ∷ ps) w.0 ∙ ap (λ xs. q ∷ xs) (one_list ps qs a.1 b.1 w.1)
 
--- ---- bytes that begin with no piece
-
-pub no_letter : (bytes : List ℕ) (p : Piece) (left : List ℕ) → ((f : Field) (rest : List ℕ) → bytes ≡ letter f ∷ rest → ⊥) → BeginsWith (37 ∷ bytes) p left → ⊥
-no_letter bytes (piece.Byte b) left none w = let e : 37 ∷ bytes ≡ b ∷ left = w.is in let h : b ≡ 37 = cc in no_percent b w.plain h
-no_letter bytes (piece.Field f) left none w = let e : 37 ∷ bytes ≡ 37 ∷ letter f ∷ left = w.is in none f left (cc)
-
-pub no_byte : (b : ℕ) (bytes : List ℕ) (p : Piece) (left : List ℕ) → (b ≡ 37 → ⊥) → is_plain_piece (piece.Byte b) ≡ false → BeginsWith (b ∷ bytes) p left → ⊥
-no_byte b bytes (piece.Byte a) left other bad w =
-    let e : b ∷ bytes ≡ a ∷ left = w.is in
-    let h : b ≡ a = cc in
-    let t : is_plain_piece (piece.Byte a) ≡ false = sym (ap (λ x. is_plain_piece (piece.Byte x)) h) ∙ bad in
-    let t2 : is_plain_piece (piece.Byte a) ≡ true = w.plain in
-    let no : true ≡ false = sym t2 ∙ t in absurd (cc)
-no_byte b bytes (piece.Field f) left other bad w = let e : b ∷ bytes ≡ 37 ∷ letter f ∷ left = w.is in let h : b ≡ 37 = cc in other h
-
 -- ---- what is read so far
 
 -- The pieces were read, and these bytes are left: every list that the word writes goes on from them.
@@ -97,9 +81,6 @@ pub record ReadTo (word : List ℕ) (pieces : List Piece) (left : List ℕ) : Ty
   pub is : written pieces ++ left ≡ word
   pub plain : list_all is_plain_piece pieces ≡ true
   pub every : (qs : List Piece) → written qs ≡ word → list_all is_plain_piece qs ≡ true → (rest : List Piece) × (written rest ≡ left) × (list_all is_plain_piece rest ≡ true)
-
-pub at_start : (word : List ℕ) → ReadTo word [] word
-at_start word = record { is = refl; plain = refl; every = λ qs e plain. (qs, e, plain) }
 
 pub one_more : (word : List ℕ) (pieces : List Piece) (left : List ℕ) (p : Piece) (behind : List ℕ) → ReadTo word pieces left → BeginsWith left p behind → ReadTo word (pieces ++ p ∷ []) behind
 one_more word pieces left p behind h w = record {
@@ -122,6 +103,3 @@ refused word pieces left h none some qs e plain = let r = h.every qs e plain in 
     by : (rest : List Piece) → written rest ≡ left → list_all is_plain_piece rest ≡ true → ⊥
     by [] e plain = some (sym e)
     by (q ∷ rs) e plain = none q (written rs) (record { is = sym e ∙ written-cons q rs; plain = (and_parts (is_plain_piece q) (list_all is_plain_piece rs) plain).0 })
-
-pub at_end : (word : List ℕ) (pieces : List Piece) (left : List ℕ) → ReadTo word pieces left → left ≡ [] → written pieces ≡ word
-at_end word pieces left h e = sym (append-nil (written pieces)) ∙ ap (λ xs. written pieces ++ xs) (sym e) ∙ h.is

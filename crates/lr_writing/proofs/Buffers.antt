@@ -1,5 +1,5 @@
 -- A text that is appended in pieces no longer than the buffer.
-use Rattle.std.proofs.Common.{◌≡◌, ◌⊎◌, ⊎_elim, refl, sym, ◌∙◌, ap, subst, ℕ, ◌≤◌, arith, List, [], ◌∷◌, ◌++◌, take, length, append_assoc, append-nil, Option, Result, Ok, Err, OnOk, OnErr}
+use Rattle.std.proofs.Common.{◌≡◌, ◌⊎◌, ⊎_elim, refl, sym, ◌∙◌, ap, subst, ℕ, ◌≤◌, arith, List, [], ◌∷◌, ◌++◌, take, length, append_assoc, Option, Result, Ok, Err, OnOk, OnErr}
 use Rattle.std.specs.Prelude.{filter}
 use Rattle.std.proofs.lemmas.List.{length-take}
 use Rattle.lr_rules.specs.declared.path.Path.{Path}
@@ -43,10 +43,6 @@ broke_more to text more l = left_as l (λ ts b. (broke_further to text ts more b
 
 pub holds_all : (to : Path) (text : List ℕ) (o : Option Journal) → HoldsBack to text text o o
 holds_all to text o = record { front = []; text_is = refl; entries = left_first (Wrote to []) o (no_more, tt) }
-
--- nothing is
-pub holds_none : (to : Path) (text : List ℕ) {o n : Option Journal} → Left (Wrote to text) o n → HoldsBack to text [] o n
-holds_none to text l = record { front = text; text_is = sym (append-nil text); entries = l }
 
 pub holds_more : (to : Path) (text held line : List ℕ) {o n : Option Journal} → HoldsBack to text held o n → HoldsBack to (text ++ line) (held ++ line) o n
 holds_more to text held line h = record { front = h.front; text_is = ap (λ xs. xs ++ line) h.text_is ∙ append_assoc h.front held line; entries = h.entries }

@@ -15,13 +15,12 @@ use Rattle.lr_plan.specs.Steps.{state_steps}
 use Rattle.lr_plan.specs.Course.{Course, StepThen}
 use Rattle.lr_plan.specs.Asking.{CanMake}
 use Rattle.lr_plan.specs.Outcomes.{Succeeds, Fails, marks_of}
-use Rattle.lr_host.proofs.Counts.{counted_free, free_none, onward_same, onward_on}
+use Rattle.lr_host.proofs.Counts.{onward_same, onward_on}
 use Rattle.lr_plan.proofs.Courses.{course_then}
 use Rattle.lr_acts.specs.Making.{FaultCause}
 use Rattle.lr_acts.proofs.Taking.{made_taken, failed_taken, same_taken, taken_of_more, taken_on}
-use Rattle.lr_acts.proofs.Adding.{counted_one}
 use Rattle.lr_writing.specs.Target.{StateTarget}
-use Rattle.lr_writing.specs.Writes.{IsShort, Writes, ComesTo, AddsCourse, part_steps, name_steps}
+use Rattle.lr_writing.specs.Writes.{IsShort, Writes, ComesTo, part_steps, name_steps}
 use Rattle.lr_writing.proofs.Buffers.{short_on}
 use Rattle.lr_writing.proofs.Causes.{caused_later}
 
@@ -107,28 +106,6 @@ comes_short xs ys f p = record {
 pub fits_first : (o : Option Journal) (xs ys : List Step) → CanMake o (xs ++ ys) → CanMake o xs
 fits_first o [] ys can = tt
 fits_first o (x ∷ xs) ys can = (can.0, λ now l. fits_first now xs ys (can.1 now l))
-
--- ---- the fault that is added
-
-pub adds_none : (steps : List Step) (before now : List Fault) {o n : Option Journal} {a b : Counts} → now ≡ before → ComesTo steps [] o n a b → AddsCourse steps before now o n a b
-adds_none steps before now {a = a} {b = b} same p = record {
-  added = [];
-  now_is = same ∙ sym (append-nil before);
-  entries = p.entries;
-  are_counted = counted_free [] a b free_none p.onward.0;
-  taken = p.taken;
-  onward = p.onward;
-}
-
-pub adds_one : (steps : List Step) (f : Fault) (before now : List Fault) {o n : Option Journal} {a b : Counts} → now ≡ before ++ f ∷ [] → ComesTo steps (f ∷ []) o n a b → AddsCourse steps before now o n a b
-adds_one steps f before now {o = o} {n = n} {a = a} {b = b} is p = record {
-  added = f ∷ [];
-  now_is = is;
-  entries = p.entries;
-  are_counted = counted_one f a b o n p.caused.0 p.onward.0;
-  taken = p.taken;
-  onward = p.onward;
-}
 
 -- ---- the whole
 

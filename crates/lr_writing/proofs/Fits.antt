@@ -86,9 +86,6 @@ name_fits state o h =
         let same : put n part thing.Nothing state ≡ n state = put_other n part state thing.Nothing (λ e. fits.4 (sym e)) in
         dir_put (put n part thing.Nothing) state (parent_of state) (n part) (λ is. h.0.no_directory (sym same ∙ is)) gone
 
-no_dirs : (state : Path) (dirs : List Path) (n : Names) → Full state dirs n → Full state [] n
-no_dirs state dirs n h = (record { no_directory = h.0.no_directory; no_other = h.0.no_other; place = h.0.place; directories = tt }, h.1)
-
 fewer_dirs : (state d : Path) (dirs : List Path) (n : Names) → Full state (d ∷ dirs) n → Full state dirs n
 fewer_dirs state d dirs n h = (record { no_directory = h.0.no_directory; no_other = h.0.no_other; place = h.0.place; directories = h.0.directories.1 }, h.1)
 
