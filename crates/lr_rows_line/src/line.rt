@@ -32,34 +32,10 @@ impl<'a> Line<'a> {
         None
     }
 
-    /// The number behind this word, or the given one where the word isn't there.
-    pub fn number_behind(self, name: &[u8], otherwise: u64) -> Result<u64, Trouble> {
-        match self.behind(name) {
-            Some(word) => number(word),
-            None => Ok(otherwise),
-        }
-    }
-
-    /// The seconds behind this word, or the given ones.
-    pub fn seconds_behind(self, name: &[u8], otherwise: i64) -> Result<i64, Trouble> {
-        match self.behind(name) {
-            Some(word) => seconds(word),
-            None => Ok(otherwise),
-        }
-    }
-
     /// The mode behind the word `mode`, if it is there.
     pub fn mode(self) -> Result<Option<u32>, Trouble> {
         match self.behind(b"mode") {
             Some(word) => Ok(Some(octal(word)?)),
-            None => Ok(None),
-        }
-    }
-
-    /// The number behind the word `before`, if it is there.
-    pub fn before(self) -> Result<Option<u64>, Trouble> {
-        match self.behind(b"before") {
-            Some(word) => Ok(Some(number(word)?)),
             None => Ok(None),
         }
     }

@@ -1,6 +1,5 @@
 // Cases of when a log is due, one for each line of the table that decides it.
-ghost use Rattle.std.specs.Prelude.{◌≡◌, ◌↔◌, ◌∷◌, [], map, IsTrue};
-ghost use Rattle.std.specs.List.{Any};
+ghost use Rattle.std.specs.Prelude.{◌≡◌, ◌∷◌, [], map};
 ghost use Rattle.lr_tables.specs.Cases.{Covers};
 
 use lr_rules::{Civil, Criterion};
@@ -35,32 +34,6 @@ pub struct DueCase {
 #[derive(Clone, Copy)]
 pub struct DueCases<const N: usize> {
     pub rows: [DueCase; N],
-}
-
-impl<const N: usize> DueCases<N> {
-    /// Whether each of the lines 1 to 11 decides a case. No memory is taken.
-    pub fn covers(&self) -> bool
-        ensures { IsTrue result ↔ Covers self.now.rows }
-    {
-        have_all(&self.rows)
-    }
-}
-
-fn have_all(rows: &[DueCase]) -> bool
-    ensures { IsTrue result ↔ Covers rows.now }
-{
-    for line in 1..12 {
-        if !has_answer(rows, line) {
-            return false;
-        }
-    }
-    true
-}
-
-fn has_answer(rows: &[DueCase], line: u8) -> bool
-    ensures { IsTrue result ↔ Any (λ row. row.answer ≡ line) rows.now }
-{
-    rows.iter().any(|row| row.answer == line)
 }
 
 // A log of one byte that was changed just now and rotated yesterday, whose definition says nothing but that it is daily.
