@@ -54,9 +54,9 @@ use Rattle.lr_acts.specs.Making.{all_of_sets}
 use Rattle.lr_acts.specs.Taken.{LastTaken, OneTakes, WasTaken}
 use Rattle.lr_state.specs.Sights.{state_entries}
 use Rattle.lr_state.proofs.Quiet.{state_quiet}
+use Rattle.lr_laws.proofs.Lists.{made_prefix}
 use Rattle.lr_laws_rotations.specs.AllTurns.{IsOfSome, IsOfState}
 use Rattle.lr_laws_rotations.specs.Target.{Target, IsMissingDir, IsDirSeenBy}
-use Rattle.lr_laws_family.proofs.OrMade.{made_behind}
 use Rattle.lr_laws_rotations.specs.Seen.{AreLogsSeen}
 use Rattle.lr_laws_rotations.proofs.LogSeen.{log_among}
 use Rattle.lr_laws_acts.specs.Fitting.{DontMeet}
@@ -375,7 +375,7 @@ module _ (state : Path) (asked : Asked) (clock : Clock) (rules : Rules) (own : L
   not_long : (x : Path) → IsIn (fault.TooLong x) w.acted.of_acts → ⊥
   not_long x h = never_over IsLimited x p q es made
       (record { limit = r.limit; fits = r.fits; place = r.place; piece = r.piece; some = r.some; over = r.over; read = in_all (entry.Reads x r.place r.piece) r.read })
-      (λ limit c m old new first second g is. subst (λ (n : ℕ). length ((world m).files g).bytes ≤ n) c.3 (smooth.short c.0 c.1 m (made_behind p m old first) (made_behind m q new second) g (subst (λ (y : Path). names (world m) y ≡ thing.File g) (sym c.2) is)))
+      (λ limit c m old new first second g is. subst (λ (n : ℕ). length ((world m).files g).bytes ≤ n) c.3 (smooth.short c.0 c.1 m (made_prefix p m old first) (made_prefix m q new second) g (subst (λ (y : Path). names (world m) y ≡ thing.File g) (sym c.2) is)))
     where
       r : ReadsOver IsLimited x l.acts
       r = read_over x h

@@ -12,7 +12,7 @@ use Rattle.lr_host.specs.World.{Past}
 use Rattle.lr_host.proofs.Made.{made_journal}
 use Rattle.lr_looks.specs.Sights.{WordSight}
 use Rattle.lr_state.proofs.Quiet.{state_quiet}
-use Rattle.lr_laws_family.proofs.OrMade.{made_behind}
+use Rattle.lr_laws.proofs.Lists.{made_prefix}
 use Rattle.lr_run.specs.Saw.{ShowsStateFile, by_dir, by_none, ShowsSaw}
 use Rattle.lr_run.specs.Work.{Work, run_entries, first_entries}
 use Rattle.lr_laws_looks.specs.True.{AreTrue}
@@ -32,7 +32,7 @@ run_looks_true debug state clock rules w p q es reads made journal joined shows 
   looked = l.looked;
   since = l.since;
   between = l.between;
-  until = made_behind l.looked q (reverse (last_entries debug w)) l.until;
+  until = made_prefix l.looked q (reverse (last_entries debug w)) l.until;
   are_true = subst (λ (sights : List WordSight). AreTrue rules.sets sights w.saw.sets l.at l.looked) (sym shows.sets.words_are)
       (looks_true rules w.saw.sets w.saw.faults w.reads w.looks (reverse (w.reads ++ w.looks)) l.at l.looked shows.sets.shown (made_journal p l.at (reverse (reads ++ first_entries debug state clock rules w)) l.since journal) l.between (reverse-reverse (w.reads ++ w.looks))
       (file_quiet debug state w.saw.text w.saw.stale w.dir w.reads shows.file));

@@ -8,8 +8,8 @@ use Rattle.lr_host.specs.Lists.{IsIn}
 use Rattle.lr_host.specs.Quiet.{AttachedOnlySince}
 use Rattle.lr_host.specs.Told.{Counts, Rose}
 use Rattle.lr_host.specs.World.{Past, world, names}
+use Rattle.lr_host.specs.Safe.{IsPrefix}
 use Rattle.lr_copy.specs.declared.job.Job.{Job}
-use Rattle.lr_laws_family.specs.Moments.{IsBehind}
 
 -- neither the count of failed calls rose nor that of bad ends; at its greatest value a count counts as risen
 abbrev pub NoneRose : Counts → Counts → Type 0
@@ -25,5 +25,5 @@ pub record IsSmooth (state : Path) (jobs : List Job) (dirs : List Path) (before 
   pub free : (job : Job) → IsIn job jobs → (names (world before) job.part ≡ thing.Nothing)
       ⊎ IsFileAt (names (world before)) job.part
   -- no file was ever a log of these with more bytes than its copy may have
-  pub short : (job : Job) → IsIn job jobs → (m : Past) → IsBehind before m → IsBehind m after → (g : ℕ)
+  pub short : (job : Job) → IsIn job jobs → (m : Past) → IsPrefix before m → IsPrefix m after → (g : ℕ)
       → names (world m) job.from ≡ thing.File g → length ((world m).files g).bytes ≤ job.limit

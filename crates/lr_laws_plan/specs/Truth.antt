@@ -4,9 +4,9 @@ use Rattle.lr_rules.specs.declared.rule.Rule.{Rule}
 use Rattle.lr_host.specs.declared.entry.Entry.{Entry}
 use Rattle.lr_host.specs.Told.{Made}
 use Rattle.lr_host.specs.World.{Past}
+use Rattle.lr_host.specs.Safe.{IsPrefix}
 use Rattle.lr_plan.specs.declared.looks.SetLooks.{SetLooks}
 use Rattle.lr_looks.specs.Sights.{WordSight}
-use Rattle.lr_laws_family.specs.Moments.{IsBehind}
 use Rattle.lr_laws_looks.specs.True.{AreTrue}
 
 -- Between the two pasts these entries were made, and then those of the looking; and what this came to was true of the disk, from
@@ -17,5 +17,5 @@ pub record WereTrue (rules : List Rule) (sights : List WordSight) (sets : List S
   pub looked : Past
   pub since : Made before (reverse front) at
   pub between : Made at (reverse looking) looked
-  pub until : IsBehind looked after
+  pub until : IsPrefix looked after
   pub are_true : AreTrue rules sights sets at looked
