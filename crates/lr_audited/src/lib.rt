@@ -2,8 +2,8 @@
 //! what the plan of a forced run removes, under the present names.
 //!
 //! The contract above it: each file is told as what the looks made of it, and what is told as going is just what the steps of
-//! all logs of that plan unlink, in order, each traced back to the name that it has before them. Begin with `audit_by`, and with
-//! `removals_are_foretold`, a law: the contract of a function without a body.
+//! all logs of that plan unlink, old part files aside, in order, each traced back to the name that it has before them. Begin
+//! with `audit_by`, and with `removals_are_foretold`, a law: the contract of a function without a body.
 #![tactic(auto)]
 
 mod gaps;

@@ -2,8 +2,8 @@
 //!
 //! The contract: [`say`] gives exactly what the line says, inside a definition of logs or outside: the first fault that
 //! applies to it, in the order of `lr_rules::ConfKind`, else what it sets, names, includes or passes over. What is set
-//! meets the limits of `lr_rules`. What depends on the lines before
-//! it, as names without a brace and a script that stands twice, is for `lr_conf`. Begin with [`say`]:
+//! meets the limits of `lr_rules`. What depends on the lines before it, as names without a brace and a script that stands
+//! twice, is for `lr_conf`. Begin with [`say`]:
 //!
 //! ```text
 //! // each item of a `lr_lex::Lexer`

@@ -37,8 +37,8 @@ EmptiesCopied P ts = (before : List Entry) (log : Path) (after : List Entry) →
 
 -- ---- in the world
 
--- Such a job copied the log between the two pasts; and where no writer was attached to its part file or its final path meanwhile,
--- the copy is whole now.
+-- Such a job is to copy the log; and where no writer was attached to its part file or its final path between the two pasts, the
+-- copy is whole now.
 pub record IsCopiedWhole (P : Job → Type 0) (log : Path) (before now : Past) : Type 0 where
   pub job : Job
   pub is : P job
@@ -46,8 +46,8 @@ pub record IsCopiedWhole (P : Job → Type 0) (log : Path) (before now : Past) :
   pub cut : job.cut ≡ true
   pub whole : WritersSpareCopy job before now → IsCopyWhole log job.to before now
 
--- The promise over a call: where the journal is told, and was one of a disk, each log that the call emptied was copied so by then,
--- since the call began.
+-- The promise over a call: where the journal is told, and was one of a disk, there is such a job for each log that the call
+-- emptied, and where writers spared its copy since the call began, that is whole by then.
 abbrev pub EmptiesWhole : (Job → Type 0) → Option Journal → Option Journal → Type 0
 EmptiesWhole P (Some j) (Some k) = IsJournal (past j) → (u : Past) (log : Path) → IsPrefix (past j) u
     → IsPrefix (u ▸ Truncates log) (past k) → IsCopiedWhole P log (past j) u

@@ -38,6 +38,6 @@ pub record AreThere (n : Naming) (m : Names) (members : List Member) : Type 0 wh
   pub files : All (λ member. IsFileAt m member.path) members
   pub others : (x : Path) → IsMember n x → NoMemberHas members x → m x ≡ thing.Nothing
 
--- The path is the newest place of a numbered family; or a dated one's, and none of these members has it.
+-- The path is the newest place of a numbered family; or any dated one's that none of these members has, be it the newest or not.
 abbrev pub IsNewestOf : Naming → List Member → Path → Type 0
 IsNewestOf n members x = ((n.dated ≡ None) × IsMemberAt n 0 x) ⊎ (IsDated n x × NoMemberHas members x)

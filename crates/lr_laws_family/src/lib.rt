@@ -5,8 +5,8 @@
 //! writers' entries between its steps, each file is where the rotation takes it, by its identity and with its bytes
 //! (`family_is_turned`). A law is the contract of a function without a body; begin with `IsTurned` in `specs/Turned.antt`.
 //!
-//! Before a log is emptied the copy has its final path, whole, and after each cut: `copy_is_whole_before_cut`, whose words stand
-//! in `specs/Whole.antt`.
+//! Before a log is emptied its copy, where writers spare it, has the final path, whole, now and after each cut:
+//! `copy_is_whole_before_cut`, whose words stand in `specs/Whole.antt`.
 #![tactic(auto)]
 
 mod copies;

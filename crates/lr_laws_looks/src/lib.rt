@@ -1,6 +1,6 @@
 //! What the looks of a run show, and that they are true of the disk.
 //!
-//! A law is the contract of a function without a body.
+//! A law is the contract of a function that does nothing, or, as `state_has_its_place`, calls another law.
 //!
 //! - What the entries of a call of `expand` show: they fix what its word came to, and it finds what stood as the call began. Begin
 //!   with `all_that_stood_are_found`.

@@ -3,9 +3,9 @@
 //! Standard output gets the bytes of the log's rotated files and of the log, and nothing else. Standard error gets a line for each
 //! notice and each fault, or one line that says why nothing was read; a line for each call that failed, with the system's
 //! reason; and the usage behind other words. It ends with 0 where there was no fault, with 1 where there was one (what came is a
-//! first part then, unless the fault is of the configuration), with 2 for other words, with 3 where another run holds the lock,
-//! with 4 for want of memory, and with 5 where no definition gives the log. `--help` and `--version`, each alone, are answered
-//! here.
+//! first part then, unless the fault is of a line of the configuration), with 2 for other words, with 3 where another run holds
+//! the lock, with 4 for want of memory, and with 5 where no definition gives the log. `--help` and `--version`, each alone, are
+//! answered here.
 //! The contract above it is that of `lr_cat::lrcat`; begin there.
 #![tactic(auto)]
 
