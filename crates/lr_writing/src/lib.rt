@@ -8,7 +8,7 @@
 //! run. Begin with [`prepare`]:
 //!
 //! ```text
-//! let part = part_of(alloc, &state)?;                               // STATE.tmp, which the run looks at
+//! let part = lr_state::part_path(alloc, &state)?;                   // STATE.tmp, which the run looks at
 //! let dirs = directories_of(alloc, &changed)?;                      // of the paths whose names the run changes
 //! let writing = prepare(alloc, &state, part, stale)?;               // behind the looks, before the first change
 //! write_state(&mut host, writing, dirs, &table, &mut faults);       // behind the acts
@@ -44,4 +44,4 @@ pub use directories::directories_of;
 pub use laws::{state_is_named_last, whole_writing_names_state, writing_fits};
 pub use synced_directories::{Directories, directories_by, synced};
 pub use write::write_state;
-pub use writing::{Writing, part_of, prepare};
+pub use writing::{Writing, prepare};

@@ -1,10 +1,9 @@
 // What the writing of a state file needs.
-ghost use Rattle.std.specs.Prelude.{◌≡◌, IfOk, MatchResult, None};
-ghost use Rattle.lr_rules.specs.Path.{path_fault, IsRefusal};
+ghost use Rattle.std.specs.Prelude.{◌≡◌, IfOk};
 ghost use Rattle.lr_rules.specs.StatePath.{state_part};
 
-use lr_rules::{Memory, Path, PathFault};
-use std::alloc::{AllocError, Global};
+use lr_rules::{Memory, Path};
+use std::alloc::Global;
 use std::marker::Model;
 
 /// All that the writing of a state file needs: its paths, and a buffer of 65,536 bytes. Contracts see the path of the
@@ -31,27 +30,7 @@ impl Model for Writing {
     ghost invariant = { λ w. (w.part ≡ state_part w.state) × (w.dir ≡ parent_of w.state) × (length w.buffer.items ≡ 65_536) };
 }
 
-fn part_bytes(alloc: Global, state: &Path) -> Result<Vec<u8>, AllocError>
-    ensures { IfOk result (λ bytes. bytes.items ≡ state_part state.now) }
-{
-    let mut bytes = state.bytes().to_vec(alloc)?;
-    bytes.extend_from_slice(b".tmp")?;
-    Ok(bytes)
-}
-
-/// The path of the file that a state is first written to: that of the state, with `.tmp` behind it. A refusal is that of
-/// `Path::new` for these bytes; so it is `TooLong` for a state whose path has more than 4,092 bytes.
-pub fn part_of(alloc: Global, state: &Path) -> Result<Path, PathFault>
-    ensures { MatchResult result (λ path. (path ≡ state_part state.now) × (path_fault (state_part state.now) ≡ None))
-        (IsRefusal (path_fault (state_part state.now))) }
-{
-    match part_bytes(alloc, state) {
-        Ok(bytes) => Path::new(alloc, bytes.as_slice()),
-        Err(_) => Err(PathFault::Memory),
-    }
-}
-
-/// Takes all the memory that the writing needs. `part` is the path that `part_of` gave for the state; `stale` tells
+/// Takes all the memory that the writing needs. `part` is the path that `part_path` of `lr_state` gave; `stale` tells
 /// whether a file was seen there.
 pub fn prepare(alloc: Global, state: &Path, part: Path, stale: bool) -> Result<Writing, Memory>
     requires part { part ≡ state_part state.now }
