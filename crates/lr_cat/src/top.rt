@@ -46,7 +46,8 @@ pub fn lrcat<H: Host, K: Sink, N: Sink>(
     ensures told { CatSays here.now words.now now result (H.told host.old) (H.told host.new) (H.counts host.old)
         (H.counts host.new) (K.taken out.old) (K.taken out.new) (K.faults out.old) (K.faults out.new) }
 
-    // The notes took the lines of the report, or the one line of another outcome; all of it, unless a put failed.
+    // The notes took the lines of the report, and behind them, where the log waits under its name aside, a line that says so; or
+    // the one line of another outcome. All of it, unless a put failed.
     ensures notes { Noted (notes_text here.now words.now result) (N.taken notes.old) (N.taken notes.new) (N.faults notes.old)
         (N.faults notes.new) }
 
