@@ -37,11 +37,11 @@ use Rattle.lr_looks.specs.Reserved.{reserved_by}
 use Rattle.lr_run.specs.declared.answer.Ran.{Ran}
 use Rattle.lr_run.specs.declared.answer.RunStop.{RunStop}
 use Rattle.lr_run.specs.declared.answer.RunStop.TheVariants as stop
-use Rattle.lr_run.specs.Dry.{measured_by, PlanFollows}
+use Rattle.lr_run.specs.Dry.{PlanFollows}
 use Rattle.lr_run.specs.Halt.{OfFaults, OfMemory, Halts, not_seen, no_directory, unknown, too_big, short, short_anew}
 use Rattle.lr_run.specs.Internal.{plan_if, faults_if}
 use Rattle.lr_run.specs.Ran.{halted, came, RanSo}
-use Rattle.lr_run.specs.Runs.{SomeSeen, of_state, of_looks}
+use Rattle.lr_run.specs.Runs.{measured_of, SomeSeen, of_state, of_looks}
 use Rattle.lr_run.specs.Saw.{Saw, ShowsStateFile, by_dir, by_none, ShowsSaw}
 use Rattle.lr_run.specs.Trying.{PlanFollowsBy, PlansOn, PlansByOn, not_known, by_text, TriesOn}
 use Rattle.lr_run.specs.Work.{Work, no_acts}
@@ -51,14 +51,14 @@ use Rattle.lr_run.proofs.Works.{plan_free, none_fell, some_of_whole, none_sights
 -- ---- the plan
 
 -- what is told of a plan that was measured
-pub measured : (b : Bool) (rules : List Rule) (sets : List SetLooks) (kept : List Path) (table : List Row) (clock : Clock) (asked : Asked) → b ≡ nat_le (length (measured_by (plan_of rules sets table clock asked) table kept clock)) 67_108_864
+pub measured : (b : Bool) (rules : List Rule) (sets : List SetLooks) (kept : List Path) (table : List Row) (clock : Clock) (asked : Asked) → b ≡ nat_le (length (measured_of (plan_of rules sets table clock asked) table kept clock.now.civil)) 67_108_864
     → PlanFollows rules sets kept table clock asked (plan_if b (plan_of rules sets table clock asked)) (faults_if b (plan_of rules sets table clock asked))
-measured true rules sets kept table clock asked e = (leb-true (length (measured_by (plan_of rules sets table clock asked) table kept clock)) 67_108_864 (sym e), refl, refl)
-measured false rules sets kept table clock asked e = (leb-false (length (measured_by (plan_of rules sets table clock asked) table kept clock)) 67_108_864 (sym e), refl)
+measured true rules sets kept table clock asked e = (leb-true (length (measured_of (plan_of rules sets table clock asked) table kept clock.now.civil)) 67_108_864 (sym e), refl, refl)
+measured false rules sets kept table clock asked e = (leb-false (length (measured_of (plan_of rules sets table clock asked) table kept clock.now.civil)) 67_108_864 (sym e), refl)
 
 -- so it is for the plan that was told
 pub follows : {E : Type 0} (r : Result (Option Plan) E) (b : Bool) (plan : Plan) (rules : List Rule) (sets : List SetLooks) (kept logs : List Path) (table : List Row) (clock : Clock) (asked : Asked) (x y : List Fault) → plan ≡ plan_of rules sets table clock asked → kept ≡ logs
-    → b ≡ nat_le (length (measured_by plan table kept clock)) 67_108_864 → IfOk r (λ told. told ≡ plan_if b plan) → OnOk r (y ≡ x ++ faults_if b plan)
+    → b ≡ nat_le (length (measured_of plan table kept clock.now.civil)) 67_108_864 → IfOk r (λ told. told ≡ plan_if b plan) → OnOk r (y ≡ x ++ faults_if b plan)
     → IfOk r (λ told. (own : List Fault) × (y ≡ x ++ own) × PlanFollows rules sets logs table clock asked told own)
 follows (Err e) b plan rules sets kept logs table clock asked x y is k m h g = tt
 follows (Ok told) b plan rules sets kept logs table clock asked x y is k m h g = (
@@ -66,7 +66,7 @@ follows (Ok told) b plan rules sets kept logs table clock asked x y is k m h g =
   g,
   subst (λ (p : Option Plan). PlanFollows rules sets logs table clock asked p (faults_if b plan)) (sym h)
       (subst (λ (p : Plan). PlanFollows rules sets logs table clock asked (plan_if b p) (faults_if b p)) (sym is)
-      (measured b rules sets logs table clock asked (m ∙ (ap (λ (p : Plan). nat_le (length (measured_by p table kept clock)) 67_108_864) is ∙ ap (λ (ks : List Path). nat_le (length (measured_by (plan_of rules sets table clock asked) table ks clock)) 67_108_864) k)))),
+      (measured b rules sets logs table clock asked (m ∙ (ap (λ (p : Plan). nat_le (length (measured_of p table kept clock.now.civil)) 67_108_864) is ∙ ap (λ (ks : List Path). nat_le (length (measured_of (plan_of rules sets table clock asked) table ks clock.now.civil)) 67_108_864) k)))),
 )
 
 -- its faults tell of no call and of no program

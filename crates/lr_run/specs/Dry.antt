@@ -22,24 +22,19 @@ use Rattle.lr_looks.specs.Shown.{ShowsLooks, ShowsSomeLooks}
 use Rattle.lr_state.specs.declared.remembered.Remembered.{Remembered}
 use Rattle.lr_state.specs.Known.{IsKnown}
 use Rattle.lr_state.specs.Sights.{StateSights, ShowsState}
-use Rattle.lr_state.specs.After.{after}
-use Rattle.lr_state.specs.Measured.{measured_text}
 use Rattle.lr_looks.specs.Reserved.{reserved_by}
-use Rattle.lr_run.specs.Runs.{logs_in, SomeSeen}
+use Rattle.lr_run.specs.Runs.{measured_of, SomeSeen}
 
 -- ---- the plan
-
--- the text of the state that is measured, by a plan, a table, and the logs that are kept
-abbrev pub measured_by : Plan → List Row → List Path → Clock → List ℕ
-measured_by plan table kept clock = measured_text (logs_in plan) clock.now.civil (after table [] kept clock.now.civil)
 
 -- What follows from these looks, where these logs are kept and the state has this table: the plan, with its own faults; or none,
 -- where the text of the state could become too big, and that is the fault.
 abbrev pub PlanFollows : List Rule → List SetLooks → List Path → List Row → Clock → Asked → Option Plan → List Fault → Type 0
-PlanFollows rules sets kept table clock asked (Some plan) faults = (length (measured_by plan table kept clock) ≤ 67_108_864)
-    × (plan ≡ plan_of rules sets table clock asked) × (faults ≡ plan.faults)
+PlanFollows rules sets kept table clock asked (Some plan) faults =
+    (length (measured_of plan table kept clock.now.civil) ≤ 67_108_864) × (plan ≡ plan_of rules sets table clock asked)
+    × (faults ≡ plan.faults)
 PlanFollows rules sets kept table clock asked None faults = (67_108_864 < length
-    (measured_by (plan_of rules sets table clock asked) table kept clock)) × (faults ≡ fault.State 0 kind.TooBig ∷ [])
+    (measured_of (plan_of rules sets table clock asked) table kept clock.now.civil)) × (faults ≡ fault.State 0 kind.TooBig ∷ [])
 
 -- The logs were looked at, and what follows from that and from this table is planned. The faults are those of the looks and of the
 -- plan, in this order.

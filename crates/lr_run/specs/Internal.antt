@@ -47,7 +47,6 @@ use Rattle.lr_state.specs.declared.remembered.Remembered.{Remembered}
 use Rattle.lr_state.specs.Known.{IsKnown, ReadsState, TextSaysOnly}
 use Rattle.lr_state.specs.Sights.{StateSights, ShowsState}
 use Rattle.lr_state.specs.After.{after, stamped}
-use Rattle.lr_state.specs.Measured.{measured_text}
 use Rattle.lr_writing.specs.Target.{StateTarget}
 use Rattle.lr_looks.specs.Reserved.{reserved_by}
 use Rattle.lr_writing.specs.Before.{IsBy}
@@ -55,7 +54,7 @@ use Rattle.lr_writing.specs.Synced.{AreSynced}
 use Rattle.lr_run.specs.declared.answer.RunStop.{RunStop}
 use Rattle.lr_run.specs.declared.answer.RunStop.TheVariants as stop
 use Rattle.lr_run.specs.declared.ready.Ready.{Ready}
-use Rattle.lr_run.specs.Runs.{logs_in, SomeSeen, BrokeOff, LacksMemory}
+use Rattle.lr_run.specs.Runs.{measured_of, SomeSeen, BrokeOff, LacksMemory}
 use Rattle.lr_run.specs.Saw.{Saw, ShowsStateText, ShowsSets, plan_by, measured_by}
 use Rattle.lr_run.specs.Work.{Acts, act_faults, Work, IsPlanOf, CarriesOut}
 use Rattle.lr_run.specs.Halt.{LacksState}
@@ -78,13 +77,13 @@ pub record IsRunReady (state : Path) (stale : Bool) (plan : Plan) (table : List 
 -- The text is small enough, however the rotations end; and all is ready.
 pub record ReadyFor (state : Path) (now : Moment) (remembered : Remembered) (kept : List Path) (plan : Plan) (ready : Ready)
     (before later : Progress) : Type 0 where
-  pub small : length (measured_text (logs_in plan) now.civil (after remembered.table [] kept now.civil)) ≤ 67_108_864
+  pub small : length (measured_of plan remembered.table kept now.civil) ≤ 67_108_864
   pub is : IsRunReady state remembered.stale plan (after remembered.table [] kept now.civil) ready before later
 
 abbrev pub MayBeReady : Path → Moment → Remembered → List Path → Plan → Option Ready → Progress → Progress → Type 0
 MayBeReady state now remembered kept plan (Some ready) before later = ReadyFor state now remembered kept plan ready before later
 MayBeReady state now remembered kept plan None before later =
-    (67_108_864 < length (measured_text (logs_in plan) now.civil (after remembered.table [] kept now.civil))) × (later ≡ before)
+    (67_108_864 < length (measured_of plan remembered.table kept now.civil)) × (later ≡ before)
 
 -- ---- what was done
 
@@ -144,8 +143,8 @@ plan_for rules looks remembered clock asked = plan_of rules.sets looks.sets reme
 
 -- the text of the state that is measured before it is carried out
 abbrev pub measured_for : Rules → Looks → Remembered → Clock → Asked → List ℕ
-measured_for rules looks remembered clock asked = measured_text (logs_in (plan_for rules looks remembered clock asked))
-    clock.now.civil (after remembered.table [] looks.kept clock.now.civil)
+measured_for rules looks remembered clock asked = measured_of (plan_for rules looks remembered clock asked) remembered.table
+    looks.kept clock.now.civil
 
 -- the steps of the writing of the state behind these acts
 abbrev pub steps_of_writing : Path → Looks → Remembered → Clock → Acts → List Step

@@ -2,6 +2,7 @@
 -- them.
 use Rattle.std.specs.Prelude.{◌≡◌, ◌<◌, ◌≤◌, ℕ, List, [], ◌∷◌, ◌++◌, length, map, Option, Some, None, Ok, Err}
 use Rattle.std.specs.List.{flat_map}
+use Rattle.lr_rules.specs.declared.civil.Civil.{Civil}
 use Rattle.lr_rules.specs.declared.path.Path.{Path}
 use Rattle.lr_rules.specs.declared.clock.Clock.{Clock}
 use Rattle.lr_rules.specs.declared.rule.Rule.{Rule}
@@ -15,6 +16,7 @@ use Rattle.lr_host.specs.declared.entry.Entry.{Entry}
 use Rattle.lr_host.specs.declared.entry.Entry.TheVariants.{Starts}
 use Rattle.lr_host.specs.Told.{Then, Maybe}
 use Rattle.lr_host.specs.Looks.{Sees, IsDir, IsNotDir}
+use Rattle.lr_state.specs.Table.{Entry as Row}
 use Rattle.lr_state.specs.Written.{text_of}
 use Rattle.lr_plan.specs.Asked.{Asked}
 use Rattle.lr_plan.specs.declared.looks.SetLooks.{SetLooks}
@@ -50,6 +52,10 @@ all_logs_of sets = flat_map (λ set. logs_rotated set.logs) sets
 abbrev pub logs_in : Plan → List Path
 logs_in plan = all_logs_of plan.sets
 
+-- the text of the state that is measured before the first act of the plan, by the table and the logs that are kept
+abbrev pub measured_of : Plan → List Row → List Path → Civil → List ℕ
+measured_of plan table kept now = measured_text (logs_in plan) now (after table [] kept now)
+
 -- the directories that it makes
 abbrev pub dirs_in : Plan → List Path
 dirs_in plan = all_to_make_of plan.sets
@@ -78,10 +84,10 @@ plan_in state rules ts l clock asked = plan_of rules l.sets l.remembered.table c
 abbrev pub kept_in : (state : Path) (rules : List Rule) (ts : List Entry) → Looked state rules ts → List Path
 kept_in state rules ts l = paths_of l.shown.kept
 
--- the text of the state that is measured before the first act
+-- the text that is measured
 abbrev pub measured_in : (state : Path) (rules : List Rule) (ts : List Entry) → Looked state rules ts → Clock → Asked → List ℕ
-measured_in state rules ts l clock asked = measured_text (logs_in (plan_in state rules ts l clock asked)) clock.now.civil
-    (after l.remembered.table [] (kept_in state rules ts l) clock.now.civil)
+measured_in state rules ts l clock asked = measured_of (plan_in state rules ts l clock asked) l.remembered.table
+    (kept_in state rules ts l) clock.now.civil
 
 -- the text that is written, by the logs that were rotated
 abbrev pub state_text : (state : Path) (rules : List Rule) (ts : List Entry) → Looked state rules ts → Clock → List Path → List ℕ

@@ -19,9 +19,8 @@ use Rattle.lr_looks.specs.Sights.{WordSight}
 use Rattle.lr_state.specs.Known.{TextSaysOnly, text_read as read_of}
 use Rattle.lr_state.specs.Sights.{StateSights, ShowsState, found}
 use Rattle.lr_state.specs.After.{after}
-use Rattle.lr_state.specs.Measured.{measured_text}
 use Rattle.lr_looks.specs.Reserved.{reserved_by}
-use Rattle.lr_run.specs.Runs.{logs_in}
+use Rattle.lr_run.specs.Runs.{measured_of}
 
 -- ---- the value
 
@@ -47,7 +46,7 @@ text_by saw clock rotated = text_of (after saw.table rotated (paths_of saw.kept)
 
 -- the text that is measured before the first act of a plan
 abbrev pub measured_by : Saw → Plan → Clock → List ℕ
-measured_by saw plan clock = measured_text (logs_in plan) clock.now.civil (after saw.table [] (paths_of saw.kept) clock.now.civil)
+measured_by saw plan clock = measured_of plan saw.table (paths_of saw.kept) clock.now.civil
 
 -- ---- how entries show it
 

@@ -2,7 +2,6 @@
 ghost use Rattle.std.specs.Prelude.{◌≡◌, ◌≢◌, ◌+◌, ◌≤◌, ◌++◌, List, true, Ok, Err, IfOk, OnOk, OnErr, length, nat_le};
 ghost use Rattle.std.specs.Prelude.{vec_len};
 ghost use Rattle.std.specs.Vec.{vec_capacity};
-ghost use Rattle.lr_rules.specs.declared.clock.Clock.{Clock};
 ghost use Rattle.lr_rules.specs.declared.fault.Fault.{Fault};
 ghost use Rattle.lr_rules.specs.Path.{parent_of};
 ghost use Rattle.lr_host.specs.Counted.{WentBy};
@@ -11,11 +10,11 @@ ghost use Rattle.lr_looks.specs.Shown.{ShowsSomeLooks};
 ghost use Rattle.lr_plan.specs.Asked.{asking};
 ghost use Rattle.lr_plan.specs.Planned.{CanPlanAll};
 ghost use Rattle.lr_looks.specs.Reserved.{reserved_by};
-ghost use Rattle.lr_run.specs.Dry.{PlanFollows, measured_by};
+ghost use Rattle.lr_run.specs.Dry.{PlanFollows};
 ghost use Rattle.lr_run.specs.Halt.{OfMemory, Halts};
 ghost use Rattle.lr_run.specs.Internal.{plan_if, faults_if};
 ghost use Rattle.lr_run.specs.Ran.{RanSo, run_faults};
-ghost use Rattle.lr_run.specs.Runs.{SomeSeen};
+ghost use Rattle.lr_run.specs.Runs.{measured_of, SomeSeen};
 ghost use Rattle.lr_run.specs.Trying.{PlansOn, PlansByOn, TriesOn};
 
 use crate::answer::{Ran, RunStop};
@@ -39,8 +38,7 @@ fn is_small(
     plan: &Plan,
     now: &Civil,
 ) -> Result<bool, Memory>
-    ensures { (at : Clock) → at.now.civil ≡ now.now → IfOk result
-        (λ b. b ≡ nat_le (length (measured_by plan.now table kept.now at)) 67_108_864) }
+    ensures { IfOk result (λ b. b ≡ nat_le (length (measured_of plan.now table kept.now now.now)) 67_108_864) }
 {
     let mut table = table;
     bring_up_to(alloc, &mut table, kept, plan, now)

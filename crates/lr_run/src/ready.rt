@@ -6,8 +6,7 @@ ghost use Rattle.lr_acts.specs.Making.{all_of_sets};
 ghost use Rattle.lr_plan.specs.Steps.{steps_of_plan};
 ghost use Rattle.lr_rules.specs.StatePath.{state_part};
 ghost use Rattle.lr_state.specs.After.{after};
-ghost use Rattle.lr_state.specs.Measured.{measured_text};
-ghost use Rattle.lr_run.specs.Runs.{logs_in};
+ghost use Rattle.lr_run.specs.Runs.{measured_of};
 ghost use Rattle.lr_run.specs.Internal.{IsRunReady, MayBeReady};
 
 use crate::fault_copy::copy_fault;
@@ -39,8 +38,7 @@ pub fn bring_up_to(
     now: &Civil,
 ) -> Result<bool, Memory>
     ensures table { OnOk result (table.new ≡ after table.old [] kept.now now.now) }
-    ensures small { IfOk result (λ b. b ≡ nat_le (length (measured_text (logs_in plan.now) now.now
-        (after table.old [] kept.now now.now))) 67_108_864) }
+    ensures small { IfOk result (λ b. b ≡ nat_le (length (measured_of plan.now table.old kept.now now.now)) 67_108_864) }
 {
     bring_up(alloc, table, kept, now)?;
     let due = logs_of_plan(alloc, plan.sets.as_slice())?;
