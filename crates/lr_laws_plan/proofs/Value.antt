@@ -13,7 +13,7 @@ use Rattle.lr_run.specs.Work.{Work, ShowsWork, CarriesOut, DidNothing, run_entri
 use Rattle.lr_run.proofs.Leaving.{halt_left, tried_left}
 use Rattle.lr_run.proofs.Evidence.{faults_of}
 use Rattle.lr_run.proofs.Turned.{inside}
-use Rattle.lr_laws_plan.specs.Ending.{EndsRun, NoneEnds, SaysWhy}
+use Rattle.lr_laws_plan.specs.Ending.{EndsRun, NoneEnds, SaysWhyRun}
 use Rattle.lr_laws_plan.specs.Looked.{behind_start, SawState}
 use Rattle.lr_laws_plan.specs.Tried.{NoneEndsTry, SaysWhyTry}
 use Rattle.lr_laws_plan.proofs.Ends.{last_ends}
@@ -33,7 +33,7 @@ module _ (state : Path) (asked : Asked) (clock : Clock) (rules : Rules) where
   halt_unreached own ts h =
       unreached state asked clock rules own ts (halt_left state rules clock asked None refl ts false (OfFaults own) h)
 
-  pub halt_why : (own : List Fault) (ts : List Entry) → Halts false state rules clock asked (OfFaults own) ts → SaysWhy state own
+  pub halt_why : (own : List Fault) (ts : List Entry) → Halts false state rules clock asked (OfFaults own) ts → SaysWhyRun state own
   halt_why own ts h = let u = halt_unreached own ts h in record { before = u.before; last = u.last; own_are = u.own_are; ends = ⊎_elim (λ ends. inl ends) (λ may. inr (may.0, may.1)) u.ends }
 
   pub halt_unseen : (own : List Fault) (ts : List Entry) → Halts false state rules clock asked (OfFaults own) ts → NoneEnds state own → SawState state (behind_start ts) → ⊥

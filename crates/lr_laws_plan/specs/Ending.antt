@@ -30,7 +30,7 @@ MayEnd state f = ((path : Path) × IsIn path (parent_of state ∷ state ∷ (sta
     × (f ≡ fault.Call call.Look path)) ⊎ (f ≡ fault.Call call.Read state)
 
 -- The last of the faults is why the run ended: it is one that ends a run, or the one fault is such a look or read.
-pub record SaysWhy (state : Path) (own : List Fault) : Type 0 where
+pub record SaysWhyRun (state : Path) (own : List Fault) : Type 0 where
   pub before : List Fault
   pub last : Fault
   pub own_are : own ≡ before ++ last ∷ []

@@ -10,7 +10,7 @@ ghost use Rattle.lr_host.specs.World.{Past};
 ghost use Rattle.lr_plan.specs.Asked.{Asked};
 ghost use Rattle.lr_run.specs.Halt.{OfFaults, Halts};
 ghost use Rattle.lr_run.specs.Work.{Work, ShowsWork, CarriesOut, DidNothing, act_faults, run_entries};
-ghost use Rattle.lr_laws_plan.specs.Ending.{NoneEnds, SaysWhy};
+ghost use Rattle.lr_laws_plan.specs.Ending.{NoneEnds, SaysWhyRun};
 ghost use Rattle.lr_laws_plan.specs.Looked.{behind_start, SawState};
 ghost use Rattle.lr_laws_plan.specs.Tried.{NoneEndsTry, SaysWhyTry};
 
@@ -27,7 +27,7 @@ pub fn plan_is_reached()
         → ShowsWork false state rules.sets clock asked w → CarriesOut state clock w
         → SawState state (behind_start (run_entries false state clock rules w)) }
     ensures why { (state : Path) (asked : Asked) (clock : Clock) (rules : Rules) (own : List Fault) (ts : List Entry)
-        → Halts false state rules clock asked (OfFaults own) ts → SaysWhy state own }
+        → Halts false state rules clock asked (OfFaults own) ts → SaysWhyRun state own }
     ensures unseen { (state : Path) (asked : Asked) (clock : Clock) (rules : Rules) (own : List Fault) (ts : List Entry)
         → Halts false state rules clock asked (OfFaults own) ts → NoneEnds state own → SawState state (behind_start ts) → ⊥ }
 {}
