@@ -14,6 +14,7 @@ mod aside;
 mod commands;
 mod copying;
 mod directory;
+mod log_plan;
 mod planning;
 mod sets;
 mod steps;

@@ -1,5 +1,5 @@
 // What makes the plan.
-ghost use Rattle.std.specs.Prelude.{◌≡◌, ◌≤◌, ◌++◌, ◌∷◌, [], None, not, length, OnOk, IfOk, IfErr};
+ghost use Rattle.std.specs.Prelude.{◌≡◌, ◌≤◌, ◌++◌, ◌∷◌, [], None, length, OnOk, IfOk, IfErr};
 ghost use Rattle.lr_rules.specs.declared.rule.Rule.{Rule};
 ghost use Rattle.lr_rules.specs.Limits.{IsCount};
 ghost use Rattle.lr_plan.specs.declared.looks.LogLook.{LogLook};
@@ -7,28 +7,27 @@ ghost use Rattle.lr_plan.specs.Asked.{asking};
 ghost use Rattle.lr_planning.specs.Hindered.{prepare_fault};
 ghost use Rattle.lr_plan.specs.Planned.{decision, decisions_of, plans_of, log_plans, log_faults, set_plan, where_due};
 ghost use Rattle.lr_plan.specs.Planned.{all_decisions, all_plans, all_faults, plan_of, make_of, make_for, dir_of, stand_for};
-ghost use Rattle.lr_plan.specs.Planned.{with_stand, with_log, first_path, aside_by, aside_hinders, unfinished, or_else};
+ghost use Rattle.lr_plan.specs.Planned.{with_stand, with_log, first_path, aside_hinders, unfinished, or_else};
 ghost use Rattle.lr_plan.specs.Planned.{none_hinders, due_faults};
-ghost use Rattle.lr_plan.specs.Planned.{standing, dressed, job_by, plan_with, CanPlan, CanPlanSet, CanPlanAll};
+ghost use Rattle.lr_plan.specs.Planned.{standing, plan_with, CanPlan, CanPlanSet, CanPlanAll};
 ghost use Rattle.lr_chain.specs.Ready.{with_dir};
-ghost use Rattle.lr_scripts.specs.Commands.{spaced, script, where_so, mail};
+ghost use Rattle.lr_scripts.specs.Commands.{spaced};
 ghost use Rattle.lr_chain.specs.Hindrances.{what_hinders, IsHindered};
 ghost use Rattle.lr_chain.specs.Prepared.{ready_of};
 
-use crate::aside::{aside_hinders, aside_of, first_path, takes_up};
-use crate::commands::{outer_scripts, own_scripts, shared_scripts};
-use crate::copying::job_of;
-use crate::directory::{empty_stand, made_dir, makes_dir};
+use crate::aside::{aside_hinders, takes_up};
+use crate::commands::{outer_scripts, shared_scripts};
+use crate::directory::{empty_stand, makes_dir};
+use crate::log_plan::add_plan;
 use lr_chain::{PrepareStop, Ready, prepare};
-use lr_copy::Job;
 use lr_due::{Due, due};
 use lr_family::Stand;
 use lr_host::Seen;
 use lr_plan::{LogLook, LogPlan, Looks, Plan, SetLooks, SetPlan};
 use lr_rules::{
-    Clock, Fault, Listed, Make, Memory, Moment, Naming, Path, Rule, Rules, Settings, aside_path,
+    Clock, Fault, Listed, Make, Memory, Moment, Path, Rule, Rules, Settings, aside_path,
 };
-use lr_scripts::{Command, mail_of, spaced, with_programs};
+use lr_scripts::spaced;
 use lr_state::State;
 use std::alloc::Global;
 
@@ -74,142 +73,6 @@ fn made_with(create: Make, seen: &Seen) -> Make
     }
 }
 
-// The rotation with the programs of its definition before each removal, of which a mail has the log's path as its subject.
-fn with_all_programs(
-    alloc: Global,
-    rule: &Rule,
-    mailer: &Path,
-    log: &Path,
-    ready: Ready,
-) -> Result<Ready, Memory>
-    ensures { IfOk result (λ full. full ≡ dressed rule.now mailer.now log.now ready) }
-{
-    let Ready {
-        leftovers,
-        dir,
-        moves,
-        log: from,
-        target,
-        make,
-        retire,
-    } = ready;
-    let leftovers = with_programs(alloc, rule, mailer, log, leftovers)?;
-    let retire = with_programs(alloc, rule, mailer, log, retire)?;
-    Ok(Ready {
-        leftovers,
-        dir,
-        moves,
-        log: from,
-        target,
-        make,
-        retire,
-    })
-}
-
-// The rotation of the file from where it stands, with the directory that it makes, if any.
-fn with_made_dir(alloc: Global, rule: &Rule, look: &LogLook, ready: Ready) -> Result<Ready, Memory>
-    requires { length look.now.path ≤ 2048 }
-    ensures { IfOk result (λ made. made ≡ with_dir (dir_of rule.now look.now)
-        (with_log (first_path rule.now.way look.now.path look.now.tmp) ready)) }
-{
-    let mut ready = ready;
-    ready.log = first_path(alloc, rule, look)?;
-    ready.dir = made_dir(alloc, rule, look)?;
-    Ok(ready)
-}
-
-// The log's path, how the members of its family are named, and what stands of it.
-fn copy_family(
-    alloc: Global,
-    look: &LogLook,
-    stand: &Stand,
-) -> Result<(Path, Naming, Stand), Memory>
-    ensures { IfOk result (λ copy. (copy.0 ≡ look.now.path) × (copy.1 ≡ look.now.family.naming) × (copy.2 ≡ stand.now)) }
-{
-    let log = look.path.copy(alloc)?;
-    let naming = look.family.naming().copy(alloc)?;
-    let stand = stand.copy(alloc)?;
-    Ok((log, naming, stand))
-}
-
-// The programs around the rotation of a log that goes to this path, and with `mailfirst` the mail of the file that was it.
-fn log_programs(
-    alloc: Global,
-    rule: &Rule,
-    mailer: &Path,
-    log: &Path,
-    target: &Path,
-) -> Result<(Option<Command>, Option<Command>, Option<Command>), Memory>
-    ensures pre { IfOk result (λ three. three.0 ≡ where_so (not rule.now.shared) (script rule.now.scripts.pre (log.now ∷ []))) }
-    ensures post { IfOk result (λ three. three.1 ≡ where_so (not rule.now.shared)
-        (script rule.now.scripts.post (log.now ∷ target.now ∷ []))) }
-    ensures first_mail { IfOk result (λ three. three.2 ≡ where_so rule.now.mailfirst
-        (mail mailer.now rule.now.mail log.now target.now)) }
-{
-    let (pre, post) = own_scripts(alloc, rule, log, target)?;
-    let first_mail = mail_of(alloc, rule.mailfirst, mailer, &rule.mail, log, target)?;
-    Ok((pre, post, first_mail))
-}
-
-// The plan of a log whose rotation is ready, where this stands of its family, and its copy, where it goes by one; with its
-// own scripts.
-fn scripted(
-    alloc: Global,
-    rule: &Rule,
-    mailer: &Path,
-    look: &LogLook,
-    stand: &Stand,
-    ready: Ready,
-    job: Option<Job>,
-    aside: Option<Path>,
-) -> Result<LogPlan, Memory>
-    requires stand { stand.now ≡ stand_for rule.now look.now }
-    requires job { job ≡ job_by rule.now.way (standing rule.now look.now) ready.target }
-    requires aside { aside ≡ aside_by rule.now.way look.now.path look.now.tmp }
-    ensures { IfOk result (λ plan. plan ≡ plan_with mailer.now rule.now (standing rule.now look.now) ready) }
-{
-    let (pre, post, first_mail) = log_programs(alloc, rule, mailer, &look.path, &ready.target)?;
-    let ready = with_all_programs(alloc, rule, mailer, &look.path, ready)?;
-    let (log, naming, stand) = copy_family(alloc, look, stand)?;
-    Ok(LogPlan {
-        log,
-        pre,
-        post,
-        first_mail,
-        ready,
-        job,
-        aside,
-        naming,
-        count: rule.count,
-        maxage: rule.maxage,
-        stand,
-    })
-}
-
-// Adds the plan of a log whose rotation is ready, but for the directory that it makes; this stands of its family then.
-fn add_plan(
-    alloc: Global,
-    rule: &Rule,
-    mailer: &Path,
-    look: &LogLook,
-    stand: &Stand,
-    ready: Ready,
-    plans: &mut Vec<LogPlan>,
-) -> Result<(), Memory>
-    requires stand { stand.now ≡ stand_for rule.now look.now }
-    requires short { length ready.target ≤ 4081 }
-    requires log { length look.now.path ≤ 2048 }
-    ensures { OnOk result (plans.new.items ≡ plans.old.items
-        ++ plan_with mailer.now rule.now (standing rule.now look.now)
-        (with_dir (dir_of rule.now look.now) (with_log (first_path rule.now.way look.now.path look.now.tmp) ready)) ∷ []) }
-{
-    let job = job_of(alloc, rule, look, stand, &ready.target)?;
-    let aside = aside_of(alloc, rule, look)?;
-    let ready = with_made_dir(alloc, rule, look, ready)?;
-    plans.push(scripted(alloc, rule, mailer, look, stand, ready, job, aside)?)?;
-    Ok(())
-}
-
 // Tells of a log that is taken up.
 fn add_unfinished(
     alloc: Global,
@@ -248,10 +111,14 @@ fn add_ready(
         ++ or_else (aside_hinders rule.now.way look.now.path look.now.tmp) (unfinished rule.now.way look.now.path look.now.tmp)) }
 {
     if aside_hinders(rule, look) {
+        drop(ready);
         faults.push(Fault::NotFile(aside_path(alloc, &look.path)?))?;
         return Ok(());
     }
-    add_unfinished(alloc, rule, look, faults)?;
+    if add_unfinished(alloc, rule, look, faults).is_err() {
+        drop(ready);
+        return Err(Memory);
+    }
     add_plan(alloc, rule, mailer, look, stand, ready, plans)
 }
 

@@ -549,10 +549,10 @@ pub fn printed_by_first<C: Caller>(
     caller: &C,
     row: &Row,
 ) -> Result<Vec<u8>, Trouble> {
+    let Some(call) = row.calls.first() else {
+        return Err(Trouble::Odd("the row has no call"));
+    };
     let numbers = first_numbers(alloc, caller, row)?;
     let mut host = host_for(alloc, row, None, false)?;
-    match row.calls.first() {
-        Some(call) => print_first(alloc, caller, &mut host, call, &numbers),
-        None => Err(Trouble::Odd("the row has no call")),
-    }
+    print_first(alloc, caller, &mut host, call, &numbers)
 }

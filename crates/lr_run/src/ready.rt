@@ -87,9 +87,18 @@ fn all_ready(
     requires { part ≡ state_part state.now }
     ensures { IfOk result (λ ready. IsRunReady state.now stale plan.now table ready progress.old progress.new) }
 {
-    let writing = prepare(alloc, state, part, stale)?;
-    let directories = directories_by(alloc, plan.sets.as_slice())?;
-    let steps = steps_ready(alloc, plan, progress)?;
+    let Ok(writing) = prepare(alloc, state, part, stale) else {
+        drop(table);
+        return Err(Memory);
+    };
+    let Ok(directories) = directories_by(alloc, plan.sets.as_slice()) else {
+        drop((writing, table));
+        return Err(Memory);
+    };
+    let Ok(steps) = steps_ready(alloc, plan, progress) else {
+        drop((directories, writing, table));
+        return Err(Memory);
+    };
     Ok(Ready {
         steps,
         directories,
