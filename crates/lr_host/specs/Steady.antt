@@ -1,10 +1,11 @@
 -- What must hold of a journal so that a set is safe in it, besides what the tool does.
-use Rattle.std.specs.Prelude.{◌≡◌, ◌≢◌, ◌++◌, All, true, Some, None, codes}
+use Rattle.std.specs.Prelude.{◌≡◌, ◌≢◌, All, true, Some, None}
 use Rattle.lr_rules.specs.declared.path.Path.{Path}
 use Rattle.lr_rules.specs.declared.rule.Way.{Way}
 use Rattle.lr_rules.specs.declared.rule.Way.TheVariants.{Rename}
 use Rattle.lr_rules.specs.Match.{WordGives, RuleGives, is_wildcard}
 use Rattle.lr_rules.specs.Names.{naming_of, IsName, Meet}
+use Rattle.lr_rules.specs.StatePath.{state_part, state_lock}
 use Rattle.lr_host.specs.declared.entry.Entry.{Entry}
 use Rattle.lr_host.specs.declared.entry.Entry.TheVariants.{Attach}
 use Rattle.lr_host.specs.World.{Past, Opens, ◌▸◌, world, names}
@@ -28,8 +29,8 @@ pub record IsSteadyAtBy (way : Way) (s : LogSet) (p : Past) : Type 0 where
       (rules_of p)
   -- the set meets no path of the state
   pub state : (x : Path) → state_of p ≡ Some x → IsName s.log s.naming x → ⊥
-  pub new_state : (x : Path) → state_of p ≡ Some x → IsName s.log s.naming (x ++ codes ".tmp") → ⊥
-  pub lock : (x : Path) → state_of p ≡ Some x → IsName s.log s.naming (x ++ codes ".lock") → ⊥
+  pub new_state : (x : Path) → state_of p ≡ Some x → IsName s.log s.naming (state_part x) → ⊥
+  pub lock : (x : Path) → state_of p ≡ Some x → IsName s.log s.naming (state_lock x) → ⊥
   -- it meets no set of another log that a rule gives and that names a file now, but for members that the run passes over
   pub apart : (x : Path) → x ≢ s.log → IsFileAt (names (world p)) x
       → All (λ r. RuleGives r x → Meet s.log s.naming x (naming_of r x) → IsPassedOver s p x) (rules_of p)

@@ -1,6 +1,7 @@
 -- What entries show of a run's looks at its state.
-use Rattle.std.specs.Prelude.{◌⊎◌, ℕ, List, [], ◌∷◌, ◌++◌, Option, None, codes}
+use Rattle.std.specs.Prelude.{◌⊎◌, ℕ, List, [], ◌∷◌, Option, None}
 use Rattle.lr_rules.specs.declared.path.Path.{Path}
+use Rattle.lr_rules.specs.StatePath.{state_part}
 use Rattle.lr_host.specs.declared.thing.Seen.{Seen}
 use Rattle.lr_host.specs.declared.entry.Entry.{Entry}
 use Rattle.lr_host.specs.declared.entry.Entry.TheVariants as entry
@@ -23,5 +24,5 @@ WasReadToEnd path ts = (place : ℕ) × IsIn (entry.Reads path place []) ts
 -- The state was seen: a look at the file that a new state is first written to answered, and nothing stood at the state's path, or
 -- what stood there was read to its end.
 pub record SawState (state : Path) (ts : List Entry) : Type 0 where
-  pub part : WasLookedAt (state ++ codes ".tmp") ts
+  pub part : WasLookedAt (state_part state) ts
   pub text : IsIn (entry.Look state None) ts ⊎ WasReadToEnd state ts

@@ -1,7 +1,8 @@
 -- What a run does to its logs: the entries of each rotation, of the others, and of the state.
-use Rattle.std.specs.Prelude.{◌≡◌, ◌≢◌, ◌⊎◌, ℕ, true, List, [], ◌∷◌, ◌++◌, codes, cond, bytes_eq, Option, Some, None}
+use Rattle.std.specs.Prelude.{◌≡◌, ◌≢◌, ◌⊎◌, ℕ, true, List, [], ◌∷◌, ◌++◌, cond, bytes_eq, Option, Some, None}
 use Rattle.std.specs.List.{flat_map}
 use Rattle.lr_rules.specs.declared.path.Path.{Path}
+use Rattle.lr_rules.specs.StatePath.{state_part}
 use Rattle.lr_host.specs.declared.entry.Entry.{Entry}
 use Rattle.lr_host.specs.declared.entry.Entry.TheVariants as entry
 use Rattle.lr_host.specs.Lists.{IsIn}
@@ -11,7 +12,7 @@ use Rattle.lr_laws_rotations.specs.Target.{Target, target_entries}
 
 -- the path is the state's, or that of its part file
 abbrev pub IsStatePath : Path → Path → Type 0
-IsStatePath state x = (x ≡ state) ⊎ (x ≡ state ++ codes ".tmp")
+IsStatePath state x = (x ≡ state) ⊎ (x ≡ state_part state)
 
 -- the entry changes such paths alone
 abbrev pub IsOfState : Path → Entry → Type 0
@@ -80,7 +81,7 @@ paths_of_others log [] = []
 paths_of_others log (t ∷ ts) = cond (bytes_eq t.log log) (paths_of_others log ts) (target_paths t ++ paths_of_others log ts)
 
 abbrev pub other_paths : Path → Path → List Target → List Path
-other_paths state log targets = state ∷ (state ++ codes ".tmp") ∷ paths_of_others log targets
+other_paths state log targets = state ∷ state_part state ∷ paths_of_others log targets
 
 -- the paths that a run changes besides the names of this log's family: those of others, and of the directory that its rotation
 -- makes
