@@ -1,5 +1,5 @@
 -- A call that no fault of its own ended put out the log's whole history.
-use Rattle.std.proofs.Common.{◌≡◌, inl, inr, ℕ, ℤ, Bool, List, [], ◌∷◌, ◌++◌, map, reverse, Option, Some, None, is_some, Result, Ok, true, refl, sym, ap, ◌∙◌, subst, append_assoc}
+use Rattle.std.proofs.Common.{◌≡◌, inl, inr, ℕ, ℤ, Bool, List, [], ◌∷◌, ◌++◌, map, reverse, Option, Some, None, is_some, Result, Ok, refl, sym, ap, ◌∙◌, subst, append_assoc}
 use Rattle.std.proofs.lemmas.List.{reverse-reverse}
 use Rattle.std.proofs.lemmas.Option.{same_Some}
 use Rattle.std.specs.Prelude.{option_to_list}
@@ -121,10 +121,6 @@ has_text files texts x is i = in_unmap (λ (t : FileText). t.path) x texts (subs
 in_listed : (x : Path) (found : Option Path) → found ≡ Some x → IsIn x (option_to_list found)
 in_listed x found is = subst (λ (o : Option Path). IsIn x (option_to_list o)) (sym is) (inl refl)
 
--- and a log that waits is told of
-waits_so : (o : Option Path) (x : Path) (how : Result Bool Fault) → how ≡ Ok (is_some o) → o ≡ Some x → how ≡ Ok true
-waits_so o x how is some = subst (λ (a : Option Path). how ≡ Ok (is_some a)) some is
-
 module _ (saw : FamilySaw) where
   abbrev members : List Path
   members = map (λ (m : Member). m.path) saw.stand.members
@@ -190,7 +186,7 @@ module _ (w : Wanted) (c : Came) (p q : Past) (es : List Entry) (journal : IsJou
     aside = λ is file. let stood = file_stood (a.mid ▸ begin) q (reverse behind) later a.second quiet (aside_path w.log) k.saw.aside k.works.first.second.front
         (subst (λ (b : Bool). Finds (aside_of b w.log) k.saw.aside k.works.first.second.front) is k.works.first.second.first) in_aside file in (
           has_text (files_of k.saw) c.texts (aside_path w.log) k.works.second.files_are (aside_file k.saw (aside_path w.log) stood),
-          waits_so k.saw.aside (aside_path w.log) c.how k.ended stood,
+          k.ended ∙ ap (λ (o : Option Path). Ok (is_some o)) stood,
         );
     log = λ file. has_text (files_of k.saw) c.texts w.log k.works.second.files_are (log_file k.saw w.log
         (file_stood (a.mid ▸ begin) q (reverse behind) later a.second quiet w.log k.saw.log k.works.first.second.back k.works.first.second.second in_log file));

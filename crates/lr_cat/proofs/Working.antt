@@ -1,5 +1,5 @@
 -- A call under the lock, part by part.
-use Rattle.std.proofs.Common.{◌≡◌, inr, ℕ, Bool, true, false, List, [], ◌∷◌, ◌++◌, reverse, Option, Some, None, Result, Ok, Err, refl, sym, ap, ◌∙◌, subst, append-nil, is_some}
+use Rattle.std.proofs.Common.{◌≡◌, inr, ℕ, Bool, true, false, List, [], ◌∷◌, ◌++◌, reverse, Option, Some, None, Result, Ok, Err, refl, sym, ap, ◌∙◌, subst, append-nil}
 use Rattle.std.specs.Prelude.{IfErr}
 use Rattle.lr_rules.specs.declared.path.Path.{Path}
 use Rattle.lr_rules.specs.declared.clock.Clock.{Clock}
@@ -55,14 +55,10 @@ sights_not n log (stop.Fault f) o m l = left_as l (λ ts s. none_sights n log f 
 sights_not n log stop.Held o m l = absurd l
 sights_not n log stop.Memory o m l = l
 
--- it ended so, by an equal word of a log that waits
-ended_as : (how : Result Bool Fault) (a b : Bool) → how ≡ Ok a → a ≡ b → how ≡ Ok b
-ended_as how a b is same = subst (λ (c : Bool). how ≡ Ok c) same is
-
 pub put_all : (n : Naming) (log : Path) (files : List Path) (waits : Bool) {o m k : Option Journal} {x y : Option (List ℕ)} → SeesAll n log files waits o m → PassesTexts (ReadsAllOf (reverse files)) None m k x y → PassesTexts (Works n log (Ok waits)) None o k x y
 put_all n log files waits s p = record {
   texts = p.texts;
-  left = left_then s.shows p.left (λ ts us a r. read_all s.saw (ended_as (Ok waits) waits (is_some s.saw.aside) refl s.waits_is) (record { front = ts; back = us; joined = refl; first = a; second = subst (λ (fs : List Path). ReadsAllOf fs p.texts us) s.files_are r }));
+  left = left_then s.shows p.left (λ ts us a r. read_all s.saw (ap Ok s.waits_is) (record { front = ts; back = us; joined = refl; first = a; second = subst (λ (fs : List Path). ReadsAllOf fs p.texts us) s.files_are r }));
   took = p.took;
 }
 

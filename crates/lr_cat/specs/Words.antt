@@ -7,12 +7,12 @@ use Rattle.lr_command.specs.Words.{has_state, is_name, state_by}
 use Rattle.lr_cat.specs.declared.words.Wanted.{Wanted}
 
 -- what a log's path may be: at most 2,048 bytes, and a last part of 1 to 255
-abbrev pub can_be_log : List ℕ → Bool
-can_be_log path = nat_le (length path) 2048 && (nat_le 1 (length (last_of path)) && nat_le (length (last_of path)) 255)
+abbrev pub has_log_lengths : List ℕ → Bool
+has_log_lengths path = nat_le (length path) 2048 && (nat_le 1 (length (last_of path)) && nat_le (length (last_of path)) 255)
 
 -- LOG names a path that a log may have
 abbrev pub has_log : Path → List ℕ → Bool
-has_log here log = is_name here log && can_be_log (cleaned here log)
+has_log here log = is_name here log && has_log_lengths (cleaned here log)
 
 -- what is wanted, where each path can be what it is wanted as
 abbrev pub wanted_by : Path → Option (List ℕ) → List ℕ → List ℕ → Option Wanted

@@ -11,7 +11,7 @@ ghost use Rattle.lr_cat.specs.Cats.{Cats, StopsSo};
 ghost use Rattle.lr_cat.specs.Internal.{CameSo, IsNoClock, answer_by};
 ghost use Rattle.lr_cat.specs.Says.{HasCounted, HasFault};
 ghost use Rattle.lr_cat.specs.Stops.{CameTo, StopCause};
-ghost use Rattle.lr_cat.specs.Words.{can_be_log};
+ghost use Rattle.lr_cat.specs.Words.{has_log_lengths};
 
 use crate::calls::no_call_failed;
 use crate::gives::family_in;
@@ -39,7 +39,7 @@ fn put_log<H: Host, K: Sink>(
     out: &mut K,
 ) -> Result<bool, CatStop>
     requires format { or_none is_format family.now.naming.dated ≡ true }
-    requires log { can_be_log wanted.now.log ≡ true }
+    requires log { has_log_lengths wanted.now.log ≡ true }
     ensures came { CameTo (λ how texts ts. Cats wanted.now clock.entry.now rules.now family.now.naming how texts ts) result
         (H.told host.old) (H.told host.new) (K.taken out.old) (K.taken out.new) }
     ensures stopped { IfErr result (λ why. Left (StopsSo wanted.now clock.entry.now rules.now why) (H.told host.old)
@@ -100,7 +100,7 @@ fn call_log<H: Host, K: Sink>(
     out: &mut K,
 ) -> CatOutcome
     requires format { or_none is_format family.now.naming.dated ≡ true }
-    requires log { can_be_log wanted.now.log ≡ true }
+    requires log { has_log_lengths wanted.now.log ≡ true }
     requires whole { calls_in faults ≡ 0 }
     requires only { All IsConfOrCall faults }
     ensures told { CameSo (LogEnds wanted.now clock.entry.now
@@ -130,7 +130,7 @@ fn call_rules<H: Host, K: Sink>(
     reading: Reading,
     out: &mut K,
 ) -> CatOutcome
-    requires log { can_be_log wanted.now.log ≡ true }
+    requires log { has_log_lengths wanted.now.log ≡ true }
     requires whole { calls_in reading.faults ≡ 0 }
     requires only { All IsConfOrCall reading.faults }
     ensures told { CameSo (RulesEnd wanted.now clock.entry.now (meaning_of reading) reading.rules result) (H.told host.old)
@@ -176,7 +176,7 @@ fn call_confs<H: Host, K: Sink>(
     clock: &Clock,
     out: &mut K,
 ) -> CatOutcome
-    requires log { can_be_log wanted.now.log ≡ true }
+    requires log { has_log_lengths wanted.now.log ≡ true }
     ensures told { CameSo (ConfsEnd wanted.now clock.entry.now result) (H.told host.old) (H.told host.new) (K.taken out.old)
         (K.taken out.new) }
     ensures counted { HasCounted result (H.counts host.old) (H.counts host.new) }
@@ -228,7 +228,7 @@ pub fn call_at<H: Host, K: Sink>(
     seconds: i64,
     out: &mut K,
 ) -> CatOutcome
-    requires log { can_be_log wanted.now.log ≡ true }
+    requires log { has_log_lengths wanted.now.log ≡ true }
     ensures told { CameSo (CatEnds wanted.now seconds result) (H.told host.old) (H.told host.new) (K.taken out.old)
         (K.taken out.new) }
     ensures counted { HasCounted result (H.counts host.old) (H.counts host.new) }

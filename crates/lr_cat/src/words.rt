@@ -2,7 +2,7 @@
 ghost use Rattle.std.specs.Prelude.{◌≡◌, ◌∷◌, [], true, false, IfOk, Some, None, option_map};
 ghost use Rattle.lr_rules.specs.Path.{cleaned};
 ghost use Rattle.lr_command.specs.Words.{is_name};
-ghost use Rattle.lr_cat.specs.Words.{can_be_log, has_log, wanted, wanted_by};
+ghost use Rattle.lr_cat.specs.Words.{has_log_lengths, has_log, wanted, wanted_by};
 
 use lr_command::{WordsFault, name_of, state_of};
 use lr_rules::{Listed, Path, Text};
@@ -32,8 +32,8 @@ fn confs_of(alloc: Global, here: &Path, word: &Text) -> Result<Listed<Path>, Wor
     }
 }
 
-fn can_be_log(path: &Path) -> bool
-    ensures { result ≡ can_be_log path.now }
+fn has_log_lengths(path: &Path) -> bool
+    ensures { result ≡ has_log_lengths path.now }
 {
     let last = path.last().len();
     path.bytes().len() <= 2048 && (1 <= last && last <= 255)
@@ -42,11 +42,11 @@ fn can_be_log(path: &Path) -> bool
 fn log_of(alloc: Global, here: &Path, word: &Text) -> Result<Path, WordsFault>
     ensures path { IfOk result (λ path. path ≡ cleaned here.now word.now) }
     ensures has_log { IfOk result (λ path. has_log here.now word.now ≡ true) }
-    ensures can_be_log { IfOk result (λ path. can_be_log path ≡ true) }
+    ensures has_log_lengths { IfOk result (λ path. has_log_lengths path ≡ true) }
     ensures refused { result ≡ Err WordsFault.Refused → has_log here.now word.now ≡ false }
 {
     let path = name_of(alloc, here, word)?;
-    if can_be_log(&path) {
+    if has_log_lengths(&path) {
         Ok(path)
     } else {
         Err(WordsFault::Refused)
@@ -61,7 +61,7 @@ fn wanted_by(
     log: &Text,
 ) -> Result<Wanted, WordsFault>
     ensures wanted { IfOk result (λ w. wanted_by here.now (option_map (λ s. s.now) file.entry) conf.now log.now ≡ Some w) }
-    ensures log { IfOk result (λ w. can_be_log w.log ≡ true) }
+    ensures log { IfOk result (λ w. has_log_lengths w.log ≡ true) }
     ensures refused { result ≡ Err WordsFault.Refused → wanted_by here.now (option_map (λ s. s.now) file.entry) conf.now log.now
         ≡ None }
 {
@@ -74,7 +74,7 @@ fn wanted_by(
 /// What the words want, where a relative path stands behind `here`.
 pub fn wanted_of(alloc: Global, words: &[Text], here: &Path) -> Result<Wanted, WordsFault>
     ensures wanted { IfOk result (λ w. wanted here.now words.now ≡ Some w) }
-    ensures log { IfOk result (λ w. can_be_log w.log ≡ true) }
+    ensures log { IfOk result (λ w. has_log_lengths w.log ≡ true) }
     ensures refused { result ≡ Err WordsFault.Refused → wanted here.now words.now ≡ None }
 {
     match words {
