@@ -6,10 +6,10 @@ ghost use Rattle.lr_host.specs.Told.{Left};
 ghost use Rattle.lr_plan.specs.Planned.{CanPlanAll};
 ghost use Rattle.lr_audit.specs.Audits.{AddsSaw, Audits};
 
-use crate::dirs::{dirs_of, put_in_order};
+use crate::dirs::dirs_of;
 use crate::files::add_files;
 use lr_audited::{Audit, audit_by};
-use lr_host::Host;
+use lr_host::{Host, put_in_order};
 use lr_plan::Looks;
 use lr_rules::{Clock, Fault, Memory, Path, Rules, Settings};
 use std::alloc::Global;

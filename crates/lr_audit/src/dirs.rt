@@ -1,30 +1,13 @@
 // The directories of logs and of their families.
-ghost use Rattle.std.specs.Prelude.{◌≡◌, ◌++◌, bytes_eq, map, IfOk, OnOk};
-ghost use Rattle.std.specs.Ordering.{nat_cmp};
-ghost use Rattle.std.specs.Cmp.Lexicographic.{slice_cmp};
+ghost use Rattle.std.specs.Prelude.{◌≡◌, ◌++◌, map, IfOk, OnOk};
 ghost use Rattle.std.specs.List.{flat_map};
-ghost use Rattle.std.specs.List.Sorted.{IsPermutation, IsSortedByKey};
 ghost use Rattle.lr_rules.specs.Path.{parent_of};
 ghost use Rattle.lr_audit.specs.Dirs.{look_dir, set_dirs, asked_dirs, AreDirs};
 
+use lr_host::{leave_once, put_in_order};
 use lr_plan::{LogLook, Looks, SetLooks};
 use lr_rules::{Memory, Path};
 use std::alloc::Global;
-use std::cmp::Ordering;
-
-fn by_bytes(a: &Path, b: &Path) -> Ordering
-    ensures { result ≡ slice_cmp nat_cmp a.now b.now }
-{
-    a.bytes().cmp(b.bytes())
-}
-
-/// Puts the paths in order of bytes.
-pub fn put_in_order(paths: &mut Vec<Path>)
-    ensures same { IsPermutation paths.old.items paths.new.items }
-    ensures rising { IsSortedByKey (λ path. path) (slice_cmp nat_cmp) paths.new.items }
-{
-    paths.sort_unstable_by(|a, b| by_bytes(a, b));
-}
 
 // Adds the directories of these logs.
 fn add_parents(alloc: Global, dirs: &mut Vec<Path>, logs: &[Path]) -> Result<(), Memory>
@@ -64,18 +47,12 @@ fn add_sets_dirs(alloc: Global, dirs: &mut Vec<Path>, sets: &[SetLooks]) -> Resu
     Ok(())
 }
 
-fn are_same(a: &Path, b: &Path) -> bool
-    ensures { result ≡ bytes_eq a.now b.now }
-{
-    a.bytes() == b.bytes()
-}
-
 // The same, each once.
 fn each_once(dirs: &mut Vec<Path>)
     ensures { AreDirs dirs.old.items dirs.new.items }
 {
     put_in_order(dirs);
-    dirs.dedup_by(|a, b| are_same(a, b));
+    leave_once(dirs);
 }
 
 /// The directories of the logs that are kept, and of their families that were seen: each once, in order of bytes.

@@ -1,5 +1,5 @@
 // The part files of members.
-ghost use Rattle.std.specs.Prelude.{◌≡◌, ◌++◌, ◌↔◌, bytes_eq, true, IfOk, IfErr, OnOk};
+ghost use Rattle.std.specs.Prelude.{◌≡◌, ◌++◌, ◌↔◌, true, IfOk, IfErr, OnOk};
 ghost use Rattle.lr_rules.specs.Limits.{is_format, or_none};
 ghost use Rattle.lr_rules.specs.Path.{joined};
 ghost use Rattle.lr_host.specs.Listing.{NamesRise};
@@ -11,7 +11,7 @@ ghost use Rattle.lr_family.specs.Stands.{IsFailedStand};
 use crate::name::{path_in, place_in};
 use crate::prefix::names_with;
 use crate::stand::StandStop;
-use lr_host::{Host, Kind, Seen};
+use lr_host::{Host, Kind, Seen, leave_once};
 use lr_rules::{CallKind, Listed, Memory, Naming, Path, Text};
 use std::alloc::Global;
 
@@ -75,18 +75,12 @@ fn parts_with(alloc: Global, naming: &Naming, names: &[Text]) -> Result<Vec<Path
     parts_in(alloc, naming, names_with(names, naming.base.bytes()))
 }
 
-fn are_same(a: &Path, b: &Path) -> bool
-    ensures { result ≡ bytes_eq a.now b.now }
-{
-    a.bytes() == b.bytes()
-}
-
 // The same part files, each once.
 fn each_once(naming: &Naming, names: &[Text], paths: &mut Vec<Path>)
     requires { HasParts naming.now names.now paths.old.items }
     ensures { AreParts naming.now names.now paths.new.items }
 {
-    paths.dedup_by(|a, b| are_same(a, b));
+    leave_once(paths);
 }
 
 // Adds the part file, where the look saw a regular file: whatever else has its path is none.

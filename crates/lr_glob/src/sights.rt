@@ -1,10 +1,8 @@
 // The looks at the paths that a wildcard may give.
 ghost use Rattle.std.specs.Prelude.{◌≡◌, [], ◌∷◌, ◌++◌, OnOk, IfOk, IfErr, filter};
-ghost use Rattle.std.specs.Ordering.{nat_cmp};
-ghost use Rattle.std.specs.Cmp.Lexicographic.{slice_cmp};
 ghost use Rattle.lr_host.specs.Looks.{Sees};
 ghost use Rattle.lr_host.specs.Told.{Left, Onward, Rose};
-ghost use Rattle.lr_glob.specs.Sights.{InOrder, is_whole, file_at, LookedAt, LooksBroken};
+ghost use Rattle.lr_glob.specs.Sights.{is_whole, file_at, LookedAt, LooksBroken};
 ghost use Rattle.lr_glob.specs.Stops.{IsFailedGlob};
 
 use crate::found::{Found, GlobStop};
@@ -12,7 +10,6 @@ use lr_host::{Host, Kind, Seen};
 use lr_rules::{CallKind, Memory, Path};
 use lr_words::has_part_end;
 use std::alloc::Global;
-use std::cmp::Ordering;
 
 /// The paths but for copies that aren't whole yet.
 pub fn whole_ones(alloc: Global, paths: Vec<Path>) -> Result<Vec<Path>, Memory>
@@ -25,19 +22,6 @@ pub fn whole_ones(alloc: Global, paths: Vec<Path>) -> Result<Vec<Path>, Memory>
         }
     }
     Ok(whole)
-}
-
-fn by_bytes(a: &Path, b: &Path) -> Ordering
-    ensures { result ≡ slice_cmp nat_cmp a.now b.now }
-{
-    a.bytes().cmp(b.bytes())
-}
-
-/// Puts the paths in order of bytes.
-pub fn put_in_order(paths: &mut Vec<Path>)
-    ensures { InOrder paths.old.items paths.new.items }
-{
-    paths.sort_unstable_by(|a, b| by_bytes(a, b));
 }
 
 fn add_seen(found: &mut Vec<Found>, path: Path, seen: Seen) -> Result<(), Memory>

@@ -14,8 +14,8 @@ ghost use Rattle.lr_glob.specs.Words.{WordGave, Halted, Comes, Stopped, NotSough
 use crate::found::{Found, GlobStop};
 use crate::lead::{lead, parts_of};
 use crate::picking::passed_over;
-use crate::sights::{look_at_each, put_in_order, whole_ones};
-use lr_host::{Host, Seen};
+use crate::sights::{look_at_each, whole_ones};
+use lr_host::{Host, Seen, put_in_order};
 use lr_rules::{CallKind, Memory, Path, PathFault, Text, is_absolute};
 use lr_words::{is_wildcard, literal};
 use std::alloc::Global;
