@@ -9,18 +9,8 @@ ghost use Rattle.std.specs.List.{slice_split};
 use crate::found::GlobStop;
 use crate::round::follow;
 use lr_host::Host;
-use lr_rules::{Memory, Path, Text};
+use lr_rules::{Memory, Path, Text, push_text};
 use std::alloc::Global;
-
-fn push_text(alloc: Global, into: &mut Vec<Text>, part: &[u8]) -> Result<(), Memory>
-    ensures { OnOk result (into.new.items ≡ into.old.items ++ part.now ∷ []) }
-{
-    match Text::new(alloc, part) {
-        Ok(text) => Ok(into.push(text)?),
-        // What stands between slashes of a text is a text, so this is want of memory.
-        Err(_) => Err(Memory),
-    }
-}
 
 /// What stands behind the slashes of an absolute word.
 pub fn parts_of(alloc: Global, behind: &[u8]) -> Result<Vec<Text>, Memory>
@@ -28,6 +18,7 @@ pub fn parts_of(alloc: Global, behind: &[u8]) -> Result<Vec<Text>, Memory>
 {
     let mut parts = Vec::new(alloc);
     for part in behind.split(|b| *b == b'/') {
+        // What stands between slashes of a text is a text.
         push_text(alloc, &mut parts, part)?;
     }
     Ok(parts)

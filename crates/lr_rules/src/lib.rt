@@ -45,4 +45,4 @@ pub use rules::Rules;
 pub use settings::Settings;
 pub use stamp_parts::StampParts;
 pub use steps::Steps;
-pub use text::{Text, TextFault, is_utf8, text_of};
+pub use text::{Text, TextFault, is_utf8, push_text, text_of};

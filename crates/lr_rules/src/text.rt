@@ -1,5 +1,5 @@
 // A text is bytes that are UTF-8.
-ghost use Rattle.std.specs.Prelude.{◌≡◌, ◌↔◌, List, ℕ, IfOk, IsErrOf, IsUtf8};
+ghost use Rattle.std.specs.Prelude.{◌≡◌, ◌↔◌, [], ◌∷◌, ◌++◌, List, ℕ, IfOk, OnOk, IsErrOf, IsUtf8};
 ghost use Rattle.std.specs.Str.{is_utf8};
 
 use crate::memory::Memory;
@@ -80,4 +80,12 @@ pub fn text_of(alloc: Global, bytes: &[u8]) -> Result<Text, Memory>
         Ok(text) => Ok(text),
         Err(_) => Err(Memory),
     }
+}
+
+/// Adds the text of such bytes.
+pub fn push_text(alloc: Global, into: &mut Vec<Text>, bytes: &[u8]) -> Result<(), Memory>
+    ensures { OnOk result (into.new.items ≡ into.old.items ++ bytes.now ∷ []) }
+{
+    into.push(text_of(alloc, bytes)?)?;
+    Ok(())
 }

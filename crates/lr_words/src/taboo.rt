@@ -2,7 +2,7 @@
 ghost use Rattle.std.specs.Prelude.{◌≡◌, ◌∷◌, ◌++◌, [], true, OnOk, IfOk, filter, flat_map};
 ghost use Rattle.lr_words.specs.Lists.{is_item, items_in, begins_with_plus, without_first_byte, items_said, of_items, taboo_value};
 
-use lr_rules::{ConfKind, Listed, Memory, Text, text_of};
+use lr_rules::{ConfKind, Listed, Memory, Text, push_text, text_of};
 use std::alloc::Global;
 
 /// What a `tabooext` or a `taboopat` lists: one item at least, and whether the items are added to those before.
@@ -10,13 +10,6 @@ use std::alloc::Global;
 pub struct TabooItems {
     pub items: Listed<Text>,
     pub adding: bool,
-}
-
-fn push_text(alloc: Global, into: &mut Vec<Text>, part: &[u8]) -> Result<(), Memory>
-    ensures { OnOk result (into.new.items ≡ into.old.items ++ part.now ∷ []) }
-{
-    into.push(text_of(alloc, part)?)?;
-    Ok(())
 }
 
 fn add_part(alloc: Global, into: &mut Vec<Text>, part: &[u8]) -> Result<(), Memory>
