@@ -21,7 +21,7 @@ pub fn add_fault(progress: &mut Progress, fault: Fault)
     ensures marks { progress.new.marks.items ≡ progress.old.marks.items ++ [] }
     ensures fills { FillsRoom 1 progress.old progress.new }
 {
-    let _ = progress.faults.push(fault);
+    progress.faults.push_reserved(fault);
 }
 
 /// Adds a mark for which there is room.
@@ -31,5 +31,5 @@ pub fn add_mark(progress: &mut Progress, mark: Mark)
     ensures faults { progress.new.faults.items ≡ progress.old.faults.items ++ [] }
     ensures fills { FillsRoom 1 progress.old progress.new }
 {
-    let _ = progress.marks.push(mark);
+    progress.marks.push_reserved(mark);
 }

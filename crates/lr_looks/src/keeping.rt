@@ -141,11 +141,12 @@ fn add_left(left: &mut Vec<Found>, item: Found) -> Result<(), Memory>
     Ok(())
 }
 
-fn add_wrong_kind(alloc: Global, faults: &mut Vec<Fault>, item: &Found) -> Result<(), Memory>
-    ensures { OnOk result (faults.new.items ≡ faults.old.items ++ fault.NotFile item.now.family.log ∷ []) }
+fn add_wrong_kind(alloc: Global, faults: &mut Vec<Fault>, item: Found) -> Result<(), Memory>
+    ensures { OnOk result (faults.new.items ≡ faults.old.items ++ fault.NotFile item.family.log ∷ []) }
 {
-    let path = item.family.log().copy(alloc)?;
-    faults.push(Fault::NotFile(path))?;
+    let path = item.family.log().copy(alloc);
+    drop(item);
+    faults.push(Fault::NotFile(path?))?;
     Ok(())
 }
 
@@ -161,8 +162,8 @@ fn add_kept(
 {
     match item.seen.kind {
         Kind::File => add_left(left, item),
-        Kind::Dir => add_wrong_kind(alloc, faults, &item),
-        Kind::Other => add_wrong_kind(alloc, faults, &item),
+        Kind::Dir => add_wrong_kind(alloc, faults, item),
+        Kind::Other => add_wrong_kind(alloc, faults, item),
     }
 }
 
@@ -179,10 +180,10 @@ fn add_item(
 {
     match choice {
         Choice::Kept => add_kept(alloc, left, faults, item),
-        Choice::Again(_) => Ok(()),
-        Choice::MemberOf(_) => Ok(()),
-        Choice::Reserved(_) => Ok(()),
-        Choice::Meets(_) => Ok(()),
+        Choice::Again(_) => Ok(drop(item)),
+        Choice::MemberOf(_) => Ok(drop(item)),
+        Choice::Reserved(_) => Ok(drop(item)),
+        Choice::Meets(_) => Ok(drop(item)),
     }
 }
 
