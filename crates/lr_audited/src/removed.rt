@@ -207,8 +207,8 @@ fn bounds_of(clock: &Clock, log: &LogPlan) -> Bounds
     }
 }
 
-#[tactic(auto, using(crate::proofs::Going::stamp_is))]
 // The stamp and the serial number of the log's new name.
+#[tactic(auto, using(crate::proofs::Going::stamp_is))]
 fn stamp_of(clock: &Clock, log: &LogPlan) -> (i64, u32)
     requires stamped { IsStamped clock.now log.now }
     requires dated { IsSome log.now.naming.dated }

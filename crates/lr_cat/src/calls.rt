@@ -13,8 +13,8 @@ fn is_call(fault: &Fault) -> bool
     }
 }
 
-#[tactic(auto, using(crate::proofs::FailedCalls::so_far, crate::proofs::FailedCalls::has_call, crate::proofs::FailedCalls::at_end))]
 /// Whether no fault tells of a call that failed.
+#[tactic(auto, using(crate::proofs::FailedCalls::so_far, crate::proofs::FailedCalls::has_call, crate::proofs::FailedCalls::at_end))]
 pub fn no_call_failed(faults: &[Fault]) -> bool
     ensures { (result ≡ true) ↔ (calls_in faults.now ≡ 0) }
 {

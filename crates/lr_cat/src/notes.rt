@@ -30,8 +30,8 @@ fn put_waits<N: Sink>(log: &Path, waits: bool, notes: &mut N) -> Result<(), Sink
     )
 }
 
-#[tactic(auto, using(lr_report::proofs::PutLemmas::part_first))]
 // Puts the lines of the report, and behind them that of a log that waits.
+#[tactic(auto, using(lr_report::proofs::PutLemmas::part_first))]
 fn put_done<N: Sink>(
     report: &Report,
     waits: bool,

@@ -33,8 +33,8 @@ fn report_of(notices: Listed<Notice>, faults: Vec<Fault>) -> Outcome
     })
 }
 
-#[tactic(auto, using(crate::proofs::OutAside::last_goes, crate::proofs::OutAside::has_out))]
 // The report with `Out` behind these faults, for which there is room.
+#[tactic(auto, using(crate::proofs::OutAside::last_goes, crate::proofs::OutAside::has_out))]
 fn report_with_out(notices: Listed<Notice>, faults: Vec<Fault>) -> Outcome
     requires room { vec_len faults < vec_capacity faults }
     ensures faults { without_out result ≡ Outcome.Done (record { notices = notices; faults = faults.items }) }

@@ -37,8 +37,8 @@ pub enum ZoneFileStop {
     Memory,
 }
 
-#[tactic(auto, using(lr_host::proofs::Looking::sees, lr_host::proofs::Known::seen_can_read))]
 // Whether a regular file stands at the path. Links are followed.
+#[tactic(auto, using(lr_host::proofs::Looking::sees, lr_host::proofs::Known::seen_can_read))]
 fn is_file<H: Host>(host: &mut H, path: &Path) -> Result<bool, CallFault>
     ensures file { result ≡ Ok true → Left (Sees path.now IsFile) (H.told host.old) (H.told host.new) }
     ensures there { result ≡ Ok true → Can (H.told host.new) (entry.Reads path.now 0 []) }
@@ -60,8 +60,8 @@ fn is_file<H: Host>(host: &mut H, path: &Path) -> Result<bool, CallFault>
     }
 }
 
-#[tactic(auto, using(crate::proofs::Zoned::gives, crate::proofs::Zoned::read_too_big))]
 // All bytes of the file.
+#[tactic(auto, using(crate::proofs::Zoned::gives, crate::proofs::Zoned::read_too_big))]
 fn bytes_of<H: Host>(alloc: Global, host: &mut H, path: &Path) -> Result<Listed<u8>, ZoneFileStop>
     requires file { Can (H.told host.old) (entry.Reads path.now 0 []) }
     ensures told { IfOk result (λ bytes. Left (GivesBytes path.now bytes) (H.told host.old) (H.told host.new)) }
@@ -83,8 +83,8 @@ fn bytes_of<H: Host>(alloc: Global, host: &mut H, path: &Path) -> Result<Listed<
     }
 }
 
-#[tactic(auto, using(crate::proofs::Zoned::shows, crate::proofs::Zoned::stops))]
 // The text of the zone of a file.
+#[tactic(auto, using(crate::proofs::Zoned::shows, crate::proofs::Zoned::stops))]
 fn text_of_file<H: Host>(alloc: Global, host: &mut H, path: &Path) -> Result<ZoneText, ZoneFileStop>
     ensures told { IfOk result (λ t. Left (ShowsZone (asked.File path.now) t) (H.told host.old) (H.told host.new)) }
     ensures bytes { IfOk result (λ t. IsZoneText (asked.File path.now) t) }

@@ -94,8 +94,8 @@ fn request_with(
     })
 }
 
-#[tactic(auto, using(crate::proofs::Asked::asks, crate::proofs::Asked::asks_none, crate::proofs::Asked::asks_no_path))]
 // The request of what was found.
+#[tactic(auto, using(crate::proofs::Asked::asks, crate::proofs::Asked::asks_none, crate::proofs::Asked::asks_no_path))]
 fn request_of_found(
     alloc: Global,
     here: &Path,
@@ -108,8 +108,8 @@ fn request_of_found(
     request_with(alloc, here, found, state)
 }
 
-#[tactic(auto, unfolding(crate::specs::Words::asked))]
 /// The request that the words ask for, where a relative path stands behind `here`.
+#[tactic(auto, unfolding(crate::specs::Words::asked))]
 pub fn request_of(alloc: Global, words: &[Text], here: &Path) -> Result<Request, WordsFault>
     ensures request { IfOk result (λ request. asked here.now words.now ≡ Some request) }
     ensures refused { result ≡ Err WordsFault.Refused → asked here.now words.now ≡ None }

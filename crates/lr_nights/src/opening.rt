@@ -94,8 +94,8 @@ fn named(alloc: Global, path: &[u8], identity: u64) -> Result<(Path, u64), Memor
     Ok((path_of(alloc, path)?, identity))
 }
 
-#[tactic(auto, using(std::proofs::lemmas::List::append_assoc))]
 // The names: those of the logs, of the configuration and of the state.
+#[tactic(auto, using(std::proofs::lemmas::List::append_assoc))]
 fn names(alloc: Global, logs: u32) -> Result<Vec<(Path, u64)>, Memory>
     ensures { IfOk result (λ names. names.items ≡ (trial_opening logs).names) }
 {

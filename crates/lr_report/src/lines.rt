@@ -177,9 +177,9 @@ fn put_faults<K: Sink>(faults: &[Fault], out: &mut K) -> Result<(), SinkFault>
     Ok(())
 }
 
-#[tactic(auto, using(crate::proofs::PutLemmas::part_first))]
 /// Puts the lines of the notices, then of the faults, each in order; of an output that fails, a first part of them came.
 /// It takes no memory.
+#[tactic(auto, using(crate::proofs::PutLemmas::part_first))]
 pub fn put_lines<K: Sink>(
     notices: &[Notice],
     faults: &[Fault],

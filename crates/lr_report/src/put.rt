@@ -6,8 +6,8 @@ ghost use Rattle.lr_report.specs.Puts.{Took, TookPart};
 
 use lr_host::{Sink, SinkFault};
 
-#[tactic(auto, using(crate::proofs::PutLemmas::took_none, crate::proofs::PutLemmas::part_whole))]
 /// Puts all of a text.
+#[tactic(auto, using(crate::proofs::PutLemmas::took_none, crate::proofs::PutLemmas::part_whole))]
 pub fn put_one<K: Sink>(out: &mut K, text: &[u8]) -> Result<(), SinkFault>
     ensures whole { OnOk result (Took text.now (K.taken out.old) (K.taken out.new)) }
     ensures part { TookPart text.now (K.taken out.old) (K.taken out.new) }
