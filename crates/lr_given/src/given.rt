@@ -8,7 +8,7 @@ use std::env;
 use std::time::{SystemTime, UNIX_EPOCH};
 
 /// The text of these bytes.
-pub fn text_of(alloc: Global, bytes: &[u8]) -> Result<Text, GivenStop>
+pub fn given_text(alloc: Global, bytes: &[u8]) -> Result<Text, GivenStop>
     ensures { IfOk result (λ text. text ≡ bytes.now) }
 {
     match Text::new(alloc, bytes) {
@@ -44,7 +44,7 @@ pub fn words_given(rt: &HostRuntime, alloc: Global) -> Result<Vec<Text>, GivenSt
 }
 
 fn add_word(alloc: Global, words: &mut Vec<Text>, arg: &[u8]) -> Result<(), GivenStop> {
-    let word = text_of(alloc, arg)?;
+    let word = given_text(alloc, arg)?;
     match words.push(word) {
         Ok(()) => Ok(()),
         Err(_) => Err(GivenStop::Memory),

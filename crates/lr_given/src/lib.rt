@@ -17,6 +17,6 @@ mod stop;
 mod zone;
 
 pub use asked::{Asked, asked_of};
-pub use given::{here_given, is_alone, path_of, seconds, text_of, words_given};
+pub use given::{given_text, here_given, is_alone, path_of, seconds, words_given};
 pub use said::put_version;
 pub use stop::{GivenStop, outcome_of};

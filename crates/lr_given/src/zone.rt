@@ -1,5 +1,5 @@
 // The zone of a call, as the machine gives it: the variable TZ, the files of zones by their names, and the machine's own zone.
-use crate::given::text_of;
+use crate::given::given_text;
 use crate::stop::GivenStop;
 use lr_due::{Zone, zone_of};
 use lr_rules::{Path, PathFault, Text};
@@ -20,7 +20,7 @@ fn is_file(rt: &HostRuntime, path: &str) -> bool {
 // The machine's own zone, where it has one.
 fn local_zone(rt: &HostRuntime, alloc: Global) -> Result<Option<Text>, GivenStop> {
     if is_file(rt, LOCAL) {
-        Ok(Some(text_of(alloc, LOCAL.as_bytes())?))
+        Ok(Some(given_text(alloc, LOCAL.as_bytes())?))
     } else {
         Ok(None)
     }
@@ -37,7 +37,7 @@ fn named_zone(rt: &HostRuntime, alloc: Global, name: &str) -> Result<Option<Text
         return Err(GivenStop::Memory);
     };
     match Path::new(alloc, path.as_bytes()) {
-        Ok(path) if is_file(rt, path.as_str()) => Ok(Some(text_of(alloc, path.bytes())?)),
+        Ok(path) if is_file(rt, path.as_str()) => Ok(Some(given_text(alloc, path.bytes())?)),
         Err(PathFault::Memory) => Err(GivenStop::Memory),
         _ => Ok(None),
     }
@@ -48,11 +48,11 @@ fn named_zone(rt: &HostRuntime, alloc: Global, name: &str) -> Result<Option<Text
 fn zone_asked(rt: &HostRuntime, alloc: Global, value: &str) -> Result<Text, GivenStop> {
     let name = value.strip_prefix(':').unwrap_or(value);
     if name == "UTC" || !is_name(name) {
-        return text_of(alloc, value.as_bytes());
+        return given_text(alloc, value.as_bytes());
     }
     match named_zone(rt, alloc, name)? {
         Some(path) => Ok(path),
-        None => text_of(alloc, value.as_bytes()),
+        None => given_text(alloc, value.as_bytes()),
     }
 }
 

@@ -31,7 +31,7 @@ use Rattle.lr_plan.specs.Course.{Course}
 use Rattle.lr_plan.specs.Done.{ActsDone, rotated_logs}
 use Rattle.lr_plan.specs.Steps.{steps_of_plan}
 use Rattle.lr_state.specs.After.{after}
-use Rattle.lr_state.specs.Written.{text_of}
+use Rattle.lr_state.specs.Written.{table_text}
 use Rattle.lr_laws_family.proofs.Weaving.{each_in}
 use Rattle.lr_laws_acts.proofs.ActsWhole.{nil_split}
 use Rattle.lr_writing.specs.Directories.{AreDirectoriesOf}
@@ -108,8 +108,8 @@ module _ (state : Path) (asked : Asked) (clock : Clock) (rules : Rules) (w : Wor
   text = text_by w.saw clock (rotated_logs w.acts.marks)
 
   -- by what the looks show of the logs that were kept
-  text_is : text ≡ text_of (after w.saw.table (rotated_logs w.acts.marks) (paths_of shows.seen.sets.shown.kept) clock.now.civil)
-  text_is = ap (λ (fs : List FoundLog). text_of (after w.saw.table (rotated_logs w.acts.marks) (paths_of fs) clock.now.civil)) shows.seen.sets.kept_are
+  text_is : text ≡ table_text (after w.saw.table (rotated_logs w.acts.marks) (paths_of shows.seen.sets.shown.kept) clock.now.civil)
+  text_is = ap (λ (fs : List FoundLog). table_text (after w.saw.table (rotated_logs w.acts.marks) (paths_of fs) clock.now.civil)) shows.seen.sets.kept_are
 
   front_quiet : AreQuiet (reads ++ w.dir)
   front_quiet = quiet_both reads w.dir (sights_quiet reads sights) (sees_quiet (parent_of state) IsDir w.dir saw_dir)

@@ -4,7 +4,7 @@ ghost use Rattle.lr_lex.specs.Scanning.{draft_bytes, behind_sign, to_come, WordE
 ghost use Rattle.lr_lex.specs.declared.sign.Sign.{Sign};
 
 use crate::sign::Sign;
-use crate::text::text_of;
+use crate::text::utf8_text;
 use crate::word::Word;
 use lr_rules::{Listed, Memory};
 use std::alloc::Global;
@@ -55,7 +55,7 @@ impl Scan {
     {
         if self.inside {
             let word = Word {
-                text: text_of(self.alloc, self.bytes.as_slice())?,
+                text: utf8_text(self.alloc, self.bytes.as_slice())?,
                 at: self.at,
                 len: self.len,
             };

@@ -10,7 +10,7 @@ use crate::item::{Item, LexFault, LexKind};
 use crate::place::Place;
 use crate::sign::blank;
 use crate::split::pass;
-use crate::text::{is_text, text_of};
+use crate::text::{is_text, utf8_text};
 use crate::word::Word;
 use lr_rules::Memory;
 use std::alloc::Global;
@@ -82,7 +82,7 @@ pub fn script_item(
     } else if !ended {
         LexKind::NoEndscript
     } else {
-        let text = text_of(alloc, text)?;
+        let text = utf8_text(alloc, text)?;
         return Ok(Ok(Item::Script {
             word,
             text,

@@ -20,8 +20,8 @@ pub fn is_text(bytes: &[u8]) -> bool
     is_utf8(bytes) && !has_zero(bytes)
 }
 
-/// The text of bytes that are UTF-8.
-pub fn text_of(alloc: Global, bytes: &[u8]) -> Result<Text, Memory>
+/// The text of bytes that are UTF-8, as each caller shows.
+pub fn utf8_text(alloc: Global, bytes: &[u8]) -> Result<Text, Memory>
     requires { IsUtf8 bytes.now }
     ensures { IfOk result (λ text. text ≡ bytes.now) }
 {

@@ -3,7 +3,7 @@ ghost use Rattle.std.specs.Prelude.{◌≡◌, ◌++◌, OnOk, IfOk, map};
 ghost use Rattle.lr_match.specs.Taboos.{first_taboo, taboo_after, list_after};
 
 use crate::taboo::Taboo;
-use lr_rules::{Listed, Memory, Text, copy_texts};
+use lr_rules::{Listed, Memory, Text, copy_texts, push_text};
 use std::alloc::Global;
 
 // The extensions to begin with, in order.
@@ -27,22 +27,12 @@ static FIRST: [&str; 17] = [
     "~",
 ];
 
-fn text_of(alloc: Global, word: &str) -> Result<Text, Memory>
-    ensures { IfOk result (λ text. text ≡ word.now) }
-{
-    match Text::new(alloc, word.as_bytes()) {
-        Ok(text) => Ok(text),
-        // The bytes of a word are UTF-8, so this is want of memory.
-        Err(_) => Err(Memory),
-    }
-}
-
 fn texts_of(alloc: Global, words: &[&str]) -> Result<Listed<Text>, Memory>
     ensures { IfOk result (λ texts. texts ≡ map (λ word. word.now) words.now) }
 {
     let mut texts = Vec::new(alloc);
     for word in words {
-        texts.push(text_of(alloc, *word)?)?;
+        push_text(alloc, &mut texts, word.as_bytes())?;
     }
     Ok(Listed::from_vec(texts))
 }

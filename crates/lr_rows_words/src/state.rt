@@ -37,7 +37,7 @@ fn put_read(read: Result<State, StateStop>, out: &mut Answer) {
 }
 
 // The bytes of the words that are left, joined.
-fn text_of(cursor: &mut Cursor) -> Result<Vec<u8>, Trouble> {
+fn read_text(cursor: &mut Cursor) -> Result<Vec<u8>, Trouble> {
     let mut text = Vec::new(cursor.alloc);
     for part in cursor.rest() {
         text.extend_from_slice(part)?;
@@ -47,7 +47,7 @@ fn text_of(cursor: &mut Cursor) -> Result<Vec<u8>, Trouble> {
 
 /// `state PART..`: the lines of the text's table, or its first fault.
 pub fn state(cursor: &mut Cursor, out: &mut Answer) -> Result<(), Trouble> {
-    let text = text_of(cursor)?;
+    let text = read_text(cursor)?;
     put_read(State::read(cursor.alloc, &text), out);
     Ok(())
 }
@@ -65,7 +65,7 @@ fn give_all(reader: &mut Reader, text: &[u8], size: usize) -> Result<(), Trouble
 /// `pieces SIZE PART..`: the same of a text that comes in pieces of so many bytes.
 pub fn pieces(cursor: &mut Cursor, out: &mut Answer) -> Result<(), Trouble> {
     let size = cursor.small()? as usize;
-    let text = text_of(cursor)?;
+    let text = read_text(cursor)?;
     let mut reader = Reader::new(cursor.alloc);
     give_all(&mut reader, &text, size)?;
     put_read(reader.finish(), out);
@@ -74,7 +74,7 @@ pub fn pieces(cursor: &mut Cursor, out: &mut Answer) -> Result<(), Trouble> {
 
 // The table of the text of the words that are left.
 fn table(cursor: &mut Cursor) -> Result<State, Trouble> {
-    let text = text_of(cursor)?;
+    let text = read_text(cursor)?;
     match State::read(cursor.alloc, &text) {
         Ok(state) => Ok(state),
         Err(_) => Err(Trouble::Odd("a state text is wanted")),

@@ -72,7 +72,7 @@ impl Text {
     }
 }
 
-/// The text of bytes that are known to be one, so that a fault is want of memory.
+/// The text of bytes that are part of one. Others, which no caller has, would be answered like want of memory.
 pub fn text_of(alloc: Global, bytes: &[u8]) -> Result<Text, Memory>
     ensures { IfOk result (λ text. text ≡ bytes.now) }
 {

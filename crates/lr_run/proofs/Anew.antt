@@ -38,7 +38,7 @@ use Rattle.lr_laws_looks.proofs.Elements.{in_each}
 use Rattle.lr_laws_looks.proofs.Free.{targets_free}
 use Rattle.lr_laws_looks.proofs.Ready.{plans_have_logs}
 use Rattle.lr_laws_looks.proofs.Seen.{targets_seen}
-use Rattle.lr_state.specs.Written.{text_of}
+use Rattle.lr_state.specs.Written.{table_text}
 use Rattle.lr_laws_rotations.specs.Target.{Target}
 use Rattle.lr_laws_acts.specs.Planned.{AreReadyFor}
 use Rattle.lr_state.specs.After.{after}
@@ -90,7 +90,7 @@ module _ (state : Path) (rules : Rules) (looks : Looks) (remembered : Remembered
       → Left (Course (steps_of_writing state looks remembered clock acts) [] acts.of_state) middle n → (x : Path) → IsIn (mark.Created x) acts.marks → PathIsNamed x n
   anew_named a b not_told did names wrote x i = untold did x
   anew_named a b {n = n} {middle = middle} (is_told {es = es} made g) did names wrote x i =
-      writing_keeps state remembered.stale acts.dirs (text_of (after remembered.table (rotated_logs acts.marks) looks.kept clock.now.civil)) acts.of_state x (out state (inl refl)) (out (state ++ codes ".tmp") (inr (inl refl))) wrote
+      writing_keeps state remembered.stale acts.dirs (table_text (after remembered.table (rotated_logs acts.marks) looks.kept clock.now.civil)) acts.of_state x (out state (inl refl)) (out (state ++ codes ".tmp") (inr (inl refl))) wrote
       (names.created x behind tell)
     where
       tell : TellCreated x acts.marks

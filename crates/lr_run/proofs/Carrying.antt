@@ -12,7 +12,7 @@ use Rattle.lr_host.specs.declared.journal.Journal.{Journal}
 use Rattle.lr_host.specs.Told.{Counts, Left}
 use Rattle.lr_host.proofs.Left.{left_as, left_both}
 use Rattle.lr_state.specs.Table.{Entry as Row}
-use Rattle.lr_state.specs.Written.{text_of}
+use Rattle.lr_state.specs.Written.{table_text}
 use Rattle.lr_plan.specs.declared.mark.Mark.{Mark}
 use Rattle.lr_plan.specs.declared.mark.Mark.TheVariants as mark
 use Rattle.lr_plan.specs.declared.step.SetSteps.{SetSteps}
@@ -78,7 +78,7 @@ pub behind_of : (ready : Ready) (before : ℕ) (marks items : List Mark) (dirs :
 behind_of ready before marks items dirs is behind = subst (λ (ms : List Mark). AreBehind ready (drop before ms) dirs) is (subst (λ (ms : List Mark). AreBehind ready ms dirs) (marks_behind before marks) behind)
 
 abbrev Text : Ready → Civil → Progress → ℕ → List ℕ
-Text ready now y before = text_of (map (stamped (rotated_logs (drop before y.marks.items)) now) ready.table)
+Text ready now y before = table_text (map (stamped (rotated_logs (drop before y.marks.items)) now) ready.table)
 
 module _ (ready : Ready) (x y : Progress) (before : ℕ) (dirs : List Path) (o m : Option Journal) (j k : Counts) (is : before ≡ length x.marks.items) (a : AddsSteps (SetsDone ready.steps) (all_of_sets ready.steps) x y o m j k)
     (behind : AreBehind ready (drop before y.marks.items) dirs) where
@@ -105,8 +105,8 @@ module _ (ready : Ready) (x y : Progress) (before : ℕ) (dirs : List Path) (o m
     wrote = wrote;
   }
     where
-      w : AddsCourse (state_steps ready.writing.state ready.writing.stale dirs (text_of (map (stamped (rotated_logs a.marks) now) ready.table))) y.faults.items z.faults.items m n k l
-      w = subst (λ (ms : List Mark). AddsCourse (state_steps ready.writing.state ready.writing.stale dirs (text_of (map (stamped (rotated_logs ms) now) ready.table))) y.faults.items z.faults.items m n k l) own s
+      w : AddsCourse (state_steps ready.writing.state ready.writing.stale dirs (table_text (map (stamped (rotated_logs a.marks) now) ready.table))) y.faults.items z.faults.items m n k l
+      w = subst (λ (ms : List Mark). AddsCourse (state_steps ready.writing.state ready.writing.stale dirs (table_text (map (stamped (rotated_logs ms) now) ready.table))) y.faults.items z.faults.items m n k l) own s
 
       acts : Acts
       acts = record { marks = a.marks; dirs = dirs; of_logs = a.faults; of_state = w.added }

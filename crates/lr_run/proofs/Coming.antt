@@ -34,7 +34,7 @@ use Rattle.lr_state.specs.Known.{ReadsState, TextSaysOnly}
 use Rattle.lr_state.specs.After.{after}
 use Rattle.lr_state.specs.Measured.{measured_text}
 use Rattle.lr_state.specs.Table.{Entry as Row}
-use Rattle.lr_state.specs.Written.{text_of}
+use Rattle.lr_state.specs.Written.{table_text}
 use Rattle.lr_looks.specs.Reserved.{reserved_by}
 use Rattle.lr_writing.specs.Synced.{AreSynced}
 use Rattle.lr_run.specs.Internal.{plan_for, steps_of_writing, ActsBy, outgrew, acted, Carries, CameTo, WorksTo, SeesTooBig, LooksAndActs, saw_too_big, came_to, IsKnownBefore, KnowsText, WorksOn, knows_none, knows, EndsWork, Begun, Goes, begun}
@@ -102,12 +102,12 @@ module _ (state : Path) (rules : Rules) (looks : Looks) (remembered : Remembered
       planned = record { is = refl; small = subst (λ (ks : List Path). length (measured ks) ≤ 67_108_864) g.kept_are small };
       done = record {
         dirs = dirs;
-        entries = subst (λ (ks : List Path). Then (SetsDone (steps_of_plan planned) acts.marks acts.of_logs) (Course (state_steps state remembered.stale acts.dirs (text_of (after remembered.table (rotated_logs acts.marks) ks clock.now.civil))) [] acts.of_state) did) g.kept_are t;
+        entries = subst (λ (ks : List Path). Then (SetsDone (steps_of_plan planned) acts.marks acts.of_logs) (Course (state_steps state remembered.stale acts.dirs (table_text (after remembered.table (rotated_logs acts.marks) ks clock.now.civil))) [] acts.of_state) did) g.kept_are t;
       };
     })
 
     names_of : (acts : Acts) {m n : Option Journal} → TellsNames acts.marks (all_of_sets (steps_of_plan planned) ++ steps_of_writing state looks remembered clock acts) (planned.faults ++ act_faults acts) m n → TellsNamesOf state clock (work_of acts) m n
-    names_of acts {m} {n} t = subst (λ (ks : List Path). TellsNames acts.marks (all_of_sets (steps_of_plan planned) ++ state_steps state remembered.stale acts.dirs (text_of (after remembered.table (rotated_logs acts.marks) ks clock.now.civil))) (planned.faults ++ act_faults acts) m n) g.kept_are t
+    names_of acts {m} {n} t = subst (λ (ks : List Path). TellsNames acts.marks (all_of_sets (steps_of_plan planned) ++ state_steps state remembered.stale acts.dirs (table_text (after remembered.table (rotated_logs acts.marks) ks clock.now.civil))) (planned.faults ++ act_faults acts) m n) g.kept_are t
 
   looked_so : {o m n : Option Journal} → Left (LooksAtAll (reserved_by state) rules.sets looks a b) o m → Carries state rules looks remembered clock asked plan b c m n → CameTo Looked state clock o n
   looked_so not_told h = none_told Looked state clock h.shows

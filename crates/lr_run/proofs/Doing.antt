@@ -14,7 +14,7 @@ use Rattle.lr_host.specs.Told.{Counts, Left, Then}
 use Rattle.lr_host.proofs.Left.{left_as, left_first}
 use Rattle.lr_host.proofs.Lists.{in_append}
 use Rattle.lr_state.specs.Table.{Entry as Row}
-use Rattle.lr_state.specs.Written.{text_of}
+use Rattle.lr_state.specs.Written.{table_text}
 use Rattle.lr_plan.specs.Asked.{Asked}
 use Rattle.lr_plan.specs.declared.looks.Looks.{Looks}
 use Rattle.lr_plan.specs.declared.plan.Plan.{Plan}
@@ -48,7 +48,7 @@ module _ (state : Path) (rules : Rules) (looks : Looks) (remembered : Remembered
   behind =
       ap (λ (w : StateTarget). writing_steps w ready.table clock.now.civil h.acts) r.is.writes
       ∙ (ap (λ (rows : List Row). writing_steps (record { state = state; stale = remembered.stale }) rows clock.now.civil h.acts) r.is.table_is
-      ∙ ap (λ (rows : List Row). state_steps state remembered.stale h.acts.dirs (text_of rows)) (sym (stamps remembered.table (rotated_logs h.acts.marks) looks.kept clock.now.civil)))
+      ∙ ap (λ (rows : List Row). state_steps state remembered.stale h.acts.dirs (table_text rows)) (sym (stamps remembered.table (rotated_logs h.acts.marks) looks.kept clock.now.civil)))
 
   did : Left (Then (SetsDone (steps_of_plan planned) h.acts.marks h.acts.of_logs) (Course (steps_of_writing state looks remembered clock h.acts) [] h.acts.of_state)) m n
   did = subst (λ (ss : List Step). Left (Then (SetsDone (steps_of_plan planned) h.acts.marks h.acts.of_logs) (Course ss [] h.acts.of_state)) m n) behind

@@ -15,7 +15,7 @@ use Rattle.lr_host.specs.declared.journal.Journal.{Journal}
 use Rattle.lr_host.specs.Looks.{Sees, IsDir}
 use Rattle.lr_host.specs.Told.{Left, Then}
 use Rattle.lr_host.proofs.Left.{left_as}
-use Rattle.lr_state.specs.Written.{text_of}
+use Rattle.lr_state.specs.Written.{table_text}
 use Rattle.lr_plan.specs.Asked.{Asked}
 use Rattle.lr_plan.specs.declared.plan.Plan.{Plan}
 use Rattle.lr_plan.specs.Course.{Course}
@@ -92,7 +92,7 @@ module _ (state : Path) (rules : List Rule) (clock : Clock) (asked : Asked) wher
           of_plan = w.acts.of_logs;
           of_state = w.acts.of_state;
           faults_are = refl;
-          entries = subst (λ (fs : List FoundLog). Then (SetsDone (steps_of_plan follows) w.acts.marks w.acts.of_logs) (Course (state_steps state w.saw.stale w.acts.dirs (text_of (after w.saw.table (rotated_logs w.acts.marks) (paths_of fs) clock.now.civil))) [] w.acts.of_state) w.did) sets.kept_are
+          entries = subst (λ (fs : List FoundLog). Then (SetsDone (steps_of_plan follows) w.acts.marks w.acts.of_logs) (Course (state_steps state w.saw.stale w.acts.dirs (table_text (after w.saw.table (rotated_logs w.acts.marks) (paths_of fs) clock.now.civil))) [] w.acts.of_state) w.did) sets.kept_are
               (subst (λ (p : Plan). Then (SetsDone (steps_of_plan p) w.acts.marks w.acts.of_logs) (Course (state_steps state w.saw.stale w.acts.dirs (text_by w.saw clock (rotated_logs w.acts.marks))) [] w.acts.of_state) w.did) planned.is out.entries);
         };
       };

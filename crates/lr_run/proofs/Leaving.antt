@@ -20,7 +20,7 @@ use Rattle.lr_host.proofs.Each.{each_append}
 use Rattle.lr_run.proofs.Made.{AreMade}
 use Rattle.lr_run.proofs.Shape.{sees_quiet}
 use Rattle.lr_laws.specs.Renewing.{LeavesAlone, IsWithinDirs, MayRenew, left_alone}
-use Rattle.lr_state.specs.Written.{text_of}
+use Rattle.lr_state.specs.Written.{table_text}
 use Rattle.lr_looks.specs.Found.{FoundLog, paths_of}
 use Rattle.lr_state.specs.After.{after}
 use Rattle.lr_plan.specs.Asked.{Asked}
@@ -123,7 +123,7 @@ module _ (state : Path) (rules : Rules) (clock : Clock) (asked : Asked) where
       quiet = sees_quiet (parent_of state) IsDir i.before i.directory
 
       text_is : runs.state_text state rules.sets i.between i.within.looked clock (rotated_logs w.acts.marks) ≡ text
-      text_is = ap (λ (kept : List FoundLog). text_of (after w.saw.table (rotated_logs w.acts.marks) (paths_of kept) clock.now.civil)) (sym shows.seen.sets.kept_are)
+      text_is = ap (λ (kept : List FoundLog). table_text (after w.saw.table (rotated_logs w.acts.marks) (paths_of kept) clock.now.civil)) (sym shows.seen.sets.kept_are)
 
   -- one that broke off leaves it alone
   pub broken_may : (w : Work) → ShowsWork false state rules.sets clock asked w → BreaksOff w → (IsText : List ℕ → Type 0) → AreMade (run_entries false state clock rules w) → MayRenew state IsText (run_entries false state clock rules w)

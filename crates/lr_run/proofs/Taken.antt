@@ -17,7 +17,7 @@ use Rattle.lr_plan.specs.Steps.{steps_of_plan}
 use Rattle.lr_plan.specs.Course.{Course}
 use Rattle.lr_plan.specs.Done.{SetsDone, rotated_logs}
 use Rattle.lr_state.specs.After.{after}
-use Rattle.lr_state.specs.Written.{text_of}
+use Rattle.lr_state.specs.Written.{table_text}
 use Rattle.lr_looks.specs.Reserved.{reserved_by}
 use Rattle.lr_acts.specs.Taken.{WasTaken, no_journal}
 use Rattle.lr_state.specs.declared.remembered.Remembered.{Remembered}
@@ -36,4 +36,4 @@ hindered_taken state rules looks remembered clock asked acts a b not_told did pa
     untold : {P : List Entry → Type 0} {n : Option Journal} → Left P None n → WasTaken path None n
     untold not_told = no_journal
 hindered_taken state rules looks remembered clock asked acts a b (is_told {j = j} {k = k} {es = es} made g) did path i =
-    plan_taken state rules looks.sets g.own (reverse es) clock asked.mailer (decision remembered.table clock.now asked.force) remembered.stale acts.dirs (text_of (after remembered.table (rotated_logs acts.marks) looks.kept clock.now.civil)) acts.marks acts.of_logs acts.of_state j k es made refl g.shown did path i
+    plan_taken state rules looks.sets g.own (reverse es) clock asked.mailer (decision remembered.table clock.now asked.force) remembered.stale acts.dirs (table_text (after remembered.table (rotated_logs acts.marks) looks.kept clock.now.civil)) acts.marks acts.of_logs acts.of_state j k es made refl g.shown did path i

@@ -21,7 +21,7 @@ use Rattle.lr_host.specs.Opening.{IsJournal}
 use Rattle.lr_host.specs.Told.{Left, Then, Are, Can, Counts, WhereTold, Maybe}
 use Rattle.lr_host.specs.Looks.{Sees, IsDir}
 use Rattle.lr_state.specs.Table.{Entry as Row}
-use Rattle.lr_state.specs.Written.{text_of}
+use Rattle.lr_state.specs.Written.{table_text}
 use Rattle.lr_plan.specs.Asked.{Asked}
 use Rattle.lr_plan.specs.declared.looks.Looks.{Looks}
 use Rattle.lr_plan.specs.declared.mark.Mark.{Mark}
@@ -100,7 +100,7 @@ CanWrite ready told = (later : Option Journal) (marks : List Mark) (faults : Lis
 -- the steps of this writing of the state, behind these acts: the logs that they rotated have this moment in the table
 abbrev pub writing_steps : StateTarget → List Row → Civil → Acts → List Step
 writing_steps writing table now acts = state_steps writing.state writing.stale acts.dirs
-    (text_of (map (stamped (rotated_logs acts.marks) now) table))
+    (table_text (map (stamped (rotated_logs acts.marks) now) table))
 
 -- The acts, and then the state, with this moment for the logs that were rotated; the faults of both were added.
 pub record ActsAndWrites (ready : Ready) (now : Civil) (before later : Progress) (told then : Option Journal)
@@ -149,7 +149,7 @@ measured_for rules looks remembered clock asked = measured_of (plan_for rules lo
 -- the steps of the writing of the state behind these acts
 abbrev pub steps_of_writing : Path → Looks → Remembered → Clock → Acts → List Step
 steps_of_writing state looks remembered clock acts = state_steps state remembered.stale acts.dirs
-    (text_of (after remembered.table (rotated_logs acts.marks) looks.kept clock.now.civil))
+    (table_text (after remembered.table (rotated_logs acts.marks) looks.kept clock.now.civil))
 
 -- What follows from the looks: the text of the state could become too big by the plan, and nothing was done; or the plan was
 -- carried out by these acts, and then the state was written. The faults were added.

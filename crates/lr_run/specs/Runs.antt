@@ -17,7 +17,7 @@ use Rattle.lr_host.specs.declared.entry.Entry.TheVariants.{Starts}
 use Rattle.lr_host.specs.Told.{Then, Maybe}
 use Rattle.lr_host.specs.Looks.{Sees, IsDir, IsNotDir}
 use Rattle.lr_state.specs.Table.{Entry as Row}
-use Rattle.lr_state.specs.Written.{text_of}
+use Rattle.lr_state.specs.Written.{table_text}
 use Rattle.lr_plan.specs.Asked.{Asked}
 use Rattle.lr_plan.specs.declared.looks.SetLooks.{SetLooks}
 use Rattle.lr_plan.specs.declared.mark.Mark.{Mark}
@@ -91,7 +91,7 @@ measured_in state rules ts l clock asked = measured_of (plan_in state rules ts l
 
 -- the text that is written, by the logs that were rotated
 abbrev pub state_text : (state : Path) (rules : List Rule) (ts : List Entry) → Looked state rules ts → Clock → List Path → List ℕ
-state_text state rules ts l clock rotated = text_of (after l.remembered.table rotated (kept_in state rules ts l) clock.now.civil)
+state_text state rules ts l clock rotated = table_text (after l.remembered.table rotated (kept_in state rules ts l) clock.now.civil)
 
 -- ---- what was done
 

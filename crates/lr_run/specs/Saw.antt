@@ -8,7 +8,7 @@ use Rattle.lr_rules.specs.Path.{parent_of}
 use Rattle.lr_host.specs.declared.entry.Entry.{Entry}
 use Rattle.lr_host.specs.Looks.{Sees, IsDir, IsNothing}
 use Rattle.lr_state.specs.Table.{Entry as Row}
-use Rattle.lr_state.specs.Written.{text_of}
+use Rattle.lr_state.specs.Written.{table_text}
 use Rattle.lr_plan.specs.Asked.{Asked}
 use Rattle.lr_plan.specs.declared.looks.SetLooks.{SetLooks}
 use Rattle.lr_plan.specs.declared.plan.Plan.{Plan}
@@ -42,7 +42,7 @@ plan_by rules saw clock asked = plan_of rules saw.sets saw.table clock asked
 
 -- the text of the state, brought up to the clock by what was seen, with these logs as rotated
 abbrev pub text_by : Saw → Clock → List Path → List ℕ
-text_by saw clock rotated = text_of (after saw.table rotated (paths_of saw.kept) clock.now.civil)
+text_by saw clock rotated = table_text (after saw.table rotated (paths_of saw.kept) clock.now.civil)
 
 -- the text that is measured before the first act of a plan
 abbrev pub measured_by : Saw → Plan → Clock → List ℕ

@@ -8,7 +8,7 @@ ghost use Rattle.lr_plan.specs.Done.{rotated_logs};
 ghost use Rattle.lr_plan.specs.Asking.{CanMake, CanSets};
 ghost use Rattle.lr_plan.specs.Steps.{state_steps};
 ghost use Rattle.lr_state.specs.After.{stamped};
-ghost use Rattle.lr_state.specs.Written.{text_of};
+ghost use Rattle.lr_state.specs.Written.{table_text};
 ghost use Rattle.lr_writing.specs.Writes.{AddsCourse};
 ghost use Rattle.lr_run.specs.Internal.{ActsAndWrites, CanWrite, SomeActs};
 
@@ -55,7 +55,7 @@ fn save<H: Host>(
     requires within { before ≤ vec_len progress.old.marks }
     requires room { vec_len progress.old.faults + 1 ≤ vec_capacity progress.old.faults }
     ensures told { AddsCourse (state_steps writing.state writing.stale dirs
-        (text_of (map (stamped (rotated_logs (drop before progress.old.marks.items)) now) table))) progress.old.faults.items
+        (table_text (map (stamped (rotated_logs (drop before progress.old.marks.items)) now) table))) progress.old.faults.items
         progress.new.faults.items (H.told host.old) (H.told host.new) (H.counts host.old) (H.counts host.new) }
     ensures few { vec_len progress.new.faults ≤ vec_len progress.old.faults + 1 }
     ensures room { vec_capacity progress.old.faults ≤ vec_capacity progress.new.faults }

@@ -1,9 +1,9 @@
 // Scripts with their arguments.
-ghost use Rattle.std.specs.Prelude.{◌≡◌, ◌∷◌, ◌++◌, [], None, Some, codes, OnOk, IfOk};
+ghost use Rattle.std.specs.Prelude.{◌≡◌, ◌∷◌, [], None, Some, codes, IfOk};
 ghost use Rattle.lr_scripts.specs.Commands.{script, where_so};
 
 use crate::command::Command;
-use lr_rules::{Listed, Memory, Path, Text, text_of};
+use lr_rules::{Listed, Memory, Path, Text, push_text, text_of};
 use std::alloc::Global;
 
 // The words of the shell before the script's arguments.
@@ -14,13 +14,6 @@ fn shell_words(alloc: Global, text: &Text) -> Result<Vec<Text>, Memory>
     let text = text.copy(alloc)?;
     let name = text_of(alloc, b"logrotate_script")?;
     Ok(Vec::from_array(alloc, [option, text, name])?)
-}
-
-fn add_argument(alloc: Global, words: &mut Vec<Text>, bytes: &[u8]) -> Result<(), Memory>
-    ensures { OnOk result (words.new.items ≡ words.old.items ++ bytes.now ∷ []) }
-{
-    words.push(text_of(alloc, bytes)?)?;
-    Ok(())
 }
 
 // A shell with these words.
@@ -42,7 +35,7 @@ fn command_on(alloc: Global, text: &Text, on: &[u8]) -> Result<Command, Memory>
     ensures { IfOk result (λ command. Some command ≡ script (Some text.now) (on.now ∷ [])) }
 {
     let mut words = shell_words(alloc, text)?;
-    add_argument(alloc, &mut words, on)?;
+    push_text(alloc, &mut words, on)?;
     shell(alloc, words)
 }
 
@@ -50,8 +43,8 @@ fn command_on_both(alloc: Global, text: &Text, on: &[u8], to: &[u8]) -> Result<C
     ensures { IfOk result (λ command. Some command ≡ script (Some text.now) (on.now ∷ to.now ∷ [])) }
 {
     let mut words = shell_words(alloc, text)?;
-    add_argument(alloc, &mut words, on)?;
-    add_argument(alloc, &mut words, to)?;
+    push_text(alloc, &mut words, on)?;
+    push_text(alloc, &mut words, to)?;
     shell(alloc, words)
 }
 

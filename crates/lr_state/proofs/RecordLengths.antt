@@ -10,7 +10,7 @@ use Rattle.std.proofs.lemmas.Slice.Eq.{bytes_eq-Decides}
 use Rattle.lr_rules.specs.declared.civil.Civil.{Civil}
 use Rattle.lr_rules.specs.declared.path.Path.{Path}
 use Rattle.lr_state.specs.Table.{Entry, moment_of, is_name, is_table}
-use Rattle.lr_state.specs.Written.{escaped, decimal, moment_text, line_text, entry_line, text_of}
+use Rattle.lr_state.specs.Written.{escaped, decimal, moment_text, line_text, entry_line, table_text}
 use Rattle.lr_state.proofs.Views.{bytes_swapped}
 use Rattle.lr_state.specs.After.{is_among}
 use Rattle.lr_state.specs.Measured.{longer, widest, measured_text}
@@ -77,12 +77,12 @@ lines_widen due now (e ∷ es) =
     omega (arith, old, new, first, rest)
 
 -- the measured text is no shorter than that of the table
-pub text_widens : (due : List Path) (now : Civil) (es : List Entry) → length (text_of es) ≤ length (measured_text due now es)
+pub text_widens : (due : List Path) (now : Civil) (es : List Entry) → length (table_text es) ≤ length (measured_text due now es)
 text_widens due now es = let lines = lines_widen due now es in omega (arith, lines)
 
 -- where no log is due, it is that of the table
-pub none_due : (now : Civil) (es : List Entry) → measured_text [] now es ≡ text_of es
-none_due now es = ap text_of (same es)
+pub none_due : (now : Civil) (es : List Entry) → measured_text [] now es ≡ table_text es
+none_due now es = ap table_text (same es)
   where
     same : (xs : List Entry) → map (widest [] now) xs ≡ xs
     same [] = refl

@@ -13,7 +13,7 @@ use Rattle.lr_rules.specs.declared.civil.Civil.{Civil}
 use Rattle.lr_rules.specs.Bytes.{is_newline}
 use Rattle.lr_state.specs.Grammar.{Sign, spelling, is_escaped, byte_of, IsNumber, BeginsWithName, HasDate, LinesSay, TextSays}
 use Rattle.lr_state.specs.Table.{Entry, moment_of, is_name, is_table}
-use Rattle.lr_state.specs.Written.{escaped, decimal, moment_text, line_text, entry_line, text_of}
+use Rattle.lr_state.specs.Written.{escaped, decimal, moment_text, line_text, entry_line, table_text}
 use Rattle.lr_state.proofs.Views.{bytes_swapped}
 use Rattle.lr_state.proofs.Decimals.{decimal-two, decimal-four, digits-line}
 
@@ -198,7 +198,7 @@ unfolding moment_of
 none-before [] = refl
 none-before (e ∷ es) = none-before es
 
-pub text-says : (t : List Entry) → is_table t ≡ true → length (text_of t) ≤ 67_108_864 → TextSays (text_of t) (Ok t)
+pub text-says : (t : List Entry) → is_table t ≡ true → length (table_text t) ≤ 67_108_864 → TextSays (table_text t) (Ok t)
 text-says t table small =
-    let sized = le-ltb 67_108_864 (length (text_of t)) small in
+    let sized = le-ltb 67_108_864 (length (table_text t)) small in
     rw sized (lines-say 2 [] t table (none-before t))

@@ -3,7 +3,7 @@ use Rattle.std.specs.Prelude.{ℕ, nat_lt, List, length, map, if◌then◌else�
 use Rattle.lr_rules.specs.declared.civil.Civil.{Civil}
 use Rattle.lr_rules.specs.declared.path.Path.{Path}
 use Rattle.lr_state.specs.Table.{Entry}
-use Rattle.lr_state.specs.Written.{moment_text, text_of}
+use Rattle.lr_state.specs.Written.{moment_text, table_text}
 use Rattle.lr_state.specs.After.{is_among}
 
 -- the longer of the two as a text
@@ -16,4 +16,4 @@ widest due now e = if is_among due e.0 then (e.0, longer e.1 now) else e
 
 -- The text is measured before any log is rotated: each log that is due has the longer of its old moment and that of the run.
 abbrev pub measured_text : List Path → Civil → List Entry → List ℕ
-measured_text due now table = text_of (map (widest due now) table)
+measured_text due now table = table_text (map (widest due now) table)

@@ -32,5 +32,5 @@ abbrev pub entry_line : Entry → List ℕ
 entry_line e = line_text e ++ 10 ∷ []
 
 -- the text of a table
-abbrev pub text_of : List Entry → List ℕ
-text_of t = (top_2 ++ 10 ∷ []) ++ flat_map entry_line t
+abbrev pub table_text : List Entry → List ℕ
+table_text t = (top_2 ++ 10 ∷ []) ++ flat_map entry_line t

@@ -3,7 +3,7 @@ ghost use Rattle.std.specs.Prelude.{◌≡◌, ◌<◌, ◌≤◌, ◌^◌, ◌-
 ghost use Rattle.std.specs.Prelude.{IsSome, IsOk, IsTrue, Some, Ok, length, take, min, slice_get};
 ghost use Rattle.lr_state.specs.Grammar.{TextSays};
 ghost use Rattle.lr_state.specs.Table.{Entry, moment_of, put, is_name, is_old, is_table, IsNameTest};
-ghost use Rattle.lr_state.specs.Written.{entry_line, text_of};
+ghost use Rattle.lr_state.specs.Written.{entry_line, table_text};
 
 use crate::write::put_line;
 use indexmap::IndexMap;
@@ -129,7 +129,7 @@ impl State {
 
     /// The length in bytes of the text of the table, its first line included; u64::MAX where it is longer than that.
     pub fn text_len(&self) -> u64
-        ensures { result ≡ min (2 ^ 64 - 1) (length (text_of self.now)) }
+        ensures { result ≡ min (2 ^ 64 - 1) (length (table_text self.now)) }
     {
         let mut line = [0u8; 8448];
         let mut len = 29u64;
@@ -142,7 +142,7 @@ impl State {
 
 /// The text that is written for a table says that table, where it is not too big to be read.
 pub fn written_text_is_read(state: &State)
-    ensures { length (text_of state.now) ≤ 67_108_864 → TextSays (text_of state.now) (Ok state.now) }
+    ensures { length (table_text state.now) ≤ 67_108_864 → TextSays (table_text state.now) (Ok state.now) }
 {
     let _entries = state.entries.len();
 }

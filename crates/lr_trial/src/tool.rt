@@ -1,6 +1,6 @@
 // The tool, as it is called each night.
 use lr_cli::{Outcome, Zone, logrotate};
-use lr_given::{path_of, text_of};
+use lr_given::{given_text, path_of};
 use lr_memhost::{MemHost, MemSink};
 use lr_nights::Run;
 use lr_rules::{Memory, Path, Text};
@@ -16,7 +16,7 @@ pub struct Tool {
 impl Tool {
     /// The call with the word `/etc/c`.
     pub fn new(alloc: Global) -> Result<Tool, Memory> {
-        let Ok(word) = text_of(alloc, b"/etc/c") else {
+        let Ok(word) = given_text(alloc, b"/etc/c") else {
             return Err(Memory);
         };
         let Ok(here) = path_of(alloc, b"/") else {

@@ -1,6 +1,6 @@
 // The file that the text is first written to.
 ghost use Rattle.std.specs.Prelude.{◌≡◌, [], ◌∷◌, length, Some};
-ghost use Rattle.lr_state.specs.Written.{text_of};
+ghost use Rattle.lr_state.specs.Written.{table_text};
 ghost use Rattle.lr_plan.specs.declared.step.Step.TheVariants as step;
 ghost use Rattle.lr_plan.specs.Steps.{step_if};
 ghost use Rattle.lr_plan.specs.Asking.{CanMake};
@@ -57,9 +57,9 @@ fn fill_part<H: Host>(
     table: &State,
     buffer: &mut [u8],
 ) -> Result<(), Refused>
-    requires fits { CanMake (H.told host.old) (step.Appends part.now (text_of table.now) ∷ []) }
+    requires fits { CanMake (H.told host.old) (step.Appends part.now (table_text table.now) ∷ []) }
     requires size { length buffer.old ≡ 65_536 }
-    ensures { ComesTo (step.Appends part.now (text_of table.now) ∷ []) (refusal part.now result) (H.told host.old) (H.told host.new)
+    ensures { ComesTo (step.Appends part.now (table_text table.now) ∷ []) (refusal part.now result) (H.told host.old) (H.told host.new)
         (H.counts host.old) (H.counts host.new) }
 {
     match append_table(host, part, table, buffer) {
@@ -89,9 +89,9 @@ pub fn write_part<H: Host>(
     table: &State,
     buffer: &mut [u8],
 ) -> Result<(), Refused>
-    requires fits { CanMake (H.told host.old) (part_steps part.now stale (text_of table.now)) }
+    requires fits { CanMake (H.told host.old) (part_steps part.now stale (table_text table.now)) }
     requires size { length buffer.old ≡ 65_536 }
-    ensures { ComesTo (part_steps part.now stale (text_of table.now)) (refusal part.now result) (H.told host.old) (H.told host.new)
+    ensures { ComesTo (part_steps part.now stale (table_text table.now)) (refusal part.now result) (H.told host.old) (H.told host.new)
         (H.counts host.old) (H.counts host.new) }
 {
     clear_part(host, part, stale)?;

@@ -2,7 +2,7 @@
 ghost use Rattle.std.specs.Prelude.{◌≡◌, ◌≤◌, ◌+◌, [], length, take, OnOk, OnErr, IfOk};
 ghost use Rattle.lr_host.specs.declared.entry.Entry.TheVariants as entry;
 ghost use Rattle.lr_host.specs.Told.{Left, Can, Onward, Rose};
-ghost use Rattle.lr_state.specs.Written.{text_of};
+ghost use Rattle.lr_state.specs.Written.{table_text};
 ghost use Rattle.lr_writing.specs.Buffer.{Wrote, WriteBroke, HoldsBack};
 
 use crate::buffer::{add_line, put_first};
@@ -64,8 +64,8 @@ pub fn append_table<H: Host>(
 ) -> Result<(), CallFault>
     requires file { Can (H.told host.old) (entry.Appends path.now []) }
     requires size { length buffer.old ≡ 65_536 }
-    ensures told { OnOk result (Left (Wrote path.now (text_of table.now)) (H.told host.old) (H.told host.new)) }
-    ensures broke { OnErr result (Left (WriteBroke path.now (text_of table.now)) (H.told host.old) (H.told host.new)) }
+    ensures told { OnOk result (Left (Wrote path.now (table_text table.now)) (H.told host.old) (H.told host.new)) }
+    ensures broke { OnErr result (Left (WriteBroke path.now (table_text table.now)) (H.told host.old) (H.told host.new)) }
     ensures cause { OnErr result (Rose (H.counts host.old).faults (H.counts host.new).faults) }
     ensures counts { Onward (H.counts host.old) (H.counts host.new) }
 {

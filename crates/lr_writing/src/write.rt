@@ -1,7 +1,7 @@
 // The writing of a state file.
 ghost use Rattle.std.specs.Prelude.{◌≡◌, ◌+◌, ◌≤◌, [], ◌∷◌, ◌++◌, vec_len};
 ghost use Rattle.std.specs.Vec.{vec_capacity};
-ghost use Rattle.lr_state.specs.Written.{text_of};
+ghost use Rattle.lr_state.specs.Written.{table_text};
 ghost use Rattle.lr_plan.specs.Steps.{state_steps};
 ghost use Rattle.lr_plan.specs.Asking.{CanMake};
 ghost use Rattle.lr_writing.specs.Writes.{ComesTo, AddsCourse, faults_in};
@@ -20,8 +20,8 @@ fn make_all<H: Host>(
     dirs: Listed<Path>,
     table: &State,
 ) -> Result<(), Fault>
-    requires { CanMake (H.told host.old) (state_steps writing.state writing.stale dirs (text_of table.now)) }
-    ensures { ComesTo (state_steps writing.state writing.stale dirs (text_of table.now)) (faults_in result) (H.told host.old)
+    requires { CanMake (H.told host.old) (state_steps writing.state writing.stale dirs (table_text table.now)) }
+    ensures { ComesTo (state_steps writing.state writing.stale dirs (table_text table.now)) (faults_in result) (H.told host.old)
         (H.told host.new) (H.counts host.old) (H.counts host.new) }
 {
     let Writing {
@@ -58,9 +58,9 @@ pub fn write_state<H: Host>(
     table: &State,
     faults: &mut Vec<Fault>,
 )
-    requires fits { CanMake (H.told host.old) (state_steps writing.state writing.stale dirs (text_of table.now)) }
+    requires fits { CanMake (H.told host.old) (state_steps writing.state writing.stale dirs (table_text table.now)) }
     requires room { vec_len faults.old + 1 ≤ vec_capacity faults.old }
-    ensures told { AddsCourse (state_steps writing.state writing.stale dirs (text_of table.now)) faults.old.items faults.new.items
+    ensures told { AddsCourse (state_steps writing.state writing.stale dirs (table_text table.now)) faults.old.items faults.new.items
         (H.told host.old) (H.told host.new) (H.counts host.old) (H.counts host.new) }
     ensures few { vec_len faults.new ≤ vec_len faults.old + 1 }
     ensures room { vec_capacity faults.old ≤ vec_capacity faults.new }

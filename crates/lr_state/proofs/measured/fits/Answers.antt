@@ -4,7 +4,7 @@ use Rattle.std.proofs.lemmas.List.{take_more}
 use Rattle.lr_rules.specs.declared.civil.Civil.{Civil}
 use Rattle.lr_rules.specs.declared.path.Path.{Path}
 use Rattle.lr_state.specs.Table.{Entry, is_name, is_table, put}
-use Rattle.lr_state.specs.Written.{text_of}
+use Rattle.lr_state.specs.Written.{table_text}
 use Rattle.lr_state.specs.Measured.{measured_text}
 use Rattle.lr_state.proofs.After.{path_named, none_found, one_more_name}
 use Rattle.lr_state.proofs.RecordLengths.{text_widens, none_due}
@@ -48,4 +48,4 @@ loop-log-preserved c = record {
     is_whole =
         let len = c.text_len-len.ensures in
         let short = c.if-len-gt67108864.false in
-        said_is_table (text_of c.args.table.now) c.args.table.now (c.written_text_is_read.ensures (omega (arith, len, short)))
+        said_is_table (table_text c.args.table.now) c.args.table.now (c.written_text_is_read.ensures (omega (arith, len, short)))
