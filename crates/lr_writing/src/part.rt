@@ -59,8 +59,8 @@ fn fill_part<H: Host>(
 ) -> Result<(), Refused>
     requires fits { CanMake (H.told host.old) (step.Appends part.now (table_text table.now) ∷ []) }
     requires size { length buffer.old ≡ 65_536 }
-    ensures { ComesTo (step.Appends part.now (table_text table.now) ∷ []) (refusal part.now result) (H.told host.old) (H.told host.new)
-        (H.counts host.old) (H.counts host.new) }
+    ensures { ComesTo (step.Appends part.now (table_text table.now) ∷ []) (refusal part.now result) (H.told host.old)
+        (H.told host.new) (H.counts host.old) (H.counts host.new) }
 {
     match append_table(host, part, table, buffer) {
         Ok(()) => Ok(()),
@@ -91,8 +91,8 @@ pub fn write_part<H: Host>(
 ) -> Result<(), Refused>
     requires fits { CanMake (H.told host.old) (part_steps part.now stale (table_text table.now)) }
     requires size { length buffer.old ≡ 65_536 }
-    ensures { ComesTo (part_steps part.now stale (table_text table.now)) (refusal part.now result) (H.told host.old) (H.told host.new)
-        (H.counts host.old) (H.counts host.new) }
+    ensures { ComesTo (part_steps part.now stale (table_text table.now)) (refusal part.now result) (H.told host.old)
+        (H.told host.new) (H.counts host.old) (H.counts host.new) }
 {
     clear_part(host, part, stale)?;
     take_part(host, part)?;

@@ -60,8 +60,8 @@ pub fn write_state<H: Host>(
 )
     requires fits { CanMake (H.told host.old) (state_steps writing.state writing.stale dirs (table_text table.now)) }
     requires room { vec_len faults.old + 1 ≤ vec_capacity faults.old }
-    ensures told { AddsCourse (state_steps writing.state writing.stale dirs (table_text table.now)) faults.old.items faults.new.items
-        (H.told host.old) (H.told host.new) (H.counts host.old) (H.counts host.new) }
+    ensures told { AddsCourse (state_steps writing.state writing.stale dirs (table_text table.now)) faults.old.items
+        faults.new.items (H.told host.old) (H.told host.new) (H.counts host.old) (H.counts host.new) }
     ensures few { vec_len faults.new ≤ vec_len faults.old + 1 }
     ensures room { vec_capacity faults.old ≤ vec_capacity faults.new }
 {
