@@ -12,7 +12,7 @@ use Rattle.lr_host.proofs.Lists.{in_back}
 use Rattle.lr_host.specs.Quiet.{AreQuiet}
 use Rattle.lr_rules.specs.Names.{aside_path}
 use Rattle.lr_rules.specs.declared.path.Path.{Path}
-use Rattle.lr_run.specs.Runs.{in_acts}
+use Rattle.lr_run.specs.InternalRuns.{in_acts}
 use Rattle.lr_laws_looks.proofs.Elements.{in_each}
 use Rattle.lr_plan.specs.declared.plan.Plan.{Plan}
 use Rattle.lr_report.specs.declared.outcome.Outcome.{Outcome}

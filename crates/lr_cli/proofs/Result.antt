@@ -37,7 +37,8 @@ use Rattle.lr_run.specs.Copied.{IsCopyBy}
 use Rattle.lr_run.specs.Logs.{AreGivenBy}
 use Rattle.lr_run.specs.Met.{MetNothing}
 use Rattle.lr_run.specs.Ran.{TellsNamesOf}
-use Rattle.lr_run.specs.Runs.{dirs_in, in_acts}
+use Rattle.lr_run.specs.InternalRuns.{in_acts}
+use Rattle.lr_run.specs.Paths.{dirs_in}
 use Rattle.lr_run.specs.Scripts.{RunNothing}
 use Rattle.lr_run.specs.Work.{ShowsWork, CarriesOut, BreaksOff, DidNothing, act_faults, run_entries, first_entries}
 use Rattle.lr_run.proofs.Drying.{leaves_copied, lacks_copied}

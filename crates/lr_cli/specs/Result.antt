@@ -14,7 +14,7 @@ use Rattle.lr_run.specs.Logs.{AreGivenBy}
 use Rattle.lr_run.specs.Met.{MetNothing}
 use Rattle.lr_run.specs.Ran.{TellsNamesOf}
 use Rattle.lr_run.specs.Rotated.{TurnLogs}
-use Rattle.lr_run.specs.Runs.{dirs_in}
+use Rattle.lr_run.specs.Paths.{dirs_in}
 use Rattle.lr_run.specs.Saw.{text_by}
 use Rattle.lr_run.specs.Scripts.{RunNothing}
 use Rattle.lr_run.specs.Work.{act_faults}

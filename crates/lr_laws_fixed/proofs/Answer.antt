@@ -14,7 +14,7 @@ use Rattle.lr_include.specs.Lacking.{LacksReading}
 use Rattle.lr_due.specs.declared.tz.Zone.{Zone}
 use Rattle.lr_plan.specs.Asked.{asking}
 use Rattle.lr_plan.specs.declared.plan.Plan.{Plan}
-use Rattle.lr_run.specs.Answers.{RunLeaves, Holds, Lacks}
+use Rattle.lr_run.specs.InternalAnswers.{RunLeaves, Holds, Lacks}
 use Rattle.lr_run.specs.Halt.{Halt, OfFaults, OfLock, OfMemory, Halts}
 use Rattle.lr_run.specs.Work.{ShowsWork, run_entries}
 use Rattle.lr_run.proofs.Leaving.{halt_left, carried_left, tried_left}

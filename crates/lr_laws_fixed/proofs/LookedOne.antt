@@ -14,7 +14,8 @@ use Rattle.lr_state.specs.Known.{Known}
 use Rattle.lr_state.specs.After.{after}
 use Rattle.lr_state.specs.Measured.{measured_text}
 use Rattle.lr_looks.specs.Reserved.{reserved_by}
-use Rattle.lr_run.specs.Runs.{Looked, all_logs_of, logs_in, plan_in, kept_in, measured_in}
+use Rattle.lr_run.specs.InternalRuns.{Looked, plan_in, kept_in, measured_in}
+use Rattle.lr_run.specs.Paths.{all_logs_of, logs_in}
 use Rattle.lr_laws_fixed.specs.Alike.{AreAlike}
 use Rattle.lr_laws_fixed.proofs.Planned.{faults_alike, plans_alike}
 use Rattle.lr_laws_fixed.proofs.StateRead.{OneState, state_one}

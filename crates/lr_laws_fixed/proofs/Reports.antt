@@ -29,8 +29,8 @@ use Rattle.lr_host.specs.Counted.{call_in, calls_in}
 use Rattle.lr_host.proofs.Fronts.{front_same}
 use Rattle.lr_plan.specs.Asked.{Asked, asking}
 use Rattle.lr_plan.specs.declared.plan.Plan.{Plan}
-use Rattle.lr_run.specs.Answers.{RunLeaves}
-use Rattle.lr_run.specs.Runs.{Runs, no_directory, not_seen, not_begun, began}
+use Rattle.lr_run.specs.InternalAnswers.{RunLeaves}
+use Rattle.lr_run.specs.InternalRuns.{Runs, no_directory, not_seen, not_begun, began}
 use Rattle.lr_report.specs.declared.outcome.Outcome.TheVariants.{Done}
 use Rattle.lr_report.specs.declared.outcome.Report.{Report}
 use Rattle.lr_command.specs.declared.request.Request.{Request}

@@ -1,5 +1,5 @@
 -- Two runs that left the same entries met the same faults.
-use Rattle.std.proofs.Common.{◌≡◌, Option, List, [], ◌∷◌, ◌++◌, length, refl, sym, ap, ◌∙◌, arith}
+use Rattle.std.proofs.Common.{◌≡◌, false, Option, List, [], ◌∷◌, ◌++◌, length, Ok, refl, sym, ap, ◌∙◌, arith}
 use Rattle.std.proofs.lemmas.List.{append_cancel_right, append-nil}
 use Rattle.lr_rules.specs.declared.clock.Clock.{Clock}
 use Rattle.lr_rules.specs.declared.fault.Fault.{Fault}
@@ -13,7 +13,12 @@ use Rattle.lr_host.specs.Looks.{Sees, IsDir, IsNotDir}
 use Rattle.lr_host.specs.Counted.{calls_in}
 use Rattle.lr_plan.specs.Asked.{Asked}
 use Rattle.lr_plan.specs.declared.plan.Plan.{Plan}
-use Rattle.lr_run.specs.Runs.{Runs, no_directory, not_seen, not_begun, began}
+use Rattle.lr_host.proofs.Counts.{calls_on}
+use Rattle.lr_run.specs.declared.answer.Ran.{Ran}
+use Rattle.lr_run.specs.InternalRuns.{Runs, no_directory, not_seen, not_begun, began}
+use Rattle.lr_run.specs.Ran.{RunEnds}
+use Rattle.lr_run.specs.Work.{Work}
+use Rattle.lr_run.proofs.Evidence.{by_work}
 use Rattle.lr_laws_fixed.proofs.Called.{one_called}
 use Rattle.lr_laws_fixed.proofs.Peeled.{one_look}
 use Rattle.lr_laws_fixed.proofs.Works.{works_one}
@@ -44,3 +49,14 @@ runs_one state asked clock rules plan another own more ts (began i) (not_begun g
 runs_one state asked clock rules plan another own more ts (began i) (no_directory gone f t) c d = absurd (alone_or_begun (parent_of state) state clock rules (i.between ++ entry.Ends ∷ []) i.before ts t i.directory i.entries)
 runs_one state asked clock rules plan another own more ts (began i) (began j) c d = works_one state rules.sets clock asked own more i.between j.between
     (between_same (parent_of state) state clock rules i.before j.before i.between j.between ts i.directory j.directory i.entries j.entries) c d rules.limits i.within j.within
+
+-- so did two answers
+pub ran_one : (state : Path) (asked : Asked) (clock : Clock) (rules : Rules) (earlier : List Fault) (one other : Ran) (work others : Option Work) (ts : List Entry) → RunEnds false state rules clock asked earlier (Ok one) work ts → RunEnds false state rules clock asked earlier (Ok other) others ts
+    → calls_in one.faults.items ≡ 0 → calls_in other.faults.items ≡ 0 → one.faults.items ≡ other.faults.items
+ran_one state asked clock rules earlier one other work others ts r s c d =
+    let a = by_work state rules clock asked earlier ts (Ok one) work r in
+    let b = by_work state rules clock asked earlier ts (Ok other) others s in
+    a.1 ∙ (ap (λ fs. earlier ++ fs) (runs_one state asked clock rules one.plan other.plan a.0 b.0 ts a.2 b.2 (own_none one a.0 a.1 c) (own_none other b.0 b.1 d)) ∙ sym b.1)
+  where
+    own_none : (ran : Ran) (own : List Fault) → ran.faults.items ≡ earlier ++ own → calls_in ran.faults.items ≡ 0 → calls_in own ≡ 0
+    own_none ran own e z = let k = calls_on earlier own in let n : calls_in (earlier ++ own) ≡ 0 = sym (ap calls_in e) ∙ z in omega (arith, k, n)

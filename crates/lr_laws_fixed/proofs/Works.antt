@@ -24,7 +24,7 @@ use Rattle.lr_state.specs.declared.remembered.Remembered.{Remembered}
 use Rattle.lr_state.specs.Known.{Known, IsKnown}
 use Rattle.lr_state.specs.Sights.{StateSights, ShowsState}
 use Rattle.lr_plan.specs.declared.plan.Plan.{Plan}
-use Rattle.lr_run.specs.Runs.{Looked, Worked, Works, not_known, too_big, worked, plan_in, measured_in}
+use Rattle.lr_run.specs.InternalRuns.{Looked, Worked, Works, not_known, too_big, worked, plan_in, measured_in}
 use Rattle.lr_run.proofs.Called.{none_before, none_behind}
 use Rattle.lr_run.proofs.Stating.{state_writing}
 use Rattle.lr_run.proofs.Works.{steps_simple}

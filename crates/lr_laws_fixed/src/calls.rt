@@ -1,5 +1,5 @@
 // What the entries of a call show: what it found and what it tells, where no call failed.
-ghost use Rattle.std.specs.Prelude.{◌≡◌, ◌++◌, false, List, Option, ℕ, ℤ};
+ghost use Rattle.std.specs.Prelude.{◌≡◌, ◌++◌, false, List, Ok, Option, ℕ, ℤ};
 ghost use Rattle.lr_rules.specs.declared.path.Path.{Path};
 ghost use Rattle.lr_rules.specs.declared.clock.Clock.{Clock};
 ghost use Rattle.lr_rules.specs.declared.rules.Rules.{Rules};
@@ -11,7 +11,9 @@ ghost use Rattle.lr_plan.specs.declared.looks.SetLooks.{SetLooks};
 ghost use Rattle.lr_plan.specs.declared.plan.Plan.{Plan};
 ghost use Rattle.lr_host.specs.Counted.{calls_in};
 ghost use Rattle.lr_looks.specs.Shown.{ShowsLooks};
-ghost use Rattle.lr_run.specs.Runs.{Runs};
+ghost use Rattle.lr_run.specs.declared.answer.Ran.{Ran};
+ghost use Rattle.lr_run.specs.Ran.{RunEnds};
+ghost use Rattle.lr_run.specs.Work.{Work};
 ghost use Rattle.lr_report.specs.declared.outcome.Outcome.TheVariants.{Done};
 ghost use Rattle.lr_report.specs.declared.outcome.Report.{Report};
 ghost use Rattle.lr_command.specs.declared.request.Request.{Request};
@@ -29,15 +31,16 @@ pub fn looks_are_fixed()
         → calls_in faults ≡ 0 → calls_in more ≡ 0 → (ts ≡ us) × (faults ≡ more) × AreAlike sets others }
 {}
 
-/// Entries fix the faults of a run: where the same entries are shown as those of two runs over the same rules, and no call
-/// failed in either, their own faults are the same. A program that ended badly is told by its entry, something else at the
+/// Entries fix the faults of a run that acts: where the same entries are shown as those of two runs over the same rules, and
+/// no call failed in either, both have the same faults. A program that ended badly is told by its entry, something else at the
 /// path of a directory to be made by the look that saw it, and a part file whose name is taken, or a log that is too long
 /// to be copied, by what the entries lack.
 pub fn faults_are_fixed()
-    ensures { (state : Path) (asked : Asked) (clock : Clock) (rules : Rules) (plan other : Option Plan) (own more : List Fault)
-        (ts : List Entry)
-        → Runs state asked clock rules plan own ts → Runs state asked clock rules other more ts → calls_in own ≡ 0
-        → calls_in more ≡ 0 → own ≡ more }
+    ensures { (state : Path) (asked : Asked) (clock : Clock) (rules : Rules) (earlier : List Fault) (one other : Ran)
+        (work others : Option Work) (ts : List Entry)
+        → RunEnds false state rules clock asked earlier (Ok one) work ts
+        → RunEnds false state rules clock asked earlier (Ok other) others ts
+        → calls_in one.faults.items ≡ 0 → calls_in other.faults.items ≡ 0 → one.faults.items ≡ other.faults.items }
 {}
 
 /// Entries fix the report of a call that isn't a dry run: where the same entries are shown as those of two reports, and no

@@ -22,7 +22,7 @@ use Rattle.lr_plan.specs.Done.{PlanDone, rotated_logs}
 use Rattle.lr_plan.specs.Outcomes.{Fails}
 use Rattle.lr_plan.specs.Steps.{step_if, state_steps}
 use Rattle.lr_run.specs.Met.{MetNothing}
-use Rattle.lr_run.specs.Runs.{dirs_in}
+use Rattle.lr_run.specs.Paths.{dirs_in}
 use Rattle.lr_run.specs.Saw.{text_by}
 use Rattle.lr_run.specs.Work.{Work, IsPlanOf, CarriesOut, act_faults, state_steps_of}
 use Rattle.lr_run.proofs.Called.{none_behind, met_before, met_behind, acts_met_none}

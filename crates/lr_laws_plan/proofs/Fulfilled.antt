@@ -41,7 +41,7 @@ use Rattle.lr_writing.specs.Synced.{all_changed_of}
 use Rattle.lr_writing.proofs.SyncedLaws.{all_synced}
 use Rattle.lr_host.specs.Looking.{IsSight, AreSights}
 use Rattle.lr_host.proofs.Looking.{sights_quiet}
-use Rattle.lr_run.specs.Runs.{dirs_in, logs_in}
+use Rattle.lr_run.specs.Paths.{dirs_in, logs_in}
 use Rattle.lr_run.specs.Saw.{text_by}
 use Rattle.lr_run.specs.Work.{Work, ShowsWork, CarriesOut, act_faults, run_entries, steps_in, state_steps_of}
 use Rattle.lr_run.proofs.Made.{are_made}

@@ -19,7 +19,7 @@ use Rattle.lr_plan.specs.Outcomes.{marks_of}
 use Rattle.lr_plan.specs.Steps.{steps_of_plan, state_steps}
 use Rattle.lr_writing.specs.Synced.{made_in, all_to_make_of}
 use Rattle.lr_writing.proofs.Telling.{plan_dirs}
-use Rattle.lr_run.specs.Runs.{logs_in}
+use Rattle.lr_run.specs.Paths.{logs_in}
 use Rattle.lr_laws_plan.specs.Acts.{is_act, AreActsOf}
 use Rattle.lr_laws_plan.proofs.FulfilledActs.{acts_both, Went, course_went, sets_went}
 use Rattle.lr_laws_plan.proofs.Logs.{plan_logs, sets_stand}

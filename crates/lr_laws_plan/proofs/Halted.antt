@@ -21,8 +21,7 @@ use Rattle.lr_state.proofs.Quiet.{state_quiet}
 use Rattle.lr_looks.specs.Reserved.{reserved_by}
 use Rattle.lr_laws_looks.proofs.Quiet.{whole_quiet, part_quiet}
 use Rattle.lr_run.specs.Halt as halt
-use Rattle.lr_run.specs.Halt.{DirBars, Halt, Halts, LacksState, Within}
-use Rattle.lr_run.specs.Runs.{SomeSeen}
+use Rattle.lr_run.specs.Halt.{DirBars, Halt, Halts, LacksState, Within, SomeSeen}
 use Rattle.lr_run.specs.Saw.{ShowsStateFile, by_dir, by_none}
 use Rattle.lr_run.specs.Work.{entries_of}
 use Rattle.lr_run.proofs.Shape.{some_quiet}

@@ -30,9 +30,8 @@ use Rattle.lr_run.specs.declared.answer.Ran.{Ran}
 use Rattle.lr_run.specs.declared.answer.RunStop.{RunStop}
 use Rattle.lr_run.specs.declared.answer.RunStop.TheVariants as stop
 use Rattle.lr_run.specs.Halt as halt
-use Rattle.lr_run.specs.Halt.{DirBars, Halt, Halts, LacksState, Within}
+use Rattle.lr_run.specs.Halt.{DirBars, Halt, Halts, LacksState, Within, SomeSeen, of_state, of_looks}
 use Rattle.lr_run.specs.Ran.{AnswersWork, RunEnds, halted, came}
-use Rattle.lr_run.specs.Runs.{SomeSeen, of_state, of_looks}
 use Rattle.lr_run.specs.Saw.{ShowsSets, ShowsSaw, ShowsStateFile, by_dir, by_none, plan_by, text_by}
 use Rattle.lr_run.specs.Work.{Work, CarriesOut, BreaksOff, IsPlanOf, run_entries, first_entries, no_acts}
 use Rattle.lr_run.proofs.Seeing.{state_so}

@@ -12,7 +12,7 @@ use Rattle.lr_plan.specs.Done.{rotated_logs, is_rotated}
 use Rattle.lr_plan.specs.Outcomes.{marks_of}
 use Rattle.lr_plan.specs.Steps.{directory, steps_of_log, by_logs, steps_of_set, steps_of_plan}
 use Rattle.lr_writing.proofs.Telling.{told_by, of_logs, each_tells, sets_tell}
-use Rattle.lr_run.specs.Runs.{logs_rotated, all_logs_of, logs_in}
+use Rattle.lr_run.specs.Paths.{logs_rotated, all_logs_of, logs_in}
 use Rattle.lr_laws_plan.proofs.FulfilledActs.{LastStands, LastsStand}
 
 -- ---- the logs that marks tell of

@@ -19,7 +19,7 @@ use Rattle.lr_host.proofs.Lists.{in_append, in_front}
 use Rattle.lr_host.proofs.Quiet.{sees_quiet}
 use Rattle.lr_plan.specs.Asked.{Asked}
 use Rattle.lr_looks.specs.Inside.{Inside}
-use Rattle.lr_run.specs.Runs.{Worked, Works, not_known, too_big, worked, Runs, no_directory, not_seen, not_begun, began}
+use Rattle.lr_run.specs.InternalRuns.{Worked, Works, not_known, too_big, worked, Runs, no_directory, not_seen, not_begun, began}
 use Rattle.lr_laws_plan.specs.Ending.{EndsRun, NoneEnds, MayEnd}
 use Rattle.lr_laws_plan.specs.Looked.{behind_start, SawState}
 use Rattle.lr_laws_plan.proofs.Known.{saw_in, state_saw, state_why}

@@ -20,7 +20,7 @@ use Rattle.lr_plan.specs.declared.plan.Plan.{Plan}
 use Rattle.lr_plan.specs.Done.{rotated_logs}
 use Rattle.lr_plan.specs.Steps.{steps_of_plan, state_steps}
 use Rattle.lr_run.specs.Ran.{TellsNamesOf}
-use Rattle.lr_run.specs.Runs.{dirs_in}
+use Rattle.lr_run.specs.Paths.{dirs_in}
 use Rattle.lr_run.specs.Saw.{text_by}
 use Rattle.lr_run.specs.Work.{Work, ShowsWork, CarriesOut, act_faults, run_entries}
 use Rattle.lr_run.proofs.Evidence.{faults_of}

@@ -76,7 +76,8 @@ use Rattle.lr_laws_looks.specs.True.{AreTrue}
 use Rattle.lr_laws_looks.proofs.All.{looks_true}
 use Rattle.lr_run.specs.Copied.{IsOfCopy}
 use Rattle.lr_looks.specs.Inside.{Inside}
-use Rattle.lr_run.specs.Runs.{Looked, Worked, dirs_in, plan_in, state_text}
+use Rattle.lr_run.specs.InternalRuns.{Looked, Worked, plan_in, state_text}
+use Rattle.lr_run.specs.Paths.{dirs_in}
 use Rattle.lr_run.proofs.Shape.{sees_quiet, seen_quiet, looked_parts, all_of_state}
 use Rattle.lr_laws_plan.specs.Fulfilled.{NothingFailed}
 use Rattle.lr_laws_plan.proofs.Looking.{Looking, looking}

@@ -20,7 +20,7 @@ use Rattle.lr_plan.specs.declared.looks.LogLook.{LogLook}
 use Rattle.lr_plan.specs.declared.looks.SetLooks.{SetLooks}
 use Rattle.lr_plan.specs.declared.plan.Plan.{Plan}
 use Rattle.lr_plan.specs.Planned.{due_faults, where_due, log_faults, all_faults, decision}
-use Rattle.lr_run.specs.Dry.{PlanFollows, Plans, PlansBy, unknown, known, Tries, unseen, not_directory, by_none, by_state}
+use Rattle.lr_run.specs.InternalDry.{PlanFollows, Plans, PlansBy, unknown, known, Tries, unseen, not_directory, by_none, by_state}
 use Rattle.lr_laws_plan.specs.Ending.{EndsRun, NoneEnds}
 use Rattle.lr_laws_plan.specs.Tried.{EndsTry, NoneEndsTry, MayEndTry, SaysWhyTry}
 use Rattle.lr_laws_plan.proofs.Known.{state_why}

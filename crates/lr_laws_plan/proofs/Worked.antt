@@ -20,7 +20,7 @@ use Rattle.lr_plan.specs.Asked.{Asked}
 use Rattle.lr_plan.specs.Planned.{decision}
 use Rattle.lr_state.proofs.Quiet.{state_quiet}
 use Rattle.lr_laws_looks.proofs.Quiet.{whole_quiet}
-use Rattle.lr_run.specs.Runs.{Worked, plan_in}
+use Rattle.lr_run.specs.InternalRuns.{Worked, plan_in}
 use Rattle.lr_laws_plan.specs.Ending.{NoneEnds}
 use Rattle.lr_laws_plan.proofs.ReachedActs.{acts_none}
 use Rattle.lr_laws_plan.proofs.Ends.{none_both}

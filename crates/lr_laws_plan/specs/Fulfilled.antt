@@ -15,7 +15,7 @@ use Rattle.lr_acts.specs.Making.{all_of_sets}
 use Rattle.lr_acts.specs.Named.{OneCreates}
 use Rattle.lr_plan.specs.Steps.{steps_of_plan}
 use Rattle.lr_run.specs.Met.{MetNothing}
-use Rattle.lr_run.specs.Runs.{logs_in, dirs_in}
+use Rattle.lr_run.specs.Paths.{logs_in, dirs_in}
 use Rattle.lr_run.specs.Saw.{text_by}
 use Rattle.lr_run.specs.Work.{Work, steps_in}
 use Rattle.lr_writing.specs.Directories.{AreDirectoriesOf}

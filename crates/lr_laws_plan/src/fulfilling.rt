@@ -22,7 +22,7 @@ ghost use Rattle.lr_run.specs.Halt.{Halt, Halts};
 ghost use Rattle.lr_run.specs.Logs.{AreGivenBy};
 ghost use Rattle.lr_run.specs.Met.{MetNothing};
 ghost use Rattle.lr_run.specs.Ran.{RunEnds};
-ghost use Rattle.lr_run.specs.Runs.{dirs_in};
+ghost use Rattle.lr_run.specs.Paths.{dirs_in};
 ghost use Rattle.lr_run.specs.Saw.{ShowsSaw, ShowsSets};
 ghost use Rattle.lr_run.specs.Work.{Work, ShowsWork, IsPlanOf, CarriesOut, BreaksOff, act_faults, run_entries, first_entries};
 ghost use Rattle.lr_laws_looks.specs.Planned.{targets_in};

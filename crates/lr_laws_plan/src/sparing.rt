@@ -13,7 +13,7 @@ ghost use Rattle.lr_host.specs.World.{past};
 ghost use Rattle.lr_laws_acts.specs.Jobs.{jobs_of};
 ghost use Rattle.lr_plan.specs.Asked.{Asked};
 ghost use Rattle.lr_run.specs.Ran.{TellsNamesOf};
-ghost use Rattle.lr_run.specs.Runs.{dirs_in};
+ghost use Rattle.lr_run.specs.Paths.{dirs_in};
 ghost use Rattle.lr_run.specs.Work.{Work, ShowsWork, CarriesOut, act_faults, run_entries};
 ghost use Rattle.lr_laws_plan.specs.Smooth.{IsSmooth};
 

@@ -39,7 +39,7 @@ use Rattle.lr_looks.specs.Reserved.{reserved_by}
 use Rattle.lr_writing.specs.Synced.{AreSynced}
 use Rattle.lr_run.specs.Internal.{plan_for, steps_of_writing, ActsBy, outgrew, acted, Carries, CameTo, WorksTo, SeesTooBig, LooksAndActs, saw_too_big, came_to, IsKnownBefore, KnowsText, WorksOn, knows_none, knows, EndsWork, Begun, Goes, begun}
 use Rattle.lr_run.specs.Ran.{TellsNames, TellsNamesOf}
-use Rattle.lr_run.specs.Runs.{logs_in}
+use Rattle.lr_run.specs.Paths.{logs_in}
 use Rattle.lr_run.specs.Saw.{Saw, ShowsSets, ShowsStateText}
 use Rattle.lr_run.specs.Work.{Acts, Work, act_faults}
 use Rattle.lr_run.proofs.Keeping.{end_keeps}

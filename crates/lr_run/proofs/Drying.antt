@@ -20,10 +20,9 @@ use Rattle.lr_laws_acts.specs.Emptied.{EmptiesCopied}
 use Rattle.lr_laws_acts.proofs.Entries.{quiet_empties}
 use Rattle.lr_laws_looks.proofs.Quiet.{whole_looking, part_looking}
 use Rattle.lr_run.specs.declared.answer.RunStop.TheVariants as stop
-use Rattle.lr_run.specs.Answers.{RunLeaves, Lacks}
+use Rattle.lr_run.specs.InternalAnswers.{RunLeaves, Lacks}
 use Rattle.lr_run.specs.Copied.{IsCopyBy}
-use Rattle.lr_run.specs.Dry.{Plans, PlansBy, unknown, known, Tries, unseen, not_directory, by_none, by_state, LacksTry, before_all, amid_looks, amid_state}
-use Rattle.lr_run.specs.Runs.{of_looks}
+use Rattle.lr_run.specs.InternalDry.{Plans, PlansBy, unknown, known, Tries, unseen, not_directory, by_none, by_state, LacksTry, before_all, amid_looks, amid_state}
 use Rattle.lr_run.proofs.Emptying.{runs_copied, answers_copied}
 use Rattle.lr_run.proofs.Made.{AreMade}
 use Rattle.lr_run.proofs.Seeing.{state_so, looks_so, some_so}

@@ -61,10 +61,10 @@ use Rattle.lr_laws_looks.proofs.Seen.{targets_seen}
 use Rattle.lr_run.specs.declared.answer.Ran.{Ran}
 use Rattle.lr_run.specs.declared.answer.RunStop.{RunStop}
 use Rattle.lr_run.specs.declared.answer.RunStop.TheVariants as stop
-use Rattle.lr_run.specs.Answers.{Answers}
+use Rattle.lr_run.specs.InternalAnswers.{Answers}
 use Rattle.lr_run.specs.Copied.{IsNewest, IsCopyBy}
-use Rattle.lr_run.specs.Runs as runs
-use Rattle.lr_run.specs.Runs.{Looked, plan_in, Worked, Works, not_known, too_big, worked, Runs, no_directory, not_seen, not_begun, BrokeOff, at_first, in_looks, in_acts}
+use Rattle.lr_run.specs.InternalRuns as runs
+use Rattle.lr_run.specs.InternalRuns.{Looked, plan_in, Worked, Works, not_known, too_big, worked, Runs, no_directory, not_seen, not_begun, BrokeOff, at_first, in_looks, in_acts}
 use Rattle.lr_run.proofs.Newest.{target_newest}
 use Rattle.lr_run.proofs.Made.{AreMade, are_made, made_first, made_later}
 use Rattle.lr_run.proofs.Renewing.{between_made}

@@ -14,7 +14,8 @@ use Rattle.lr_plan.specs.declared.plan.Plan.{Plan}
 use Rattle.lr_plan.specs.Steps.{steps_of_plan}
 use Rattle.lr_state.specs.Sights.{StateSights, ShowsState}
 use Rattle.lr_run.specs.Internal.{SomeWork, some_seen, some_done}
-use Rattle.lr_run.specs.Runs.{Looked, plan_in, Worked, Works, not_known, too_big, worked, SomeSeen, BrokeOff}
+use Rattle.lr_run.specs.Halt.{SomeSeen}
+use Rattle.lr_run.specs.InternalRuns.{Looked, plan_in, Worked, Works, not_known, too_big, worked, BrokeOff}
 use Rattle.lr_run.proofs.Shape.{looked_parts, in_parts}
 use Rattle.lr_run.proofs.Seeing.{state_so, seen_so, some_so}
 use Rattle.lr_run.proofs.Stating.{state_writing, writing_does}

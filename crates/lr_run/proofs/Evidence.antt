@@ -31,14 +31,15 @@ use Rattle.lr_writing.specs.Synced.{AreSynced}
 use Rattle.lr_run.specs.declared.answer.Ran.{Ran}
 use Rattle.lr_run.specs.declared.answer.RunStop.{RunStop}
 use Rattle.lr_run.specs.declared.answer.RunStop.TheVariants as stop
-use Rattle.lr_run.specs.Answers.{Answers}
+use Rattle.lr_run.specs.InternalAnswers.{Answers}
 use Rattle.lr_run.specs.Halt as halt
 use Rattle.lr_run.specs.Halt.{Halt, Halts, LacksState, OfFaults, OfLock, OfMemory}
 use Rattle.lr_run.specs.Internal.{saw_too_big, came_to, WorksOn, knows_none, knows}
 use Rattle.lr_run.specs.Ran.{RanSo, RunEnds, halted, came, AnswersHalt}
-use Rattle.lr_run.specs.Runs as runs
+use Rattle.lr_run.specs.InternalRuns as runs
 use Rattle.lr_looks.specs.Inside.{Inside}
-use Rattle.lr_run.specs.Runs.{Looked, Works, Worked, BrokeOff, logs_in}
+use Rattle.lr_run.specs.InternalRuns.{Looked, Works, Worked, BrokeOff}
+use Rattle.lr_run.specs.Paths.{logs_in}
 use Rattle.lr_run.specs.Saw.{Saw, ShowsStateText, ShowsStateFile, by_dir, by_none, ShowsSets, plan_by, text_by, measured_by}
 use Rattle.lr_run.specs.Work.{Work, act_faults, IsPlanOf, ShowsWork, CarriesOut, BreaksOff}
 use Rattle.lr_run.proofs.Knowing.{is_known}
@@ -178,7 +179,7 @@ module _ (state : Path) (rules : Rules) (clock : Clock) (asked : Asked) where
     by_halt r h (halt.short e i) a = by_memory r (subst (λ (x : Halt). AnswersHalt earlier x r) e a) (runs.in_looks i)
     by_halt r h (halt.short_anew d e t) a = absurd (cc)
 
-    by_work : (r : Result Ran RunStop) (work : Option Work) → RunEnds false state rules clock asked earlier r work ts → Answers state false asked clock rules earlier r ts
+    pub by_work : (r : Result Ran RunStop) (work : Option Work) → RunEnds false state rules clock asked earlier r work ts → Answers state false asked clock rules earlier r ts
     by_work r work (halted h none hs a) = by_halt r h hs a
     by_work (Ok ran) work (came w same shows a e) = (
       faults_of w,

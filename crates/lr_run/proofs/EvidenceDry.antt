@@ -10,10 +10,10 @@ use Rattle.lr_plan.specs.Asked.{Asked}
 use Rattle.lr_plan.specs.declared.plan.Plan.{Plan}
 use Rattle.lr_state.specs.Known.{TextSaysOnly}
 use Rattle.lr_looks.specs.Found.{FoundLog, paths_of}
-use Rattle.lr_run.specs.Dry as old
-use Rattle.lr_run.specs.Dry.{PlanFollows, Plans, Tries}
+use Rattle.lr_run.specs.InternalDry as old
+use Rattle.lr_run.specs.InternalDry.{PlanFollows, Plans, Tries}
 use Rattle.lr_run.specs.Saw.{Saw, ShowsStateFile, by_dir, by_none, ShowsSaw}
-use Rattle.lr_run.specs.Trying.{PlanFollowsBy}
+use Rattle.lr_run.specs.InternalTrying.{PlanFollowsBy}
 use Rattle.lr_run.proofs.Knowing.{is_known}
 
 -- an empty text says an empty table

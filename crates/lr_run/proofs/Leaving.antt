@@ -1,5 +1,5 @@
 -- What a run left, by what it came to or why it halted, as evidence in its entries.
-use Rattle.std.proofs.Common.{◌≡◌, ◌≤◌, inl, inr, ℕ, Bool, true, false, refl, sym, ap, ◌∙◌, subst, append_assoc, List, [], ◌∷◌, ◌++◌, length, Option, Some, None}
+use Rattle.std.proofs.Common.{◌≡◌, ◌≤◌, inl, inr, ℕ, Bool, true, false, refl, sym, ap, ◌∙◌, subst, append_assoc, List, [], ◌∷◌, ◌++◌, length, Option, Some, None, Result, Ok, Err}
 use Rattle.std.proofs.lemmas.List.{append-nil}
 use Rattle.lr_rules.specs.declared.clock.Clock.{Clock}
 use Rattle.lr_rules.specs.declared.fault.Fault.{Fault}
@@ -12,6 +12,7 @@ use Rattle.lr_rules.specs.Path.{parent_of}
 use Rattle.lr_rules.specs.StatePath.{state_part}
 use Rattle.lr_host.specs.declared.entry.Entry.{Entry}
 use Rattle.lr_host.specs.declared.entry.Entry.TheVariants as entry
+use Rattle.lr_host.specs.declared.journal.Journal.{Journal}
 use Rattle.lr_host.specs.declared.thing.Seen.{Seen}
 use Rattle.lr_host.specs.Looks.{Sees, IsDir, IsNoDir}
 use Rattle.lr_host.specs.Told.{Each, Maybe}
@@ -20,6 +21,7 @@ use Rattle.lr_host.proofs.Each.{each_append}
 use Rattle.lr_run.proofs.Made.{AreMade}
 use Rattle.lr_run.proofs.Shape.{sees_quiet}
 use Rattle.lr_laws.specs.Renewing.{LeavesAlone, IsWithinDirs, MayRenew, left_alone}
+use Rattle.lr_laws.specs.StateWhole.{KeepsWhole}
 use Rattle.lr_state.specs.Written.{table_text}
 use Rattle.lr_looks.specs.Found.{FoundLog, paths_of}
 use Rattle.lr_state.specs.After.{after}
@@ -27,20 +29,25 @@ use Rattle.lr_plan.specs.Asked.{Asked}
 use Rattle.lr_plan.specs.declared.plan.Plan.{Plan}
 use Rattle.lr_plan.specs.Done.{rotated_logs}
 use Rattle.lr_laws_looks.proofs.Quiet.{whole_looking}
-use Rattle.lr_run.specs.Answers.{RunLeaves, Holds, Lacks}
-use Rattle.lr_run.specs.Dry as dry
-use Rattle.lr_run.specs.Dry.{Tries}
+use Rattle.lr_run.specs.declared.answer.Ran.{Ran}
+use Rattle.lr_run.specs.declared.answer.RunStop.{RunStop}
+use Rattle.lr_run.specs.declared.answer.RunStop.TheVariants as stop
+use Rattle.lr_run.specs.InternalAnswers.{RunLeaves, Holds, Lacks}
+use Rattle.lr_run.specs.InternalDry as dry
+use Rattle.lr_run.specs.InternalDry.{Tries}
 use Rattle.lr_run.specs.Halt as halt
-use Rattle.lr_run.specs.Halt.{Halt, OfFaults, OfLock, OfMemory, Halts, LacksState}
-use Rattle.lr_run.specs.Runs as runs
+use Rattle.lr_run.specs.Halt.{Halt, OfFaults, OfLock, OfMemory, Halts, LacksState, SomeSeen}
+use Rattle.lr_run.specs.InternalRuns as runs
 use Rattle.lr_looks.specs.Inside.{Inside}
-use Rattle.lr_run.specs.Runs.{Works, BrokeOff, SomeSeen}
+use Rattle.lr_run.specs.InternalRuns.{Works, BrokeOff}
+use Rattle.lr_run.specs.Ran.{RunEnds, halted, came, RanSo}
 use Rattle.lr_run.specs.Saw.{ShowsStateText, text_by}
+use Rattle.lr_run.specs.State.{IsNewText}
 use Rattle.lr_run.specs.Work.{Work, ShowsWork, CarriesOut, BreaksOff, DidNothing, act_faults, run_entries}
 use Rattle.lr_run.proofs.Evidence.{faults_of, text_shown, too_big_of, inside_as, within_of, worked_of, broken_of}
 use Rattle.lr_run.proofs.EvidenceDry.{tries_seen}
 use Rattle.lr_run.proofs.Seeing.{state_so, looks_so, some_so}
-use Rattle.lr_run.proofs.Renewing.{worked_may, between_made, broke_aside, around, calm_aside, calm_within}
+use Rattle.lr_run.proofs.Renewing.{worked_may, between_made, broke_aside, around, behind_quiet, calm_aside, calm_within, left_whole}
 use Rattle.lr_run.proofs.Sighted.{sees_so, then_so, halted_so}
 use Rattle.lr_run.proofs.Turned.{inside}
 
@@ -164,3 +171,17 @@ module _ (P : Entry → Type 0) (look : (x : Path) (seen : Option Seen) → P (e
   pub halts_so : (debug : Bool) (state : Path) (rules : Rules) (clock : Clock) (asked : Asked) (h : Halt) (ts : List Entry) → Halts debug state rules clock asked h ts → Each P ts
   halts_so true state rules clock asked h ts hs = halted_so P look list read state rules clock asked h ts hs
   halts_so false state rules clock asked h ts hs = acting_so state rules clock asked h ts hs
+
+-- ---- a run that acts
+
+-- it leaves its state alone, or gives it the text of what it came to
+ends_may : (state : Path) (rules : Rules) (clock : Clock) (asked : Asked) (earlier : List Fault) (r : Result Ran RunStop) (work : Option Work) (ts : List Entry) → AreMade ts → RunEnds false state rules clock asked earlier r work ts → MayRenew state (IsNewText state clock asked rules ts) ts
+ends_may state rules clock asked earlier r work ts made (halted h none hs a) = left_alone (halts_so (LeavesAlone state) (λ x seen i. i) (λ x names i. i) (λ x place piece short i. i) (λ x now rs i. i) (λ i. i) false state rules clock asked h ts hs)
+ends_may state rules clock asked earlier (Ok ran) work ts made (came w same shows a e) = behind_quiet state (λ text. text ≡ text_by w.saw clock (rotated_logs w.acts.marks)) (IsNewText state clock asked rules ts)
+    (λ text is. record { work = w; shows = shows; carried = a.1; entries = e; text_is = is }) [] ts tt
+    (subst (MayRenew state (λ text. text ≡ text_by w.saw clock (rotated_logs w.acts.marks))) (sym e) (carried_may state rules clock asked w shows a.1 (subst AreMade e made)))
+ends_may state rules clock asked earlier (Err stop.Memory) work ts made (came w same shows a e) = subst (MayRenew state (IsNewText state clock asked rules ts)) (sym e) (broken_may state rules clock asked w shows a (IsNewText state clock asked rules ts) (subst AreMade e made))
+ends_may state rules clock asked earlier (Err stop.Held) work ts made (came w same shows a e) = absurd a
+
+pub run_whole : (state : Path) (rules : Rules) (clock : Clock) (asked : Asked) (earlier : List Fault) (r : Result Ran RunStop) {o n : Option Journal} → RanSo false state rules clock asked earlier r o n → KeepsWhole state (IsNewText state clock asked rules) o n
+run_whole state rules clock asked earlier r ran = left_whole state (IsNewText state clock asked rules) (RunEnds false state rules clock asked earlier r ran.work) ran.shows (λ ts made h. ends_may state rules clock asked earlier r ran.work ts made h)

@@ -30,8 +30,8 @@ use Rattle.lr_laws_rotations.specs.Runs.{IsWholeRunBy}
 use Rattle.lr_laws_rotations.proofs.RunSafety.{all_safe_aside}
 use Rattle.lr_run.specs.declared.answer.Ran.{Ran}
 use Rattle.lr_run.specs.declared.answer.RunStop.{RunStop}
-use Rattle.lr_run.specs.Answers.{Answers}
-use Rattle.lr_run.specs.Runs.{Runs}
+use Rattle.lr_run.specs.InternalAnswers.{Answers}
+use Rattle.lr_run.specs.InternalRuns.{Runs}
 use Rattle.lr_run.proofs.Shape.{whole_run}
 use Rattle.lr_run.proofs.Moving.{IsOwnCopy, lets_go_whole, quiet_lets, answers_let, runs_let}
 

@@ -73,9 +73,9 @@ use Rattle.lr_laws_looks.proofs.Seen.{targets_seen}
 use Rattle.lr_run.specs.declared.answer.Ran.{Ran}
 use Rattle.lr_run.specs.declared.answer.RunStop.{RunStop}
 use Rattle.lr_run.specs.declared.answer.RunStop.TheVariants as stop
-use Rattle.lr_run.specs.Answers.{Answers}
-use Rattle.lr_run.specs.Runs as runs
-use Rattle.lr_run.specs.Runs.{Looked, plan_in, Worked, Works, not_known, too_big, worked, Runs, no_directory, not_seen, not_begun, BrokeOff, at_first as at_none, in_looks, in_acts}
+use Rattle.lr_run.specs.InternalAnswers.{Answers}
+use Rattle.lr_run.specs.InternalRuns as runs
+use Rattle.lr_run.specs.InternalRuns.{Looked, plan_in, Worked, Works, not_known, too_big, worked, Runs, no_directory, not_seen, not_begun, BrokeOff, at_first as at_none, in_looks, in_acts}
 use Rattle.lr_run.proofs.Shape.{sees_quiet, some_quiet, seen_later, seen_quiet, looked_parts, in_parts}
 
 -- The job copies the log of the set from where it waits to a member, by the part file of that.

@@ -29,11 +29,11 @@ use Rattle.lr_family.specs.declared.directory.DirStop.{DirStop}
 use Rattle.lr_family.specs.declared.directory.DirStop.TheVariants as dir
 use Rattle.lr_family.specs.Directory.{DirSeen, DirLookStopped, dir_fault_of}
 use Rattle.lr_run.specs.Halt as halt
-use Rattle.lr_run.specs.Halt.{Halts, LacksState, OfFaults, OfLock, OfMemory}
+use Rattle.lr_run.specs.Halt.{Halts, LacksState, OfFaults, OfLock, OfMemory, SomeSeen}
 use Rattle.lr_run.specs.Internal.{CameTo, WorksTo, SeesTooBig, saw_too_big, came_to, KnowsText, WorksOn, knows_none, knows, SomeWork, some_seen, some_done, Begun, Goes, begun, not_begun, RunStopped, StopsSo}
 use Rattle.lr_run.specs.Ran.{RanSo, RunEnds, halted, came, TellsNamesOf}
 use Rattle.lr_looks.specs.Inside.{Inside}
-use Rattle.lr_run.specs.Runs as runs
+use Rattle.lr_run.specs.InternalRuns as runs
 use Rattle.lr_run.specs.Saw.{Saw, by_dir}
 use Rattle.lr_run.specs.Work.{Work, entries_of}
 use Rattle.lr_run.proofs.Coming.{begins, both_told, tells_later}
@@ -127,7 +127,7 @@ behind_dir state asked clock rules earlier ran dir (Ok x) {o} {m} n e l h = dir_
 behind_dir state asked clock rules earlier ran dir (Err x) n e l h = tt
 
 lacked : (state : Path) (asked : Asked) (clock : Clock) (rules : Rules) (ts : List Entry) → (i : Inside state clock rules (SomeWork state rules.sets clock asked) ts) → SomeWork state rules.sets clock asked i.between → runs.LacksMemory state asked clock rules ts
-lacked state asked clock rules ts i (some_seen s) = runs.in_looks (inside_as state clock rules (SomeWork state rules.sets clock asked) (runs.SomeSeen state rules.sets) ts i s)
+lacked state asked clock rules ts i (some_seen s) = runs.in_looks (inside_as state clock rules (SomeWork state rules.sets clock asked) (SomeSeen state rules.sets) ts i s)
 lacked state asked clock rules ts i (some_done b) = runs.in_acts (inside_as state clock rules (SomeWork state rules.sets clock asked) (runs.BrokeOff state rules.sets clock asked) ts i b)
 
 stops : (state : Path) (asked : Asked) (clock : Clock) (rules : Rules) (why : RunStop) (ts us : List Entry) → Sees (parent_of state) IsDir ts → RunStopped state asked clock rules why us → StopsSo state asked clock rules why (ts ++ us)

@@ -1,8 +1,7 @@
 -- The state stays whole over a run.
-use Rattle.std.proofs.Common.{◌≡◌, ◌⊎◌, inl, inr, ⊎_elim, ℕ, false, refl, sym, ◌∙◌, ap, subst, List, [], ◌∷◌, ◌++◌, map, reverse, append_assoc, Option, Some, None, Result, Ok, Err}
+use Rattle.std.proofs.Common.{◌≡◌, ◌⊎◌, inl, inr, ⊎_elim, ℕ, false, refl, sym, ◌∙◌, ap, subst, List, [], ◌∷◌, ◌++◌, map, reverse, append_assoc, Option, Some, None}
 use Rattle.std.specs.Prelude.{filter}
 use Rattle.std.specs.List.{flat_map}
-use Rattle.std.proofs.lemmas.List.{append-nil}
 use Rattle.lr_rules.specs.declared.clock.Clock.{Clock}
 use Rattle.lr_rules.specs.declared.fault.Fault.{Fault}
 use Rattle.lr_rules.specs.declared.path.Path.{Path}
@@ -14,7 +13,6 @@ use Rattle.lr_host.specs.declared.entry.Entry.{Entry}
 use Rattle.lr_host.specs.declared.entry.Entry.TheVariants as entry
 use Rattle.lr_host.specs.declared.journal.Journal.{Journal}
 use Rattle.lr_host.specs.Lists.{IsIn}
-use Rattle.lr_host.specs.Looks.{IsDir}
 use Rattle.lr_host.specs.Quiet.{IsQuiet, AreQuiet, is_disk_change}
 use Rattle.lr_host.specs.Steps.{is_change}
 use Rattle.lr_host.specs.Told.{Each, IsTools, Left, not_told, is_told, Maybe}
@@ -44,22 +42,14 @@ use Rattle.lr_laws_looks.proofs.Free.{targets_free}
 use Rattle.lr_laws_looks.proofs.Ready.{plans_have_logs}
 use Rattle.lr_laws_looks.proofs.Quiet.{whole_quiet}
 use Rattle.lr_laws_looks.proofs.Seen.{targets_seen, targets_have_names, targets_have_paths}
-use Rattle.lr_state.proofs.Quiet.{state_quiet}
 use Rattle.lr_writing.specs.Synced.{AreSynced}
 use Rattle.lr_writing.specs.Named.{Spares, NamedLast, not_named, named}
 use Rattle.lr_writing.proofs.Named.{named_last}
-use Rattle.lr_plan.specs.declared.plan.Plan.{Plan}
-use Rattle.lr_run.specs.declared.answer.Ran.{Ran}
-use Rattle.lr_run.specs.declared.answer.RunStop.{RunStop}
-use Rattle.lr_run.specs.declared.answer.RunStop.TheVariants as stop
-use Rattle.lr_run.specs.Runs as runs
-use Rattle.lr_run.specs.Answers.{Answers}
-use Rattle.lr_run.specs.Runs.{Looked, Worked, Works, not_known, too_big, worked, Runs, no_directory, not_seen, not_begun, BrokeOff, at_first, in_looks, in_acts, plan_in, state_text}
-use Rattle.lr_run.specs.State.{TellsState, IsNewText}
+use Rattle.lr_run.specs.InternalRuns.{Looked, Worked, BrokeOff, plan_in, state_text}
 use Rattle.lr_run.proofs.Covering.{none_changed, none_aside, none_within, of_changes, some_aside}
 use Rattle.lr_run.proofs.Guarding.{changes_within}
 use Rattle.lr_run.proofs.Made.{AreMade, are_made, made_by_tools, made_first, made_later, DontClash, dont_clash}
-use Rattle.lr_run.proofs.Shape.{sees_quiet, some_quiet, seen_quiet, looked_parts, in_parts}
+use Rattle.lr_run.proofs.Shape.{seen_quiet, looked_parts, in_parts}
 
 -- ---- what the writing leaves
 
@@ -258,42 +248,9 @@ module _ (state : Path) (rules : Rules) (clock : Clock) (asked : Asked) where
         in_order : front ++ (ts ++ entry.Ends ∷ []) ≡ (front ++ (seen ts l ++ acts)) ++ (w.acted.entries.entries.back ++ entry.Ends ∷ [])
         in_order = ap (λ es. front ++ (es ++ entry.Ends ∷ [])) in_three ∙ (ap (λ es. front ++ es) (append_assoc (seen ts l ++ acts) w.acted.entries.entries.back (entry.Ends ∷ [])) ∙ sym (append_assoc front (seen ts l ++ acts) (w.acted.entries.entries.back ++ entry.Ends ∷ [])))
 
-  -- the work, between what was before and the end
-  works_may : (plan : Option Plan) (own : List Fault) (before between : List Entry) → AreQuiet before → AreMade between → Works state rules.sets clock asked plan own between
-      → (IsText : List ℕ → Type 0) → ((text : List ℕ) → TellsState state rules.sets clock asked text between → IsText text) → MayRenew state IsText (before ++ (entry.Starts state clock.now rules ∷ (between ++ entry.Ends ∷ [])))
-  works_may plan own before between q made (not_known sights f known lost e shown) IsText tells = left_alone (around state state clock rules before between (calm_aside state before q) (calm_aside state between (state_quiet state 65_536 sights between shown)))
-  works_may plan own before between q made (too_big l big lost e none) IsText tells = left_alone (around state state clock rules before between (calm_aside state before q)
-      (calm_aside state between (subst AreQuiet (sym (l.joined ∙ (ap (λ xs. l.reads ++ (l.looks ++ xs)) none ∙ ap (λ xs. l.reads ++ xs) (append-nil l.looks)))) (seen_quiet state rules.sets between l))))
-  works_may plan own before between q made (worked w is) IsText tells = subst (MayRenew state IsText) (append_assoc before (entry.Starts state clock.now rules ∷ []) (between ++ entry.Ends ∷ []))
-      (worked_may own between w made IsText (tells _ (record { own = own; worked = w; text_is = refl })) (before ++ entry.Starts state clock.now rules ∷ [])
-      (each_append (LeavesAlone state) before (entry.Starts state clock.now rules ∷ []) (calm_aside state before q) ((λ i. i), tt))
-      (each_append (IsWithinDirs (state_part state) w.acted.dirs) before (entry.Starts state clock.now rules ∷ []) (calm_within (state_part state) w.acted.dirs before q) ((λ x i. absurd i), tt)))
-
-  -- what a run leaves
+  -- what a run made between its begin and its end
   pub between_made : (before between ts : List Entry) → ts ≡ before ++ (entry.Starts state clock.now rules ∷ (between ++ entry.Ends ∷ [])) → AreMade ts → AreMade between
   between_made before between ts e made = made_first between (entry.Ends ∷ []) (made_later (entry.Starts state clock.now rules ∷ []) (between ++ entry.Ends ∷ []) (made_later before (entry.Starts state clock.now rules ∷ (between ++ entry.Ends ∷ [])) (subst AreMade e made)))
-
-  abbrev IsTextOf : List Entry → List ℕ → Type 0
-  IsTextOf ts text = IsNewText state clock asked rules ts text
-
-  pub runs_may : (plan : Option Plan) (own : List Fault) (ts : List Entry) → AreMade ts → Runs state asked clock rules plan own ts → MayRenew state (IsTextOf ts) ts
-  runs_may plan own ts made (no_directory lost e s) = quiet_alone state (IsTextOf ts) ts (sees_quiet (parent_of state) _ ts s)
-  runs_may plan own ts made (not_seen lost e s) = quiet_alone state (IsTextOf ts) ts (subst AreQuiet (sym s) tt)
-  runs_may plan own ts made (not_begun lost e t) = left_alone (go t.second)
-    where
-      go : (t.back ≡ []) ⊎ (t.back ≡ entry.Starts state clock.now rules ∷ []) → Each (LeavesAlone state) ts
-      go (inl none) = calm_aside state ts (subst AreQuiet (sym (t.joined ∙ (ap (λ es. t.front ++ es) none ∙ append-nil t.front))) (sees_quiet (parent_of state) IsDir t.front t.first))
-      go (inr one) = subst (Each (LeavesAlone state)) (sym (t.joined ∙ ap (λ es. t.front ++ es) one)) (each_append (LeavesAlone state) t.front (entry.Starts state clock.now rules ∷ []) (calm_aside state t.front (sees_quiet (parent_of state) IsDir t.front t.first)) ((λ i. i), tt))
-  runs_may plan own ts made (runs.began i) = subst (MayRenew state (IsTextOf ts)) (sym i.entries)
-      (works_may plan own i.before i.between (sees_quiet (parent_of state) IsDir i.before i.directory) (between_made i.before i.between ts i.entries made) i.within (IsTextOf ts)
-      (λ text t. record { before = i.before; between = i.between; entries = i.entries; directory = i.directory; within = t }))
-
-  pub answers_may : (earlier : List Fault) (r : Result Ran RunStop) (ts : List Entry) → AreMade ts → Answers state false asked clock rules earlier r ts → MayRenew state (IsTextOf ts) ts
-  answers_may earlier (Ok ran) ts made h = runs_may ran.plan h.0 ts made h.2
-  answers_may earlier (Err stop.Held) ts made h = quiet_alone state (IsTextOf ts) ts (sees_quiet (parent_of state) IsDir ts h)
-  answers_may earlier (Err stop.Memory) ts made (at_first e) = quiet_alone state (IsTextOf ts) ts (subst AreQuiet (sym e) tt)
-  answers_may earlier (Err stop.Memory) ts made (in_looks i) = subst (MayRenew state (IsTextOf ts)) (sym i.entries) (left_alone (around state state clock rules i.before i.between (calm_aside state i.before (sees_quiet (parent_of state) IsDir i.before i.directory)) (calm_aside state i.between (some_quiet state rules.sets i.between i.within))))
-  answers_may earlier (Err stop.Memory) ts made (in_acts i) = subst (MayRenew state (IsTextOf ts)) (sym i.entries) (left_alone (around state state clock rules i.before i.between (calm_aside state i.before (sees_quiet (parent_of state) IsDir i.before i.directory)) (broke_aside i.between (between_made i.before i.between ts i.entries made) i.within)))
 
 -- ---- a call
 
@@ -305,6 +262,3 @@ left_whole state IsText P (is_told {j = j} {k = k} {es = es} m h) f = λ journal
   made = m;
   each = λ u since until. whole_at state (IsText (reverse es)) (past j) (past k) es m journal (f (reverse es) (are_made (past j) (past k) es m journal) h) settled spare u since until;
 }
-
-pub run_whole : (state : Path) (asked : Asked) (clock : Clock) (rules : Rules) (earlier : List Fault) (r : Result Ran RunStop) {o n : Option Journal} → Left (Answers state false asked clock rules earlier r) o n → KeepsWhole state (IsNewText state clock asked rules) o n
-run_whole state asked clock rules earlier r l = left_whole state (IsNewText state clock asked rules) (Answers state false asked clock rules earlier r) l (λ ts made h. answers_may state rules clock asked earlier r ts made h)

@@ -34,7 +34,7 @@ use Rattle.lr_laws_rotations.proofs.Beside.{none_own}
 use Rattle.lr_laws_rotations.specs.Runs.{AllTurnedBy}
 use Rattle.lr_laws_rotations.proofs.Plan.{plan_is_one}
 use Rattle.lr_laws_rotations.proofs.LogSeen.{any_names, log_among}
-use Rattle.lr_run.specs.Rotated.{rotated_in}
+use Rattle.lr_run.specs.InternalRuns.{rotated_in}
 use Rattle.lr_laws_rotations.specs.Seen.{IsLogSeen}
 use Rattle.lr_laws_acts.specs.Fitting.{NoneMeets, DontMeet}
 use Rattle.lr_laws_acts.proofs.Planning.{ready_planned}
@@ -47,7 +47,7 @@ use Rattle.lr_laws_looks.proofs.Free.{targets_free}
 use Rattle.lr_laws_looks.proofs.Ready.{plans_have_logs}
 use Rattle.lr_laws_looks.proofs.Seen.{targets_seen, targets_have_names}
 use Rattle.lr_looks.specs.Inside.{Inside}
-use Rattle.lr_run.specs.Runs.{Looked, Worked, plan_in}
+use Rattle.lr_run.specs.InternalRuns.{Looked, Worked, plan_in}
 use Rattle.lr_run.proofs.Shape.{sees_quiet, ended_whole, written_whole, seen_later, seen_quiet, in_parts, all_of_state}
 
 -- ---- one of the logs

@@ -13,7 +13,7 @@ use Rattle.lr_plan.specs.Planned.{decision}
 use Rattle.lr_plan.specs.Steps.{program}
 use Rattle.lr_plan.specs.Cut.{IsProgram}
 use Rattle.lr_acts.specs.Making.{HasProgram}
-use Rattle.lr_run.specs.Runs.{BrokeOff}
+use Rattle.lr_run.specs.InternalRuns.{BrokeOff}
 use Rattle.lr_run.specs.Scripts.{RunNothing}
 use Rattle.lr_run.proofs.Simple.{EachStep, IsOfSteps, AreOfScripts, plan_so}
 

@@ -13,7 +13,8 @@ use Rattle.lr_state.specs.declared.look.LookStop.{LookStop}
 use Rattle.lr_state.specs.ReadPieces.{Reading, Whole, Broken, AreSome, IsReading, reads_from, reads_of}
 use Rattle.lr_state.specs.Sights.{StateSight, Failed, Nothing, Saw, StateSights, ShowsState, found, state_look, text_entries, behind_part, behind_state}
 use Rattle.lr_laws_looks.proofs.Quiet.{whole_looking, part_looking}
-use Rattle.lr_run.specs.Runs.{Looked, SomeSeen, of_state, of_looks}
+use Rattle.lr_run.specs.Halt.{SomeSeen, of_state, of_looks}
+use Rattle.lr_run.specs.InternalRuns.{Looked}
 
 -- each of these pieces has 65,536 bytes at most
 abbrev pub AreShort : List (List ℕ) → Type 0

@@ -42,9 +42,10 @@ use Rattle.lr_run.specs.declared.answer.Ran.{Ran}
 use Rattle.lr_run.specs.declared.answer.RunStop.{RunStop}
 use Rattle.lr_plan.specs.declared.plan.Plan.{Plan}
 use Rattle.lr_run.specs.declared.answer.RunStop.TheVariants as stop
-use Rattle.lr_run.specs.Answers.{Answers}
-use Rattle.lr_run.specs.Runs as runs
-use Rattle.lr_run.specs.Runs.{Looked, Worked, Works, not_known, too_big, worked, Runs, no_directory, not_seen, not_begun, SomeSeen, of_state, of_looks, BrokeOff, at_first, in_looks, in_acts}
+use Rattle.lr_run.specs.InternalAnswers.{Answers}
+use Rattle.lr_run.specs.InternalRuns as runs
+use Rattle.lr_run.specs.Halt.{SomeSeen, of_state, of_looks}
+use Rattle.lr_run.specs.InternalRuns.{Looked, Worked, Works, not_known, too_big, worked, Runs, no_directory, not_seen, not_begun, BrokeOff, at_first, in_looks, in_acts}
 use Rattle.lr_run.proofs.Stating.{state_writing, changes_of_state}
 use Rattle.lr_laws_looks.proofs.Apart.{targets_apart}
 use Rattle.lr_laws_looks.proofs.Quiet.{whole_quiet, part_quiet}

@@ -20,10 +20,11 @@ use Rattle.lr_laws_family.proofs.Weaving.{each_in}
 use Rattle.lr_run.specs.declared.answer.Ran.{Ran}
 use Rattle.lr_run.specs.declared.answer.RunStop.{RunStop}
 use Rattle.lr_run.specs.declared.answer.RunStop.TheVariants as stop
-use Rattle.lr_run.specs.Answers.{Answers, HasShortReads}
+use Rattle.lr_run.specs.InternalAnswers.{Answers}
+use Rattle.lr_run.specs.Saw.{HasShortReads}
 use Rattle.lr_run.specs.Ran.{RanSo}
 use Rattle.lr_looks.specs.Inside.{Inside}
-use Rattle.lr_run.specs.Runs.{Runs, no_directory, not_seen, not_begun, began, LacksMemory, at_first, in_looks, in_acts}
+use Rattle.lr_run.specs.InternalRuns.{Runs, no_directory, not_seen, not_begun, began, LacksMemory, at_first, in_looks, in_acts}
 use Rattle.lr_run.proofs.Entries.{first_so, works_so, broke_so}
 use Rattle.lr_run.proofs.Sighted.{ends_so}
 use Rattle.lr_run.proofs.Working.{IsDoing}

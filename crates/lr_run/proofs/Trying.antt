@@ -37,13 +37,13 @@ use Rattle.lr_looks.specs.Reserved.{reserved_by}
 use Rattle.lr_run.specs.declared.answer.Ran.{Ran}
 use Rattle.lr_run.specs.declared.answer.RunStop.{RunStop}
 use Rattle.lr_run.specs.declared.answer.RunStop.TheVariants as stop
-use Rattle.lr_run.specs.Dry.{PlanFollows}
-use Rattle.lr_run.specs.Halt.{OfFaults, OfMemory, Halts, not_seen, no_directory, unknown, too_big, short, short_anew}
+use Rattle.lr_run.specs.InternalDry.{PlanFollows}
+use Rattle.lr_run.specs.Halt.{OfFaults, OfMemory, Halts, not_seen, no_directory, unknown, too_big, short, short_anew, SomeSeen, of_state, of_looks}
 use Rattle.lr_run.specs.Internal.{plan_if, faults_if}
 use Rattle.lr_run.specs.Ran.{halted, came, RanSo}
-use Rattle.lr_run.specs.Runs.{measured_of, SomeSeen, of_state, of_looks}
+use Rattle.lr_run.specs.Paths.{measured_of}
 use Rattle.lr_run.specs.Saw.{Saw, ShowsStateFile, by_dir, by_none, ShowsSaw}
-use Rattle.lr_run.specs.Trying.{PlanFollowsBy, PlansOn, PlansByOn, not_known, by_text, TriesOn}
+use Rattle.lr_run.specs.InternalTrying.{PlanFollowsBy, PlansOn, PlansByOn, not_known, by_text, TriesOn}
 use Rattle.lr_run.specs.Work.{Work, no_acts}
 use Rattle.lr_run.proofs.Knowing.{known_text}
 use Rattle.lr_run.proofs.Works.{plan_free, none_fell, some_of_whole, none_sights, none_shown}

@@ -17,7 +17,7 @@ use Rattle.lr_laws_looks.specs.Planned.{targets_in}
 use Rattle.lr_laws_looks.proofs.Planned.{plan_targets}
 use Rattle.lr_run.specs.Rotated.{rotated_targets, IsTurnedAmong, TurnLogs}
 use Rattle.lr_looks.specs.Inside.{Inside}
-use Rattle.lr_run.specs.Runs.{Worked}
+use Rattle.lr_run.specs.InternalRuns.{Worked}
 use Rattle.lr_run.specs.Work.{Work, IsPlanOf, ShowsWork, CarriesOut, run_entries}
 use Rattle.lr_run.proofs.Evidence.{faults_of, text_shown, worked_of}
 use Rattle.lr_run.proofs.Turning.{run_turned}

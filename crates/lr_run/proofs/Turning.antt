@@ -34,7 +34,7 @@ use Rattle.lr_laws_looks.specs.Targets.{groups_of}
 use Rattle.lr_laws_looks.proofs.Apart.{targets_apart}
 use Rattle.lr_laws_looks.proofs.Ready.{plans_have_logs}
 use Rattle.lr_looks.specs.Inside.{Inside}
-use Rattle.lr_run.specs.Runs.{Worked, plan_in}
+use Rattle.lr_run.specs.InternalRuns.{Worked, plan_in}
 use Rattle.lr_run.proofs.Members.{HasMembers, job_part, part_no_log, has_members}
 use Rattle.lr_run.proofs.Rotating as rotating
 use Rattle.lr_laws_family.specs.Made.{AreOutside, RotatesAmong}
@@ -46,7 +46,8 @@ use Rattle.lr_laws_rotations.proofs.Whole.{rotates}
 use Rattle.lr_laws_acts.specs.Copied.{CopyStands, IsSameFor}
 use Rattle.lr_laws_acts.proofs.Rotates.{copied_among}
 use Rattle.lr_laws_acts.proofs.Ways.{has_job}
-use Rattle.lr_run.specs.Rotated.{rotated_in, IsTurnedAmong}
+use Rattle.lr_run.specs.InternalRuns.{rotated_in}
+use Rattle.lr_run.specs.Rotated.{IsTurnedAmong}
 
 module _ (state : Path) (asked : Asked) (clock : Clock) (rules : Rules) (own : List Fault) (p q : Past) (es reads acts : List Entry) (made : Made p es q) (journal : IsJournal p) (joined : reverse es ≡ reads ++ acts) (quiet : AreQuiet reads)
     (i : Inside state clock rules (Worked state rules.sets clock asked own) acts) (met_none : i.within.acted.entries.of_plan ≡ []) (t : Target) (one : IsIn t (rotated_in state rules.sets i.between i.within.looked clock asked)) where

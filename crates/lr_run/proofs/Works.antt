@@ -10,7 +10,6 @@ use Rattle.lr_rules.specs.declared.clock.Clock.{Clock}
 use Rattle.lr_rules.specs.declared.fault.CallKind.{CallKind}
 use Rattle.lr_rules.specs.declared.fault.Fault.{Fault}
 use Rattle.lr_rules.specs.declared.fault.Fault.TheVariants as fault
-use Rattle.lr_rules.specs.declared.fault.StateKind.TheVariants as kind
 use Rattle.lr_rules.specs.declared.memory.Memory.{Memory}
 use Rattle.lr_rules.specs.declared.rule.Rule.{Rule}
 use Rattle.lr_rules.specs.declared.rules.Rules.{Rules}
@@ -60,8 +59,8 @@ use Rattle.lr_laws_looks.proofs.Ready.{plans_have_logs, plans_read_own}
 use Rattle.lr_laws_looks.proofs.Seen.{targets_seen, targets_have_names, targets_have_paths}
 use Rattle.lr_run.specs.declared.ready.Ready.{Ready}
 use Rattle.lr_run.specs.Internal.{ReadyFor, MayBeReady, ActsAndWrites, SomeActs, plan_for, SomeWork, some_seen, some_done, EndsBehindLooks, EndsBehindState}
-use Rattle.lr_run.specs.Runs as runs
-use Rattle.lr_run.specs.Runs.{logs_in}
+use Rattle.lr_run.specs.Halt as halt
+use Rattle.lr_run.specs.Paths.{logs_in}
 use Rattle.lr_run.specs.Work.{act_faults}
 use Rattle.lr_run.proofs.Simple.{AreSimple, plan_simple}
 
@@ -210,7 +209,7 @@ reads_none state answer e = record { sights = none_sights; shown = none_shown st
 pub none_acted : {T E : Type 0} (r : Result T E) (rules : Rules) (looks : Looks) (state : Path) (remembered : Remembered) (clock : Clock) (asked : Asked) (o : Option Journal) → OnErr r (Left (EndsBehindLooks rules looks state remembered clock asked) o o)
 none_acted (Ok x) rules looks state remembered clock asked o = tt
 none_acted (Err x) rules looks state remembered clock asked o = left_first (EndsBehindLooks rules looks state remembered clock asked) o (record {
-  some = λ sights reads ls of_looks known read shown kept. some_seen (runs.of_looks sights remembered known (record {
+  some = λ sights reads ls of_looks known read shown kept. some_seen (halt.of_looks sights remembered known (record {
     front = reads;
     back = ls ++ [];
     joined = refl;
@@ -238,7 +237,7 @@ some_acted (Err u) state rules looks remembered clock asked ready x y m n r p h 
 pub lacks_looks : {T E : Type 0} (r : Result T E) (state : Path) (rules : List Rule) (clock : Clock) (asked : Asked) (remembered : Remembered) {o n : Option Journal} → Left (ShowsSomeLooks (reserved_by state) rules) o n → OnErr r (Left (EndsBehindState state rules clock asked remembered) o n)
 lacks_looks (Ok x) state rules clock asked remembered l = tt
 lacks_looks (Err x) state rules clock asked remembered l = left_as l (λ us h. record {
-  some = λ sights reads known read. some_seen (runs.of_looks sights remembered known (record { front = reads; back = us; joined = refl; first = read; second = h }));
+  some = λ sights reads known read. some_seen (halt.of_looks sights remembered known (record { front = reads; back = us; joined = refl; first = read; second = h }));
 })
 
 -- it ended behind the looks
@@ -250,12 +249,12 @@ behind_looks (Err x) state rules looks remembered clock asked a b n l h = left_t
 -- nothing was read of the state
 pub none_seen : {T E : Type 0} (r : Result T E) (state : Path) (rules : List Rule) (clock : Clock) (asked : Asked) (o : Option Journal) → OnErr r (Left (SomeWork state rules clock asked) o o)
 none_seen (Ok u) state rules clock asked o = tt
-none_seen (Err u) state rules clock asked o = left_first (SomeWork state rules clock asked) o (some_seen (runs.of_state none_sights (none_shown state)))
+none_seen (Err u) state rules clock asked o = left_first (SomeWork state rules clock asked) o (some_seen (halt.of_state none_sights (none_shown state)))
 
 -- a first part of it was read
 pub some_read : {T E : Type 0} (r : Result T E) (state : Path) (rules : List Rule) (clock : Clock) (asked : Asked) (m : Memory) {o n : Option Journal} → Left (ReadsState state 65_536 (Err m)) o n → OnErr r (Left (SomeWork state rules clock asked) o n)
 some_read (Ok u) state rules clock asked m l = tt
-some_read (Err u) state rules clock asked m l = left_as l (λ ts p. some_seen (runs.of_state p.sights p.shown))
+some_read (Err u) state rules clock asked m l = left_as l (λ ts p. some_seen (halt.of_state p.sights p.shown))
 
 -- it ended behind the reading
 pub behind_state : {T E : Type 0} (r : Result T E) (state : Path) (rules : List Rule) (clock : Clock) (asked : Asked) (remembered : Remembered) {o m : Option Journal} (n : Option Journal) → Left (ReadsState state 65_536 (Ok (Ok remembered))) o m

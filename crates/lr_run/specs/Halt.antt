@@ -1,11 +1,12 @@
 -- Runs that ended before their plan, dry ones and others.
-use Rattle.std.specs.Prelude.{◌≡◌, ◌<◌, Bool, true, false, List, [], ◌∷◌, ◌++◌, length, Option, Err}
+use Rattle.std.specs.Prelude.{◌≡◌, ◌<◌, Bool, true, false, List, [], ◌∷◌, ◌++◌, length, Option, Ok, Err}
 use Rattle.lr_rules.specs.declared.clock.Clock.{Clock}
 use Rattle.lr_rules.specs.declared.fault.CallKind.TheVariants as call
 use Rattle.lr_rules.specs.declared.fault.Fault.{Fault}
 use Rattle.lr_rules.specs.declared.fault.Fault.TheVariants as fault
 use Rattle.lr_rules.specs.declared.fault.StateKind.TheVariants as kind
 use Rattle.lr_rules.specs.declared.path.Path.{Path}
+use Rattle.lr_rules.specs.declared.rule.Rule.{Rule}
 use Rattle.lr_rules.specs.declared.rules.Rules.{Rules}
 use Rattle.lr_rules.specs.Path.{parent_of}
 use Rattle.lr_host.specs.declared.entry.Entry.{Entry}
@@ -17,9 +18,9 @@ use Rattle.lr_plan.specs.Asked.{Asked}
 use Rattle.lr_looks.specs.Shown.{ShowsSomeLooks}
 use Rattle.lr_state.specs.Known.{IsKnown}
 use Rattle.lr_state.specs.Sights.{StateSights, ShowsState}
+use Rattle.lr_state.specs.declared.remembered.Remembered.{Remembered}
 use Rattle.lr_looks.specs.Reserved.{reserved_by}
 use Rattle.lr_looks.specs.Inside.{Inside}
-use Rattle.lr_run.specs.Runs.{SomeSeen}
 use Rattle.lr_run.specs.Saw.{Saw, ShowsSaw, plan_by, measured_by}
 use Rattle.lr_run.specs.Work.{entries_of}
 
@@ -38,6 +39,12 @@ DirBars false seen = IsNotDir seen
 abbrev pub Within : Bool → Path → Clock → Rules → (List Entry → Type 0) → List Entry → Type 0
 Within true state clock rules P ts = Then (Sees (parent_of state) IsDir) P ts
 Within false state clock rules P ts = Inside state clock rules P ts
+
+-- A first part of what is read of the state, or all of it and a first part of the looks.
+pub data SomeSeen (state : Path) (rules : List Rule) (ts : List Entry) : Type 0 where
+  of_state : (sights : StateSights) → ShowsState state 65_536 sights ts → SomeSeen state rules ts
+  of_looks : (sights : StateSights) (remembered : Remembered) → IsKnown state sights (Ok remembered)
+      → Then (ShowsState state 65_536 sights) (ShowsSomeLooks (reserved_by state) rules) ts → SomeSeen state rules ts
 
 -- Nothing is known of the state, as this fault tells.
 pub record LacksState (state : Path) (f : Fault) (ts : List Entry) : Type 0 where

@@ -54,10 +54,11 @@ use Rattle.lr_writing.specs.Synced.{AreSynced}
 use Rattle.lr_run.specs.declared.answer.RunStop.{RunStop}
 use Rattle.lr_run.specs.declared.answer.RunStop.TheVariants as stop
 use Rattle.lr_run.specs.declared.ready.Ready.{Ready}
-use Rattle.lr_run.specs.Runs.{measured_of, SomeSeen, BrokeOff, LacksMemory}
+use Rattle.lr_run.specs.Halt.{SomeSeen, LacksState}
+use Rattle.lr_run.specs.InternalRuns.{BrokeOff, LacksMemory}
+use Rattle.lr_run.specs.Paths.{measured_of}
 use Rattle.lr_run.specs.Saw.{Saw, ShowsStateText, ShowsSets, plan_by, measured_by}
 use Rattle.lr_run.specs.Work.{Acts, act_faults, Work, IsPlanOf, CarriesOut}
-use Rattle.lr_run.specs.Halt.{LacksState}
 use Rattle.lr_run.specs.Ran.{TellsNames, TellsNamesOf}
 
 -- ---- what is ready

@@ -3,7 +3,6 @@ use Rattle.std.specs.Prelude.{List}
 use Rattle.lr_rules.specs.declared.path.Path.{Path}
 use Rattle.lr_rules.specs.declared.clock.Clock.{Clock}
 use Rattle.lr_rules.specs.declared.rule.Rule.{Rule}
-use Rattle.lr_host.specs.declared.entry.Entry.{Entry}
 use Rattle.lr_host.specs.Lists.{IsIn}
 use Rattle.lr_host.specs.World.{Past, world, names}
 use Rattle.lr_state.specs.Table.{Entry as Row}
@@ -19,15 +18,10 @@ use Rattle.lr_laws_rotations.specs.Rotation.{rotation_by}
 use Rattle.lr_laws_rotations.specs.Target.{Target}
 use Rattle.lr_laws_looks.specs.Planned.{targets_in}
 use Rattle.lr_laws_looks.specs.Targets.{all_targets}
-use Rattle.lr_run.specs.Runs.{Looked}
 
 -- those of the plan that follows from these looks and this table
 abbrev pub rotated_targets : List Rule → List Row → Clock → Asked → List SetLooks → List Target
 rotated_targets rules table clock asked sets = all_targets clock (decision table clock.now asked.force) rules sets
-
--- those of a run
-abbrev pub rotated_in : (state : Path) (rules : List Rule) (ts : List Entry) → Looked state rules ts → Clock → Asked → List Target
-rotated_in state rules ts l clock asked = rotated_targets rules l.remembered.table clock asked l.sets
 
 -- Between the two pasts the log was rotated whole, by its rename or by a copy, where no writer was attached to a member, nor to
 -- anything at the part file's path: the members that were seen are those that stood, and each file is where the rotation of its

@@ -1,11 +1,13 @@
 -- What a run saw, as a value, and how its entries show it.
-use Rattle.std.specs.Prelude.{◌≡◌, ℕ, Bool, true, List, [], Ok}
+use Rattle.std.specs.Prelude.{◌≡◌, ◌≤◌, ℕ, Bool, true, List, [], length, Ok}
 use Rattle.lr_rules.specs.declared.clock.Clock.{Clock}
 use Rattle.lr_rules.specs.declared.fault.Fault.{Fault}
 use Rattle.lr_rules.specs.declared.path.Path.{Path}
 use Rattle.lr_rules.specs.declared.rule.Rule.{Rule}
 use Rattle.lr_rules.specs.Path.{parent_of}
 use Rattle.lr_host.specs.declared.entry.Entry.{Entry}
+use Rattle.lr_host.specs.declared.entry.Entry.TheVariants.{Reads}
+use Rattle.lr_host.specs.Lists.{IsIn}
 use Rattle.lr_host.specs.Looks.{Sees, IsDir, IsNothing}
 use Rattle.lr_state.specs.Table.{Entry as Row}
 use Rattle.lr_state.specs.Written.{table_text}
@@ -20,7 +22,7 @@ use Rattle.lr_state.specs.Known.{TextSaysOnly, text_read as read_of}
 use Rattle.lr_state.specs.Sights.{StateSights, ShowsState, found}
 use Rattle.lr_state.specs.After.{after}
 use Rattle.lr_looks.specs.Reserved.{reserved_by}
-use Rattle.lr_run.specs.Runs.{measured_of}
+use Rattle.lr_run.specs.Paths.{measured_of}
 
 -- ---- the value
 
@@ -80,3 +82,7 @@ pub record ShowsSaw (debug : Bool) (state : Path) (rules : List Rule) (saw : Saw
   pub file : ShowsStateFile debug state saw.text saw.stale dir reads
   pub says : TextSaysOnly saw.text (Ok saw.table)
   pub sets : ShowsSets state rules saw looks
+
+-- each read gave 65,536 bytes at most
+abbrev pub HasShortReads : List Entry → Type 0
+HasShortReads ts = (x : Path) (place : ℕ) (piece : List ℕ) → IsIn (Reads x place piece) ts → length piece ≤ 65_536

@@ -11,7 +11,7 @@ ghost use Rattle.lr_laws.specs.Stays.{KeepsSafeWhere};
 ghost use Rattle.lr_laws_rotations.specs.Runs.{IsWholeRunBy};
 ghost use Rattle.lr_move.specs.Moved.{KeepsMovedWhere};
 ghost use Rattle.lr_plan.specs.Asked.{asking};
-ghost use Rattle.lr_run.specs.Answers.{HasShortReads};
+ghost use Rattle.lr_run.specs.Saw.{HasShortReads};
 ghost use Rattle.lr_run.specs.Copied.{IsCopyBy};
 ghost use Rattle.lr_host.specs.Looking.{AreSights};
 ghost use Rattle.lr_run.specs.Ran.{RanSo, run_faults};

@@ -10,12 +10,12 @@ ghost use Rattle.lr_looks.specs.Shown.{ShowsSomeLooks};
 ghost use Rattle.lr_plan.specs.Asked.{asking};
 ghost use Rattle.lr_plan.specs.Planned.{CanPlanAll};
 ghost use Rattle.lr_looks.specs.Reserved.{reserved_by};
-ghost use Rattle.lr_run.specs.Dry.{PlanFollows};
-ghost use Rattle.lr_run.specs.Halt.{OfMemory, Halts};
+ghost use Rattle.lr_run.specs.InternalDry.{PlanFollows};
+ghost use Rattle.lr_run.specs.Halt.{OfMemory, Halts, SomeSeen};
 ghost use Rattle.lr_run.specs.Internal.{plan_if, faults_if};
 ghost use Rattle.lr_run.specs.Ran.{RanSo, run_faults};
-ghost use Rattle.lr_run.specs.Runs.{measured_of, SomeSeen};
-ghost use Rattle.lr_run.specs.Trying.{PlansOn, PlansByOn, TriesOn};
+ghost use Rattle.lr_run.specs.Paths.{measured_of};
+ghost use Rattle.lr_run.specs.InternalTrying.{PlansOn, PlansByOn, TriesOn};
 
 use crate::answer::{Ran, RunStop};
 use crate::known::known_state;

@@ -1,6 +1,6 @@
 // The logs of a plan.
 ghost use Rattle.std.specs.Prelude.{◌≡◌, ◌++◌, IfOk, OnOk};
-ghost use Rattle.lr_run.specs.Runs.{logs_rotated, all_logs_of};
+ghost use Rattle.lr_run.specs.Paths.{logs_rotated, all_logs_of};
 
 use lr_plan::{LogPlan, SetPlan};
 use lr_rules::{Memory, Path};

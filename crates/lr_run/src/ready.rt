@@ -6,7 +6,7 @@ ghost use Rattle.lr_acts.specs.Making.{all_of_sets};
 ghost use Rattle.lr_plan.specs.Steps.{steps_of_plan};
 ghost use Rattle.lr_rules.specs.StatePath.{state_part};
 ghost use Rattle.lr_state.specs.After.{after};
-ghost use Rattle.lr_run.specs.Runs.{measured_of};
+ghost use Rattle.lr_run.specs.Paths.{measured_of};
 ghost use Rattle.lr_run.specs.Internal.{IsRunReady, MayBeReady};
 
 use crate::fault_copy::copy_fault;

@@ -1,5 +1,5 @@
 use Rattle.std.proofs.Common.{◌≡◌, ◌++◌, take}
-use Rattle.lr_run.specs.Runs.{logs_rotated}
+use Rattle.lr_run.specs.Paths.{logs_rotated}
 use Rattle.lr_run.proofs.paths.add_logs.Given as goal
 
 abbrev pub invariant-loop-log : goal.invariant-loop-log

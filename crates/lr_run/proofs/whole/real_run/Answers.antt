@@ -11,7 +11,7 @@ use Rattle.lr_run.proofs.Evidence.{answers_of}
 use Rattle.lr_run.proofs.Lets.{run_moved}
 use Rattle.lr_run.proofs.Parts.{none_made, ran_so, stopped_so}
 use Rattle.lr_run.proofs.Shape.{none_run, whole_run}
-use Rattle.lr_run.proofs.Renewing.{run_whole}
+use Rattle.lr_run.proofs.Leaving.{run_whole}
 use Rattle.lr_run.proofs.whole.real_run.Goals as goal
 
 pub returns-in_default-clause-told : goal.returns-in_default-clause-told
@@ -52,16 +52,16 @@ pub returns-in-Err-clause-safe : goal.returns-in-Err-clause-safe
 returns-in-Err-clause-safe g c = all_safe c.args.clock.now _ _ (returns-in-Err-clause-shape g c)
 
 pub returns-in_default-clause-state : goal.returns-in_default-clause-state
-returns-in_default-clause-state g c = run_whole c.args.settings.now.state (asking c.args.settings.now.force c.args.settings.now.mailer) c.args.clock.now c.args.rules.now c.args.earlier.items (Err stop.Memory) (answers_of c.args.settings.now.state (asking c.args.settings.now.force c.args.settings.now.mailer) c.args.clock.now c.args.rules.now c.args.earlier.items (Err stop.Memory) (returns-in_default-clause-told g c))
+returns-in_default-clause-state g c = run_whole c.args.settings.now.state c.args.rules.now c.args.clock.now (asking c.args.settings.now.force c.args.settings.now.mailer) c.args.earlier.items (Err stop.Memory) (returns-in_default-clause-told g c)
 
 pub returns-in_default-progress_from-clause-state : goal.returns-in_default-progress_from-clause-state
-returns-in_default-progress_from-clause-state g c = run_whole c.args.settings.now.state (asking c.args.settings.now.force c.args.settings.now.mailer) c.args.clock.now c.args.rules.now c.args.earlier.items (Err stop.Memory) (answers_of c.args.settings.now.state (asking c.args.settings.now.force c.args.settings.now.mailer) c.args.clock.now c.args.rules.now c.args.earlier.items (Err stop.Memory) (returns-in_default-progress_from-clause-told g c))
+returns-in_default-progress_from-clause-state g c = run_whole c.args.settings.now.state c.args.rules.now c.args.clock.now (asking c.args.settings.now.force c.args.settings.now.mailer) c.args.earlier.items (Err stop.Memory) (returns-in_default-progress_from-clause-told g c)
 
 pub returns-in-Ok-make_run-clause-state : goal.returns-in-Ok-make_run-clause-state
-returns-in-Ok-make_run-clause-state g c = run_whole c.args.settings.now.state (asking c.args.settings.now.force c.args.settings.now.mailer) c.args.clock.now c.args.rules.now c.args.earlier.items (Ok c.ran_of.result) (answers_of c.args.settings.now.state (asking c.args.settings.now.force c.args.settings.now.mailer) c.args.clock.now c.args.rules.now c.args.earlier.items (Ok c.ran_of.result) (returns-in-Ok-make_run-clause-told g c))
+returns-in-Ok-make_run-clause-state g c = run_whole c.args.settings.now.state c.args.rules.now c.args.clock.now (asking c.args.settings.now.force c.args.settings.now.mailer) c.args.earlier.items (Ok c.ran_of.result) (returns-in-Ok-make_run-clause-told g c)
 
 pub returns-in-Err-clause-state : goal.returns-in-Err-clause-state
-returns-in-Err-clause-state g c = run_whole c.args.settings.now.state (asking c.args.settings.now.force c.args.settings.now.mailer) c.args.clock.now c.args.rules.now c.args.earlier.items (Err c.in-Err.why) (answers_of c.args.settings.now.state (asking c.args.settings.now.force c.args.settings.now.mailer) c.args.clock.now c.args.rules.now c.args.earlier.items (Err c.in-Err.why) (returns-in-Err-clause-told g c))
+returns-in-Err-clause-state g c = run_whole c.args.settings.now.state c.args.rules.now c.args.clock.now (asking c.args.settings.now.force c.args.settings.now.mailer) c.args.earlier.items (Err c.in-Err.why) (returns-in-Err-clause-told g c)
 
 pub returns-in_default-clause-copied : goal.returns-in_default-clause-copied
 returns-in_default-clause-copied g c = run_copied c.args.settings.now.state (asking c.args.settings.now.force c.args.settings.now.mailer) c.args.clock.now c.args.rules.now c.args.earlier.items (Err stop.Memory) (answers_of c.args.settings.now.state (asking c.args.settings.now.force c.args.settings.now.mailer) c.args.clock.now c.args.rules.now c.args.earlier.items (Err stop.Memory) (returns-in_default-clause-told g c))

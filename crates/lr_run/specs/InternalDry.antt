@@ -1,6 +1,6 @@
--- What a dry run shows: what was known of the state, what its looks came to, and the plan that follows from them, which isn't
--- carried out.
-use Rattle.std.specs.Prelude.{◌≡◌, ◌<◌, ◌≤◌, ℕ, List, [], ◌∷◌, ◌++◌, length, Option, Some, None, Ok, Err}
+-- For proofs: what a dry run shows, by cases: what was known of the state, what its looks came to, and the plan that follows from
+-- them, which isn't carried out.
+use Rattle.std.specs.Prelude.{◌≡◌, ◌<◌, ◌≤◌, List, [], ◌∷◌, ◌++◌, length, Option, Some, None, Ok, Err}
 use Rattle.lr_rules.specs.declared.path.Path.{Path}
 use Rattle.lr_rules.specs.declared.clock.Clock.{Clock}
 use Rattle.lr_rules.specs.declared.rule.Rule.{Rule}
@@ -23,7 +23,8 @@ use Rattle.lr_state.specs.declared.remembered.Remembered.{Remembered}
 use Rattle.lr_state.specs.Known.{IsKnown}
 use Rattle.lr_state.specs.Sights.{StateSights, ShowsState}
 use Rattle.lr_looks.specs.Reserved.{reserved_by}
-use Rattle.lr_run.specs.Runs.{measured_of, SomeSeen}
+use Rattle.lr_run.specs.Halt.{SomeSeen}
+use Rattle.lr_run.specs.Paths.{measured_of}
 
 -- ---- the plan
 

@@ -1,21 +1,19 @@
--- What a run leaves, by its answer: a dry one, or one that acts.
-use Rattle.std.specs.Prelude.{◌≡◌, ◌≤◌, ℕ, Bool, true, false, List, ◌++◌, length, Option, Result, Ok, Err}
+-- For proofs: what a run leaves, by its answer and by cases.
+use Rattle.std.specs.Prelude.{◌≡◌, Bool, true, false, List, ◌++◌, Option, Result, Ok, Err}
 use Rattle.lr_rules.specs.declared.path.Path.{Path}
 use Rattle.lr_rules.specs.declared.clock.Clock.{Clock}
 use Rattle.lr_rules.specs.declared.rules.Rules.{Rules}
 use Rattle.lr_rules.specs.declared.fault.Fault.{Fault}
 use Rattle.lr_rules.specs.Path.{parent_of}
 use Rattle.lr_host.specs.declared.entry.Entry.{Entry}
-use Rattle.lr_host.specs.declared.entry.Entry.TheVariants.{Reads}
-use Rattle.lr_host.specs.Lists.{IsIn}
 use Rattle.lr_host.specs.Looks.{Sees, IsDir}
 use Rattle.lr_plan.specs.Asked.{Asked}
 use Rattle.lr_plan.specs.declared.plan.Plan.{Plan}
 use Rattle.lr_run.specs.declared.answer.Ran.{Ran}
 use Rattle.lr_run.specs.declared.answer.RunStop.{RunStop}
 use Rattle.lr_run.specs.declared.answer.RunStop.TheVariants as stop
-use Rattle.lr_run.specs.Dry.{Tries, LacksTry}
-use Rattle.lr_run.specs.Runs.{Runs, LacksMemory}
+use Rattle.lr_run.specs.InternalDry.{Tries, LacksTry}
+use Rattle.lr_run.specs.InternalRuns.{Runs, LacksMemory}
 
 -- a run that is dry, or isn't, that came to this plan and has these faults of its own
 abbrev pub RunLeaves : Bool → Path → Asked → Clock → Rules → Option Plan → List Fault → List Entry → Type 0
@@ -38,7 +36,3 @@ Answers state debug asked clock rules earlier (Ok ran) ts = (own : List Fault) �
     × RunLeaves debug state asked clock rules ran.plan own ts
 Answers state debug asked clock rules earlier (Err stop.Held) ts = Holds debug state ts
 Answers state debug asked clock rules earlier (Err stop.Memory) ts = Lacks debug state asked clock rules ts
-
--- each read gave 65,536 bytes at most
-abbrev pub HasShortReads : List Entry → Type 0
-HasShortReads ts = (x : Path) (place : ℕ) (piece : List ℕ) → IsIn (Reads x place piece) ts → length piece ≤ 65_536

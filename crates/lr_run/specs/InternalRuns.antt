@@ -1,8 +1,5 @@
--- What a run shows: how it began, what was known of its state, what its looks came to, and the acts of the plan that follows from
--- them.
-use Rattle.std.specs.Prelude.{◌≡◌, ◌<◌, ◌≤◌, ℕ, List, [], ◌∷◌, ◌++◌, length, map, Option, Some, None, Ok, Err}
-use Rattle.std.specs.List.{flat_map}
-use Rattle.lr_rules.specs.declared.civil.Civil.{Civil}
+-- For proofs: what a run that acts shows, by cases: what it saw, and the acts of the plan that follows.
+use Rattle.std.specs.Prelude.{◌≡◌, ◌<◌, ◌≤◌, ℕ, List, [], ◌∷◌, ◌++◌, length, Option, Some, None, Ok, Err}
 use Rattle.lr_rules.specs.declared.path.Path.{Path}
 use Rattle.lr_rules.specs.declared.clock.Clock.{Clock}
 use Rattle.lr_rules.specs.declared.rule.Rule.{Rule}
@@ -16,13 +13,10 @@ use Rattle.lr_host.specs.declared.entry.Entry.{Entry}
 use Rattle.lr_host.specs.declared.entry.Entry.TheVariants.{Starts}
 use Rattle.lr_host.specs.Told.{Then, Maybe}
 use Rattle.lr_host.specs.Looks.{Sees, IsDir, IsNotDir}
-use Rattle.lr_state.specs.Table.{Entry as Row}
 use Rattle.lr_state.specs.Written.{table_text}
 use Rattle.lr_plan.specs.Asked.{Asked}
 use Rattle.lr_plan.specs.declared.looks.SetLooks.{SetLooks}
 use Rattle.lr_plan.specs.declared.mark.Mark.{Mark}
-use Rattle.lr_plan.specs.declared.plan.LogPlan.{LogPlan}
-use Rattle.lr_plan.specs.declared.plan.SetPlan.{SetPlan}
 use Rattle.lr_plan.specs.declared.plan.Plan.{Plan}
 use Rattle.lr_acts.specs.Making.{HasProgram, all_of_sets}
 use Rattle.lr_plan.specs.Done.{ActsDone}
@@ -31,34 +25,17 @@ use Rattle.lr_plan.specs.Planned.{plan_of}
 use Rattle.lr_plan.specs.Steps.{steps_of_plan}
 use Rattle.lr_looks.specs.Found.{paths_of}
 use Rattle.lr_looks.specs.Inside.{Inside}
-use Rattle.lr_looks.specs.Shown.{ShowsLooks, ShowsSomeLooks}
+use Rattle.lr_looks.specs.Shown.{ShowsLooks}
 use Rattle.lr_state.specs.declared.remembered.Remembered.{Remembered}
 use Rattle.lr_state.specs.Known.{IsKnown}
 use Rattle.lr_state.specs.Sights.{StateSights, ShowsState}
 use Rattle.lr_state.specs.After.{after}
-use Rattle.lr_state.specs.Measured.{measured_text}
 use Rattle.lr_looks.specs.Reserved.{reserved_by}
-use Rattle.lr_writing.specs.Synced.{all_to_make_of, AreSynced}
-
--- ---- the paths of a plan
-
--- the logs that it rotates
-abbrev pub logs_rotated : List LogPlan → List Path
-logs_rotated logs = map (λ log. log.log) logs
-
-abbrev pub all_logs_of : List SetPlan → List Path
-all_logs_of sets = flat_map (λ set. logs_rotated set.logs) sets
-
-abbrev pub logs_in : Plan → List Path
-logs_in plan = all_logs_of plan.sets
-
--- the text of the state that is measured before the first act of the plan, by the table and the logs that are kept
-abbrev pub measured_of : Plan → List Row → List Path → Civil → List ℕ
-measured_of plan table kept now = measured_text (logs_in plan) now (after table [] kept now)
-
--- the directories that it makes
-abbrev pub dirs_in : Plan → List Path
-dirs_in plan = all_to_make_of plan.sets
+use Rattle.lr_writing.specs.Synced.{AreSynced}
+use Rattle.lr_run.specs.Halt.{SomeSeen}
+use Rattle.lr_run.specs.Rotated.{rotated_targets}
+use Rattle.lr_laws_rotations.specs.Target.{Target}
+use Rattle.lr_run.specs.Paths.{measured_of}
 
 -- ---- what was seen
 
@@ -92,6 +69,10 @@ measured_in state rules ts l clock asked = measured_of (plan_in state rules ts l
 -- the text that is written, by the logs that were rotated
 abbrev pub state_text : (state : Path) (rules : List Rule) (ts : List Entry) → Looked state rules ts → Clock → List Path → List ℕ
 state_text state rules ts l clock rotated = table_text (after l.remembered.table rotated (kept_in state rules ts l) clock.now.civil)
+
+-- the logs that are rotated then
+abbrev pub rotated_in : (state : Path) (rules : List Rule) (ts : List Entry) → Looked state rules ts → Clock → Asked → List Target
+rotated_in state rules ts l clock asked = rotated_targets rules l.remembered.table clock asked l.sets
 
 -- ---- what was done
 
@@ -140,12 +121,6 @@ pub data Runs (state : Path) (asked : Asked) (clock : Clock) (rules : Rules) (pl
   began : Inside state clock rules (Works state rules.sets clock asked plan faults) ts → Runs state asked clock rules plan faults ts
 
 -- ---- without memory
-
--- A first part of what is read of the state, or all of it and a first part of the looks.
-pub data SomeSeen (state : Path) (rules : List Rule) (ts : List Entry) : Type 0 where
-  of_state : (sights : StateSights) → ShowsState state 65_536 sights ts → SomeSeen state rules ts
-  of_looks : (sights : StateSights) (remembered : Remembered) → IsKnown state sights (Ok remembered)
-      → Then (ShowsState state 65_536 sights) (ShowsSomeLooks (reserved_by state) rules) ts → SomeSeen state rules ts
 
 -- The state was read and the logs were looked at, and of the acts of the plan, among which there is a program, a first part was
 -- done, up to a step that would run one. For that there was no memory, and the state was not written.
