@@ -28,26 +28,26 @@ use Rattle.lr_family.specs.declared.stand.StandStop.{StandStop}
 use Rattle.lr_family.specs.declared.stand.StandStop.TheVariants as stop
 use Rattle.lr_family.specs.Listed.{ShowsListing, NotListed, NotListedAt}
 use Rattle.lr_family.specs.Stands.{IsFailedStand}
-use Rattle.lr_audit.specs.Files.{are_path_bytes, paths_in, FileSight, file_path, file_by, fault_by, look_by, sight_file, sight_fault, file_looks, LookedAtEach, ShowsDir, listed, not_listed, no_directory, list_fault, DirSight, IsShown, ShowsDirs, AddsFiles}
+use Rattle.lr_audit.specs.Files.{are_path_bytes, paths_of_names, FileSight, file_path, file_by, fault_by, look_by, sight_file, sight_fault, file_looks, LookedAtEach, ShowsFilesIn, listed, not_listed, no_directory, list_fault, DirSight, IsShown, ShowsDirs, AddsFiles}
 
 -- ---- paths
 
-pub paths_on : (dir : Path) (xs ys : List (List ℕ)) → paths_in dir (xs ++ ys) ≡ paths_in dir xs ++ paths_in dir ys
+pub paths_on : (dir : Path) (xs ys : List (List ℕ)) → paths_of_names dir (xs ++ ys) ≡ paths_of_names dir xs ++ paths_of_names dir ys
 paths_on dir xs ys = ap (filter are_path_bytes) (map-append (joined dir) xs ys) ∙ filter-append are_path_bytes (map (joined dir) xs) (map (joined dir) ys)
 
-pub paths_more : (dir : Path) (names : List (List ℕ)) (i : ℕ) (name : List ℕ) (old new : List Path) → name ≡ get_or names i name → i < length names → old ≡ paths_in dir (take i names) → new ≡ old ++ paths_in dir (name ∷ []) → new ≡ paths_in dir (take (i + 1) names)
+pub paths_more : (dir : Path) (names : List (List ℕ)) (i : ℕ) (name : List ℕ) (old new : List Path) → name ≡ get_or names i name → i < length names → old ≡ paths_of_names dir (take i names) → new ≡ old ++ paths_of_names dir (name ∷ []) → new ≡ paths_of_names dir (take (i + 1) names)
 paths_more dir names i name old new is lt so more =
-    more ∙ (ap (λ (ps : List Path). ps ++ paths_in dir (name ∷ [])) so
-    ∙ (sym (paths_on dir (take i names) (name ∷ [])) ∙ ap (paths_in dir) (ap (λ y. take i names ++ y ∷ []) is ∙ sym (take_more names i name lt))))
+    more ∙ (ap (λ (ps : List Path). ps ++ paths_of_names dir (name ∷ [])) so
+    ∙ (sym (paths_on dir (take i names) (name ∷ [])) ∙ ap (paths_of_names dir) (ap (λ y. take i names ++ y ∷ []) is ∙ sym (take_more names i name lt))))
 
-pub path_added : (dir : Path) (name : List ℕ) (path : Path) (old new : List Path) → path ≡ joined dir name → path_fault path ≡ None → new ≡ old ++ path ∷ [] → new ≡ old ++ paths_in dir (name ∷ [])
+pub path_added : (dir : Path) (name : List ℕ) (path : Path) (old new : List Path) → path ≡ joined dir name → path_fault path ≡ None → new ≡ old ++ path ∷ [] → new ≡ old ++ paths_of_names dir (name ∷ [])
 path_added dir name path old new same ok more = more ∙ ap (λ (ps : List Path). old ++ ps) (one (path_fault (joined dir name)) (ap path_fault (sym same) ∙ ok))
   where
     one : (o : Option PathFault) → o ≡ None → path ∷ [] ≡ cond (is_none o) (joined dir name ∷ []) []
     one None e = ap (λ (p : Path). p ∷ []) same
     one (Some f) e = absurd (cc)
 
-pub path_refused : {T E : Type 0} (r : Result T E) (dir : Path) (name : List ℕ) (why : PathFault) (old : List Path) → OnOk r (why ≢ path_stop.Memory) → IsRefusal (path_fault (joined dir name)) why → OnOk r (old ≡ old ++ paths_in dir (name ∷ []))
+pub path_refused : {T E : Type 0} (r : Result T E) (dir : Path) (name : List ℕ) (why : PathFault) (old : List Path) → OnOk r (why ≢ path_stop.Memory) → IsRefusal (path_fault (joined dir name)) why → OnOk r (old ≡ old ++ paths_of_names dir (name ∷ []))
 path_refused (Err e) dir name why old ne is = tt
 path_refused (Ok x) dir name why old ne is = sym (append-nil old) ∙ ap (λ (ps : List Path). old ++ ps) (none (path_fault (joined dir name)) why ne is)
   where
@@ -170,25 +170,25 @@ stop_quiet dir (stop.NotFile path) ts h = sees_quiet dir ts h.1
 stop_quiet dir stop.Memory ts h = ⊎_elim (λ n. subst AreQuiet (sym n) tt) (λ s. ⊎_elim (λ n. sees_quiet dir ts n) (λ d. sees_quiet dir ts d) s) h
 
 pub listed_told : {T E : Type 0} (r : Result T E) (dir : Path) (there parent : Bool) (names given : List (List ℕ)) (a b : List Path) (f g : List Fault) (o m n : Option Journal) → given ≡ names → Left (ShowsListing dir there parent names) o m
-    → OnOk r (Left (AddsFiles (LookedAtEach (paths_in dir given)) a b f g) m n) → OnOk r (Left (AddsFiles (ShowsDir dir) a b f g) o n)
+    → OnOk r (Left (AddsFiles (LookedAtEach (paths_of_names dir given)) a b f g) m n) → OnOk r (Left (AddsFiles (ShowsFilesIn dir) a b f g) o n)
 listed_told (Err e) dir there parent names given a b f g o m n same l k = tt
 listed_told (Ok x) dir there parent names given a b f g o m n same l k = left_then l k (λ ts us p q. record {
   own = q.own;
   said = q.said;
   files_are = q.files_are;
   faults_are = q.faults_are;
-  shown = listed there parent names (record { front = ts; back = us; joined = refl; first = p; second = subst (λ (ns : List (List ℕ)). LookedAtEach (paths_in dir ns) q.own q.said us) same q.shown });
+  shown = listed there parent names (record { front = ts; back = us; joined = refl; first = p; second = subst (λ (ns : List (List ℕ)). LookedAtEach (paths_of_names dir ns) q.own q.said us) same q.shown });
 })
 
 pub listed_lost : {T E : Type 0} (r : Result T E) (dir : Path) (there parent : Bool) (names : List (List ℕ)) (o m n : Option Journal) → Left (ShowsListing dir there parent names) o m → OnErr r (Left AreQuiet m n) → OnErr r (Left AreQuiet o n)
 listed_lost (Ok x) dir there parent names o m n l k = tt
 listed_lost (Err e) dir there parent names o m n l k = left_then l k (λ ts us p q. quiet_both ts us (listing_quiet dir there parent names ts p) q)
 
-pub stopped_told : {T E : Type 0} (r : Result T E) (dir : Path) (why : StandStop) (a : List Path) (f g : List Fault) {o n : Option Journal} → Left (NotListed dir why) o n → OnOk r (why ≢ stop.Memory) → OnOk r (g ≡ f ++ list_fault why) → OnOk r (Left (AddsFiles (ShowsDir dir) a a f g) o n)
+pub stopped_told : {T E : Type 0} (r : Result T E) (dir : Path) (why : StandStop) (a : List Path) (f g : List Fault) {o n : Option Journal} → Left (NotListed dir why) o n → OnOk r (why ≢ stop.Memory) → OnOk r (g ≡ f ++ list_fault why) → OnOk r (Left (AddsFiles (ShowsFilesIn dir) a a f g) o n)
 stopped_told (Err e) dir why a f g l ne more = tt
 stopped_told (Ok x) dir why a f g l ne more = left_as l (λ ts h. record { own = []; said = list_fault why; files_are = sym (append-nil a); faults_are = more; shown = so why ne ts h })
   where
-    so : (why : StandStop) → why ≢ stop.Memory → (ts : List Entry) → NotListed dir why ts → ShowsDir dir [] (list_fault why) ts
+    so : (why : StandStop) → why ≢ stop.Memory → (ts : List Entry) → NotListed dir why ts → ShowsFilesIn dir [] (list_fault why) ts
     so (stop.Call kind path) ne ts h = not_listed kind path refl refl h
     so (stop.NotFile path) ne ts h = no_directory path refl refl h
     so stop.Memory ne ts h = absurd (ne refl)
@@ -205,8 +205,8 @@ stopped_went (Ok x) stop.Memory f g k l rose h more = subst (λ (fs : List Fault
 
 -- ---- all of them
 
-dir_quiet : (dir : Path) (files : List Path) (faults : List Fault) (ts : List Entry) → ShowsDir dir files faults ts → AreQuiet ts
-dir_quiet dir files faults ts (listed there parent names t) = then_quiet ts (λ us s. listing_quiet dir there parent names us s) (λ us s. looked_quiet (paths_in dir names) files faults us s) t
+dir_quiet : (dir : Path) (files : List Path) (faults : List Fault) (ts : List Entry) → ShowsFilesIn dir files faults ts → AreQuiet ts
+dir_quiet dir files faults ts (listed there parent names t) = then_quiet ts (λ us s. listing_quiet dir there parent names us s) (λ us s. looked_quiet (paths_of_names dir names) files faults us s) t
 dir_quiet dir files faults ts (not_listed kind path e f h) = not_listed_at dir kind path ts h
 dir_quiet dir files faults ts (no_directory path e f h) = sees_quiet dir ts h.1
 
@@ -219,7 +219,7 @@ dirs_none a f {o} = left_first (AddsFiles (ShowsDirs []) a a f f) o (record {
   shown = record { sights = []; each = refl; shown = All-nil IsShown; files_are = refl; faults_are = refl; entries_are = refl };
 })
 
-dirs_on : (dirs : List Path) (dir : Path) (a b : List Path) (f g : List Fault) (ts us : List Entry) → ShowsDirs dirs a f ts → ShowsDir dir b g us → ShowsDirs (dirs ++ dir ∷ []) (a ++ b) (f ++ g) (ts ++ us)
+dirs_on : (dirs : List Path) (dir : Path) (a b : List Path) (f g : List Fault) (ts us : List Entry) → ShowsDirs dirs a f ts → ShowsFilesIn dir b g us → ShowsDirs (dirs ++ dir ∷ []) (a ++ b) (f ++ g) (ts ++ us)
 dirs_on dirs dir a b f g ts us s h = record {
   sights = s.sights ++ one ∷ [];
   each = map-append (λ (d : DirSight). d.dir) s.sights (one ∷ []) ∙ ap (λ (ds : List Path). ds ++ dir ∷ []) s.each;
@@ -232,7 +232,7 @@ dirs_on dirs dir a b f g ts us s h = record {
     one : DirSight
     one = record { dir = dir; files = b; faults = g; entries = us }
 
-pub dirs_more : (dirs : List Path) (i : ℕ) (dir : Path) (a b c : List Path) (f g h : List Fault) {o m n : Option Journal} → dir ≡ get_or dirs i dir → i < length dirs → Left (AddsFiles (ShowsDirs (take i dirs)) a b f g) o m → Left (AddsFiles (ShowsDir dir) b c g h) m n
+pub dirs_more : (dirs : List Path) (i : ℕ) (dir : Path) (a b c : List Path) (f g h : List Fault) {o m n : Option Journal} → dir ≡ get_or dirs i dir → i < length dirs → Left (AddsFiles (ShowsDirs (take i dirs)) a b f g) o m → Left (AddsFiles (ShowsFilesIn dir) b c g h) m n
     → Left (AddsFiles (ShowsDirs (take (i + 1) dirs)) a c f h) o n
 dirs_more dirs i dir a b c f g h {o} {n = n} is lt l k =
     subst (λ (ds : List Path). Left (AddsFiles (ShowsDirs ds) a c f h) o n) (ap (λ y. take i dirs ++ y ∷ []) is ∙ sym (take_more dirs i dir lt))

@@ -19,7 +19,7 @@ use Rattle.lr_host.specs.declared.thing.Thing.{Thing}
 use Rattle.lr_host.specs.declared.thing.Thing.TheVariants as thing
 use Rattle.lr_host.specs.declared.entry.Entry.{Entry}
 use Rattle.lr_host.specs.declared.entry.Entry.TheVariants as entry
-use Rattle.lr_host.specs.Fits.{IsFileAt, IsPart, Sees, IsNameIn}
+use Rattle.lr_host.specs.Fits.{IsFileAt, IsPart, SeesThing, IsNameIn}
 use Rattle.lr_host.specs.Listing.{HasListed, is_file_kind}
 use Rattle.lr_host.specs.Lists.{IsIn}
 use Rattle.lr_host.specs.Looks.{Sees as SeesPath, IsFile, IsDir, IsNoDir, IsNothing}
@@ -37,7 +37,7 @@ use Rattle.lr_family.specs.Listed.{NotListedAt}
 use Rattle.lr_laws_looks.specs.Finds.{StoodOrCame}
 use Rattle.lr_laws_looks.proofs.Came.{quiet_prefix, stood_or_came}
 use Rattle.lr_laws_looks.proofs.Families.{file_seen}
-use Rattle.lr_audit.specs.Files.{are_path_bytes, paths_in, FileSight, file_path, file_by, fault_by, look_by, sight_file, sight_fault, file_looks, LookedAtEach, ShowsDir, listed, not_listed, no_directory, DirSight, IsShown, ShowsDirs}
+use Rattle.lr_audit.specs.Files.{are_path_bytes, paths_of_names, FileSight, file_path, file_by, fault_by, look_by, sight_file, sight_fault, file_looks, LookedAtEach, ShowsFilesIn, listed, not_listed, no_directory, DirSight, IsShown, ShowsDirs}
 use Rattle.lr_audit.specs.Truth.{IsTakenAway, AreTrueFiles}
 
 -- ---- lists
@@ -64,18 +64,18 @@ valid_path : (x : Path) → path_fault x ≡ None → are_path_bytes x ≡ true
 valid_path x e = ap (λ (o : Option PathFault). is_none o) e
 
 -- the path of a listed name
-to_path : (dir : Path) (names : List (List ℕ)) (name : List ℕ) → IsIn name names → path_fault (joined dir name) ≡ None → IsIn (joined dir name) (paths_in dir names)
+to_path : (dir : Path) (names : List (List ℕ)) (name : List ℕ) → IsIn name names → path_fault (joined dir name) ≡ None → IsIn (joined dir name) (paths_of_names dir names)
 to_path dir names name i valid = to_filter (map (joined dir) names) (joined dir name) (in_map (joined dir) name names i) (valid_path (joined dir name) valid)
 
-of_path : (dir : Path) (names : List (List ℕ)) (x : Path) → IsIn x (paths_in dir names) → (name : List ℕ) × IsIn name names × (joined dir name ≡ x)
+of_path : (dir : Path) (names : List (List ℕ)) (x : Path) → IsIn x (paths_of_names dir names) → (name : List ℕ) × IsIn name names × (joined dir name ≡ x)
 of_path dir names x i = in_unmap (joined dir) x names (of_filter (map (joined dir) names) x i)
 
 -- ---- what a look saw
 
-dir_seen : (w : World) (t : Thing) (o : Option Seen) → t ≡ thing.Directory → Sees w t o → IsDir o
-dir_seen w t o is s = go o (subst (λ (u : Thing). Sees w u o) is s)
+dir_seen : (w : World) (t : Thing) (o : Option Seen) → t ≡ thing.Directory → SeesThing w t o → IsDir o
+dir_seen w t o is s = go o (subst (λ (u : Thing). SeesThing w u o) is s)
   where
-    go : (o : Option Seen) → Sees w thing.Directory o → IsDir o
+    go : (o : Option Seen) → SeesThing w thing.Directory o → IsDir o
     go None s = s
     go (Some seen) s = s
 
@@ -154,7 +154,7 @@ module _ (p q : Past) (es : List Entry) (m : Made p es q) (journal : IsJournal p
   no_dir : (P : Option Seen → Type 0) (dir x : Path) (us : List Entry) → ((o : Option Seen) → P o → IsDir o → ⊥) → ((e : Entry) → IsIn e us → IsOne e) → SeesPath dir P us → path_fault dir ≡ None → IsNameIn dir x → IsFileAt (names (world p)) x → ⊥
   no_dir P dir x us other within s path h file = other s.seen s.is (saw_dir dir x s.seen path h file (within (entry.Look dir s.seen) (subst (IsIn (entry.Look dir s.seen)) (sym s.look) (inl refl))))
 
-  looked_stood : (dir x : Path) (ns : List (List ℕ)) (files : List Path) (faults : List Fault) (us : List Entry) (h : IsNameIn dir x) → ((e : Entry) → IsIn e us → IsOne e) → LookedAtEach (paths_in dir ns) files faults us → Contains ns h.name → path_fault x ≡ None → IsFileAt (names (world p)) x → IsIn x files ⊎ IsTakenAway faults dir x
+  looked_stood : (dir x : Path) (ns : List (List ℕ)) (files : List Path) (faults : List Fault) (us : List Entry) (h : IsNameIn dir x) → ((e : Entry) → IsIn e us → IsOne e) → LookedAtEach (paths_of_names dir ns) files faults us → Contains ns h.name → path_fault x ≡ None → IsFileAt (names (world p)) x → IsIn x files ⊎ IsTakenAway faults dir x
   looked_stood dir x ns files faults us h within l c valid file = by s.0.seen refl
     where
       s : (f : FileSight) × IsIn f l.sights × (f.path ≡ joined dir h.name)
@@ -189,7 +189,7 @@ module _ (p q : Past) (es : List Entry) (m : Made p es q) (journal : IsJournal p
   taken_call dir x call.MakeDir path files faults us within e h valid n file = absurd h
   taken_call dir x call.Run path files faults us within e h valid n file = absurd h
 
-  dir_stood : (dir x : Path) (files : List Path) (faults : List Fault) (us : List Entry) → ((e : Entry) → IsIn e us → IsOne e) → ShowsDir dir files faults us → path_fault dir ≡ None → IsNameIn dir x → path_fault x ≡ None → IsFileAt (names (world p)) x → IsIn x files ⊎ IsTakenAway faults dir x
+  dir_stood : (dir x : Path) (files : List Path) (faults : List Fault) (us : List Entry) → ((e : Entry) → IsIn e us → IsOne e) → ShowsFilesIn dir files faults us → path_fault dir ≡ None → IsNameIn dir x → path_fault x ≡ None → IsFileAt (names (world p)) x → IsIn x files ⊎ IsTakenAway faults dir x
   dir_stood dir x files faults us within (listed true parent ns t) path h valid file =
       looked_stood dir x ns files faults t.back h (λ e i. within e (subst (IsIn e) (sym t.joined) (in_back e t.front t.back i))) t.second (Contains-permutation l.listed ns h.name l.same (was_listed dir x l.listed h file one)) valid file
     where
@@ -206,7 +206,7 @@ module _ (p q : Past) (es : List Entry) (m : Made p es q) (journal : IsJournal p
       other None h d = h
       other (Some seen) h d = h d
 
-  dir_came : (dir x : Path) (files : List Path) (faults : List Fault) (us : List Entry) → ((e : Entry) → IsIn e us → IsOne e) → ShowsDir dir files faults us → IsIn x files → IsNameIn dir x × StoodOrCame x p q
+  dir_came : (dir x : Path) (files : List Path) (faults : List Fault) (us : List Entry) → ((e : Entry) → IsIn e us → IsOne e) → ShowsFilesIn dir files faults us → IsIn x files → IsNameIn dir x × StoodOrCame x p q
   dir_came dir x files faults us within (listed true parent ns t) i = (record { name = n.0; part = is_part dir l.listed n.0 list (Contains-permutation ns l.listed n.0 (IsPermutation-sym l.listed ns l.same) (in_to n.0 ns n.1)); named = sym saw.same ∙ sym n.2 }, came x saw.look saw.is_file look)
     where
       l : HasListed dir ns t.first.1.back
@@ -248,7 +248,7 @@ module _ (p q : Past) (es : List Entry) (m : Made p es q) (journal : IsJournal p
     all_stood dir x i path h valid file = ⊎_elim
         (λ j. inl (subst (IsIn x) (sym s.files_are) (to_flat (λ (y : DirSight). y.files) s.sights d.0 x d.1 j)))
         (λ taken. ⊎_elim (λ l. inr (inl (more (fault.Call call.Look x) l))) (λ k. inr (inr (k.0, more (fault.Call k.0 dir) k.1))) taken)
-        (dir_stood dir x d.0.files d.0.faults d.0.entries (inside d.0 d.1) (subst (λ (y : Path). ShowsDir y d.0.files d.0.faults d.0.entries) d.2 (shown d.0 d.1)) path h valid file)
+        (dir_stood dir x d.0.files d.0.faults d.0.entries (inside d.0 d.1) (subst (λ (y : Path). ShowsFilesIn y d.0.files d.0.faults d.0.entries) d.2 (shown d.0 d.1)) path h valid file)
       where
         d : (y : DirSight) × IsIn y s.sights × (y.dir ≡ dir)
         d = in_unmap (λ (y : DirSight). y.dir) dir s.sights (subst (IsIn dir) (sym s.each) i)

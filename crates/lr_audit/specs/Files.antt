@@ -21,8 +21,8 @@ abbrev pub are_path_bytes : List ℕ → Bool
 are_path_bytes bytes = is_none (path_fault bytes)
 
 -- the paths of these names in the directory; what would be none is left out, since nothing has it on a disk
-abbrev pub paths_in : Path → List (List ℕ) → List Path
-paths_in dir names = filter are_path_bytes (map (joined dir) names)
+abbrev pub paths_of_names : Path → List (List ℕ) → List Path
+paths_of_names dir names = filter are_path_bytes (map (joined dir) names)
 
 -- ---- the looks at paths
 
@@ -68,13 +68,13 @@ pub record LookedAtEach (paths files : List Path) (faults : List Fault) (ts : Li
 -- ---- a directory
 
 -- It was listed, and each name in it looked at; or a call failed, and it has a fault of its own; or it is no directory.
-pub data ShowsDir (dir : Path) (files : List Path) (faults : List Fault) (ts : List Entry) : Type 0 where
+pub data ShowsFilesIn (dir : Path) (files : List Path) (faults : List Fault) (ts : List Entry) : Type 0 where
   listed : (there parent : Bool) (names : List (List ℕ))
-      → Then (ShowsListing dir there parent names) (LookedAtEach (paths_in dir names) files faults) ts
-      → ShowsDir dir files faults ts
+      → Then (ShowsListing dir there parent names) (LookedAtEach (paths_of_names dir names) files faults) ts
+      → ShowsFilesIn dir files faults ts
   not_listed : (kind : CallKind) (path : Path) → files ≡ [] → faults ≡ fault.Call kind path ∷ []
-      → NotListed dir (stop.Call kind path) ts → ShowsDir dir files faults ts
-  no_directory : (path : Path) → files ≡ [] → faults ≡ [] → ShowsNoDir dir path ts → ShowsDir dir files faults ts
+      → NotListed dir (stop.Call kind path) ts → ShowsFilesIn dir files faults ts
+  no_directory : (path : Path) → files ≡ [] → faults ≡ [] → ShowsNoDir dir path ts → ShowsFilesIn dir files faults ts
 
 -- the fault of one that couldn't be listed
 abbrev pub list_fault : StandStop → List Fault
@@ -92,7 +92,7 @@ pub record DirSight : Type 0 where
   pub entries : List Entry
 
 abbrev pub IsShown : DirSight → Type 0
-IsShown s = ShowsDir s.dir s.files s.faults s.entries
+IsShown s = ShowsFilesIn s.dir s.files s.faults s.entries
 
 -- So was each of these, one behind another.
 pub record ShowsDirs (dirs files : List Path) (faults : List Fault) (ts : List Entry) : Type 0 where

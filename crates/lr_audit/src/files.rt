@@ -4,7 +4,7 @@ ghost use Rattle.lr_host.specs.Counted.{WentBy};
 ghost use Rattle.lr_host.specs.Quiet.{AreQuiet};
 ghost use Rattle.lr_host.specs.Told.{Left};
 ghost use Rattle.lr_family.specs.declared.stand.StandStop.TheVariants as stop;
-ghost use Rattle.lr_audit.specs.Files.{paths_in, file_path, list_fault, AddsFiles, LookedAtEach, ShowsDir, ShowsDirs};
+ghost use Rattle.lr_audit.specs.Files.{paths_of_names, file_path, list_fault, AddsFiles, LookedAtEach, ShowsFilesIn, ShowsDirs};
 
 use lr_family::{Listing, StandStop};
 use lr_host::{Host, Kind, Seen};
@@ -28,7 +28,7 @@ fn passed_over(fault: PathFault) -> Result<(), Memory>
 
 // Adds the path of a name in the directory, where it is one.
 fn add_path(alloc: Global, paths: &mut Vec<Path>, dir: &Path, name: &Text) -> Result<(), Memory>
-    ensures { OnOk result (paths.new.items ≡ paths.old.items ++ paths_in dir.now (name.now ∷ [])) }
+    ensures { OnOk result (paths.new.items ≡ paths.old.items ++ paths_of_names dir.now (name.now ∷ [])) }
 {
     match dir.join(alloc, name.bytes()) {
         Ok(path) => Ok(paths.push(path)?),
@@ -38,7 +38,7 @@ fn add_path(alloc: Global, paths: &mut Vec<Path>, dir: &Path, name: &Text) -> Re
 
 // The paths of these names in the directory.
 fn paths_in(alloc: Global, dir: &Path, names: &[Text]) -> Result<Vec<Path>, Memory>
-    ensures { IfOk result (λ paths. paths.items ≡ paths_in dir.now names.now) }
+    ensures { IfOk result (λ paths. paths.items ≡ paths_of_names dir.now names.now) }
 {
     let mut paths = Vec::new(alloc);
     for name in names {
@@ -107,7 +107,7 @@ fn look_at_names<H: Host>(
     faults: &mut Vec<Fault>,
 ) -> Result<(), Memory>
     ensures told { OnOk result (Left (AddsFiles (LookedAtEach
-        (paths_in dir.now names.now)) files.old.items files.new.items faults.old.items faults.new.items) (H.told host.old)
+        (paths_of_names dir.now names.now)) files.old.items files.new.items faults.old.items faults.new.items) (H.told host.old)
         (H.told host.new)) }
     ensures some { OnErr result (Left AreQuiet (H.told host.old) (H.told host.new)) }
     ensures went { WentBy result faults.old.items faults.new.items (H.counts host.old) (H.counts host.new) }
@@ -136,7 +136,7 @@ fn add_dir<H: Host>(
     files: &mut Vec<Path>,
     faults: &mut Vec<Fault>,
 ) -> Result<(), Memory>
-    ensures told { OnOk result (Left (AddsFiles (ShowsDir dir.now) files.old.items files.new.items faults.old.items
+    ensures told { OnOk result (Left (AddsFiles (ShowsFilesIn dir.now) files.old.items files.new.items faults.old.items
         faults.new.items) (H.told host.old) (H.told host.new)) }
     ensures some { OnErr result (Left AreQuiet (H.told host.old) (H.told host.new)) }
     ensures went { WentBy result faults.old.items faults.new.items (H.counts host.old) (H.counts host.new) }

@@ -1,7 +1,7 @@
 // What a call prints, and the report that it answers.
 ghost use Rattle.std.specs.Prelude.{◌≡◌, ◌≤◌, ◌<◌, ◌+◌, ◌++◌, ◌∷◌, [], Ok, IfOk, OnErr, OnOk, vec_len, vec_capacity};
 ghost use Rattle.lr_rules.specs.declared.fault.Fault.TheVariants as fault;
-ghost use Rattle.lr_report.specs.Lines.{lines};
+ghost use Rattle.lr_report.specs.Lines.{report_lines};
 ghost use Rattle.lr_shown.specs.Puts.{Puts};
 ghost use Rattle.lr_audit.specs.Came.{answer_of, audit_told};
 ghost use Rattle.lr_audit.specs.Says.{with_out, text_told, said_text, PrintsAnswer};
@@ -25,15 +25,15 @@ fn put_told_audit<K: Sink>(audit: &Option<Audit>, out: &mut K) -> Result<(), Sin
 
 // Puts the lines of what else there is to say.
 fn put_said_lines<K: Sink>(told: &Told, out: &mut K) -> Result<(), SinkFault>
-    ensures { Puts (lines told.now.notices told.now.faults.items) result (K.taken out.old) (K.taken out.new) (K.faults out.old)
-        (K.faults out.new) }
+    ensures { Puts (report_lines told.now.notices told.now.faults.items) result (K.taken out.old) (K.taken out.new)
+        (K.faults out.old) (K.faults out.new) }
 {
     put_lines(told.notices.as_slice(), &told.faults, out)
 }
 
 // Puts all of it.
 fn put_told<K: Sink>(told: &Told, out: &mut K) -> Result<(), SinkFault>
-    ensures { Puts (text_told told.now.audit ++ lines told.now.notices told.now.faults.items) result (K.taken out.old)
+    ensures { Puts (text_told told.now.audit ++ report_lines told.now.notices told.now.faults.items) result (K.taken out.old)
         (K.taken out.new) (K.faults out.old) (K.faults out.new) }
 {
     put_told_audit(&told.audit, out)?;

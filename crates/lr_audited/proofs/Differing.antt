@@ -53,7 +53,7 @@ use Rattle.lr_laws_family.specs.Shown.{Shown}
 use Rattle.lr_laws_family.proofs.Picking.{named_all}
 use Rattle.lr_laws_rotations.proofs.Own.{named_own}
 use Rattle.lr_laws_rotations.proofs.PartFile.{part_no_member, part_no_log, part_no_waiting}
-use Rattle.lr_plan.specs.Planned.{is_file}
+use Rattle.lr_plan.specs.Planned.{is_seen_file}
 use Rattle.lr_laws_looks.proofs.Apart.{OffFound, OffLooked, kept_off, looked_pairs}
 use Rattle.lr_laws_looks.proofs.Aside.{SawAside, all_aside}
 use Rattle.lr_laws_looks.proofs.Coming.{IsFrom, came_from, in_kept, in_looked, in_set, in_where}
@@ -143,7 +143,7 @@ parts_once (s ∷ ss) d = distinct_both (part_in s) (flat_map part_in ss) (seen_
 
 -- the file that waits for its copy
 abbrev waiting : Path → Option Seen → List Path
-waiting log tmp = cond (is_file tmp) (aside_path log ∷ []) []
+waiting log tmp = cond (is_seen_file tmp) (aside_path log ∷ []) []
 
 -- members, part files and that
 abbrev files_of : Path → Stand → Option Seen → List Path
@@ -199,23 +199,23 @@ module _ {reserved : List Path} (rules : Rules) (sets : List SetLooks) (faults :
     aside_seen = all_aside ts [] s.kept s.entries.second.listings s.entries.second.families.sights s.entries.back in_all s.entries.second.families.shown l (subst (IsIn l) s.entries.second.families.looked_are i)
 
     -- a file that waits is of a log that is set aside
-    is_asked : is_file l.tmp ≡ true → l.naming.aside ≡ true
+    is_asked : is_seen_file l.tmp ≡ true → l.naming.aside ≡ true
     is_asked up = go l.naming.aside aside_seen
       where
         go : (b : Bool) → SawAside b l.path l.tmp ts → b ≡ true
         go true saw = refl
-        go false none = absurd (let file : is_file None ≡ true = subst (λ (seen : Option Seen). is_file seen ≡ true) none up in cc)
+        go false none = absurd (let file : is_seen_file None ≡ true = subst (λ (seen : Option Seen). is_seen_file seen ≡ true) none up in cc)
 
     of_waiting : (x : Path) → IsIn x (waiting l.path l.tmp) → IsBesideLog l.path l.naming x
-    of_waiting x j = go (is_file l.tmp) refl j
+    of_waiting x j = go (is_seen_file l.tmp) refl j
       where
-        go : (b : Bool) → is_file l.tmp ≡ b → IsIn x (cond b (aside_path l.path ∷ []) []) → IsBesideLog l.path l.naming x
+        go : (b : Bool) → is_seen_file l.tmp ≡ b → IsIn x (cond b (aside_path l.path ∷ []) []) → IsBesideLog l.path l.naming x
         go true up (inl e) = (is_asked up, sym e)
         go true up (inr none) = absurd none
         go false up none = absurd none
 
     waits_once : AreDistinct (waiting l.path l.tmp)
-    waits_once = go (is_file l.tmp)
+    waits_once = go (is_seen_file l.tmp)
       where
         go : (b : Bool) → AreDistinct (cond b (aside_path l.path ∷ []) [])
         go true = (tt, tt)
@@ -350,7 +350,7 @@ module _ {reserved : List Path} (rules : Rules) (sets : List SetLooks) (faults :
   parts_are log (x ∷ xs) = ap (λ (ys : List Path). x ∷ ys) (parts_are log xs)
 
   waiting_are : (log : Path) (tmp : Option Seen) → paths_in_lines (waiting_lines log tmp) ≡ waiting log tmp
-  waiting_are log tmp = go (is_file tmp)
+  waiting_are log tmp = go (is_seen_file tmp)
     where
       go : (b : Bool) → paths_in_lines (cond b (part_line log (aside_path log) ∷ []) []) ≡ cond b (aside_path log ∷ []) []
       go true = refl

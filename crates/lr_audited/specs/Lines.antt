@@ -13,7 +13,7 @@ use Rattle.lr_chain.specs.Rotation.{is_left}
 use Rattle.lr_plan.specs.declared.looks.LogLook.{LogLook}
 use Rattle.lr_plan.specs.declared.looks.Looks.{Looks}
 use Rattle.lr_plan.specs.declared.looks.SetLooks.{SetLooks}
-use Rattle.lr_plan.specs.Planned.{is_file}
+use Rattle.lr_plan.specs.Planned.{is_seen_file}
 use Rattle.lr_audited.specs.declared.line.Line.{Line}
 use Rattle.lr_audited.specs.declared.line.What.{What}
 use Rattle.lr_audited.specs.declared.line.What.TheVariants as what
@@ -46,7 +46,7 @@ member_lines dated c log later (m ∷ ms) = log_file_line m.path (what_of dated 
 
 -- the log's file where it waits for its copy: a run that broke off had set it aside
 abbrev pub waiting_lines : Path → Option Seen → List Line
-waiting_lines log tmp = if is_file tmp then part_line log (aside_path log) ∷ [] else []
+waiting_lines log tmp = if is_seen_file tmp then part_line log (aside_path log) ∷ [] else []
 
 -- the part files of a log, and its file that waits
 abbrev pub part_lines : LogLook → List Line

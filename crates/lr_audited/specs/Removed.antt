@@ -24,15 +24,15 @@ use Rattle.lr_audited.specs.declared.line.Why.TheVariants as why
 
 -- A file that is a member once the rotation is made, with so many later ones: it goes where the count leaves no room for it;
 -- else where it is too old.
-abbrev pub going : Count → ℕ → Bool → Path → List (Path × Why)
-going c later old x = if is_left c later then (x, why.Count) ∷ [] else if old then (x, why.Age) ∷ [] else []
+abbrev pub file_goes : Count → ℕ → Bool → Path → List (Path × Why)
+file_goes c later old x = if is_left c later then (x, why.Count) ∷ [] else if old then (x, why.Age) ∷ [] else []
 
 abbrev pub member_going : Count → Option ℕ → ℤ → ℕ → Member → List (Path × Why)
-member_going c maxage now later m = going c later (is_expired maxage now m) m.path
+member_going c maxage now later m = file_goes c later (is_expired maxage now m) m.path
 
 -- The log itself, or what waits beside it and is taken up; its age isn't tested. A copy of it isn't there yet.
 abbrev pub log_going : Count → Option Job → Path → ℕ → List (Path × Why)
-log_going c None log later = going c later false log
+log_going c None log later = file_goes c later false log
 log_going c (Some job) log later = []
 
 -- A log that is set aside goes behind its copy, whatever the count.

@@ -1,7 +1,7 @@
 // What each file beside logs is.
 ghost use Rattle.std.specs.Prelude.{◌≡◌, ◌≤◌, ◌++◌, ◌∷◌, [], map, length, All, IfOk, OnOk};
 ghost use Rattle.lr_chain.specs.Rotation.{is_left};
-ghost use Rattle.lr_plan.specs.Planned.{is_file, CanPlan, CanPlanAll};
+ghost use Rattle.lr_plan.specs.Planned.{is_seen_file, CanPlan, CanPlanAll};
 ghost use Rattle.lr_audited.specs.Lines.{log_file_line, log_line, part_line, numbered_what, what_of, member_lines, waiting_lines};
 ghost use Rattle.lr_audited.specs.Lines.{part_lines, family_lines, rule_lines, sets_lines, known_lines};
 

@@ -8,7 +8,7 @@ ghost use Rattle.lr_family.specs.declared.place.Place.TheVariants as at;
 ghost use Rattle.lr_family.specs.Stands.{key_in};
 ghost use Rattle.lr_chain.specs.Rotation.{is_expired};
 ghost use Rattle.lr_audited.specs.declared.line.Why.{Why};
-ghost use Rattle.lr_audited.specs.Removed.{going, log_going, aside_going, moved_going, dated_going, going_with, newest_going};
+ghost use Rattle.lr_audited.specs.Removed.{file_goes, log_going, aside_going, moved_going, dated_going, going_with, newest_going};
 ghost use Rattle.lr_audited.specs.Removed.{new_seconds, new_serial, leftovers_of, retired_of, log_removed, set_removed, removed_by};
 ghost use Rattle.lr_audited.specs.Removed.{IsStamped, AreStamped};
 
@@ -59,7 +59,7 @@ fn add_one(
     old: bool,
     path: &Path,
 ) -> Result<(), Memory>
-    ensures { OnOk result (into.new.items ≡ into.old.items ++ going count later old path.now) }
+    ensures { OnOk result (into.new.items ≡ into.old.items ++ file_goes count later old path.now) }
 {
     if has_no_room(count, later) {
         return push_one(alloc, into, path, Why::Count);

@@ -16,7 +16,7 @@ use Rattle.lr_host.specs.declared.thing.Seen.{Seen}
 use Rattle.lr_host.specs.declared.thing.Thing.{Thing}
 use Rattle.lr_host.specs.declared.thing.Thing.TheVariants as thing
 use Rattle.lr_host.specs.Counted.{calls_in, RoseBy}
-use Rattle.lr_host.specs.Fits.{Sees as IsSeenAs}
+use Rattle.lr_host.specs.Fits.{SeesThing as IsSeenAs}
 use Rattle.lr_host.specs.Lists.{IsIn}
 use Rattle.lr_host.specs.Looks.{Sees, IsNoDir, IsNoFile, IsNotDir}
 use Rattle.lr_host.specs.Opening.{IsJournal}

@@ -20,7 +20,7 @@ use Rattle.lr_report.proofs.PutLemmas.{took_none, took_on, part_on}
 use Rattle.lr_cat.specs.declared.texts.TextStop.{TextStop}
 use Rattle.lr_cat.specs.declared.texts.TextStop.TheVariants as stop
 use Rattle.lr_cat.specs.InternalTexts.{PassesOne, PassesSome, PassesTo}
-use Rattle.lr_cat.specs.Texts.{FileText, text_paths, joined, ReadsWhole, ReadsTexts, TextBreaksOff, ReadsAllOf, TookBy, PassesTexts, CanReadAll, text_fault}
+use Rattle.lr_cat.specs.Texts.{FileText, text_paths, joined_texts, ReadsWhole, ReadsTexts, TextBreaksOff, ReadsAllOf, TookBy, PassesTexts, CanReadAll, text_fault}
 
 -- ---- one file
 
@@ -124,15 +124,15 @@ texts_more (u ∷ texts) t ts us r w = record {
   second = texts_more texts t r.back us r.second w;
 }
 
-joined_more : (texts : List FileText) (t : FileText) → joined (texts ++ t ∷ []) ≡ joined texts ++ t.bytes
-joined_more texts t = flat_map-append (λ (u : FileText). u.bytes) texts (t ∷ []) ∙ ap (λ (bs : List ℕ). joined texts ++ bs) (append-nil t.bytes)
+joined_more : (texts : List FileText) (t : FileText) → joined_texts (texts ++ t ∷ []) ≡ joined_texts texts ++ t.bytes
+joined_more texts t = flat_map-append (λ (u : FileText). u.bytes) texts (t ∷ []) ∙ ap (λ (bs : List ℕ). joined_texts texts ++ bs) (append-nil t.bytes)
 
 -- Of these files, read from the last one on, some were read, and these are left.
 pub record Putting (all rest : List Path) (told later : Option Journal) (before after : Option (List ℕ)) : Type 0 where
   pub texts : List FileText
   pub files_are : reverse all ≡ text_paths texts ++ reverse rest
   pub reads : Left (ReadsTexts texts) told later
-  pub took : Took (joined texts) before after
+  pub took : Took (joined_texts texts) before after
 
 pub putting_first : (all : List Path) (o : Option Journal) (x : Option (List ℕ)) → Putting all all o o x x
 putting_first all o x = record { texts = []; files_are = refl; reads = left_first (ReadsTexts []) o refl; took = took_none x }
@@ -149,7 +149,7 @@ putting_more all now rest file {o = o} {n = n} {x = x} {y = y} {z = z} e p one =
   texts = p.texts ++ t ∷ [];
   files_are = one_more all rest p.texts t (next_file all rest now file p.texts p.files_are e);
   reads = left_then p.reads one.reads (λ ts us a w. texts_more p.texts t ts us a w);
-  took = subst (λ (bs : List ℕ). Took bs x z) (sym (joined_more p.texts t)) (took_on (joined p.texts) one.bytes x y z p.took one.took);
+  took = subst (λ (bs : List ℕ). Took bs x z) (sym (joined_more p.texts t)) (took_on (joined_texts p.texts) one.bytes x y z p.took one.took);
 }
   where
     t : FileText
@@ -181,7 +181,7 @@ putting_stops all now rest file why f {o = o} {n = n} {x = x} {y = y} {z = z} e 
     fault_is = is;
     reads = record { front = ts; back = us; joined = refl; first = a; second = w };
   });
-  took = subst (λ (g : Fault). TookBy (Some g) (joined (p.texts ++ t ∷ [])) x z) (sym is) (subst (λ (bs : List ℕ). TookBy (Some (text_fault why file)) bs x z) (sym (joined_more p.texts t)) (took_both why file (joined p.texts) some.bytes x y z p.took some.took));
+  took = subst (λ (g : Fault). TookBy (Some g) (joined_texts (p.texts ++ t ∷ [])) x z) (sym is) (subst (λ (bs : List ℕ). TookBy (Some (text_fault why file)) bs x z) (sym (joined_more p.texts t)) (took_both why file (joined_texts p.texts) some.bytes x y z p.took some.took));
 }
   where
     t : FileText

@@ -17,14 +17,14 @@ use Rattle.lr_cat.specs.declared.words.Wanted.{Wanted}
 use Rattle.lr_cat.specs.Came.{Came, CatShows, own_of}
 use Rattle.lr_cat.specs.Complete.{IsClear, NoRise, PrintsAll}
 use Rattle.lr_cat.specs.History.{IsHistory}
-use Rattle.lr_cat.specs.Texts.{TookBy, joined}
+use Rattle.lr_cat.specs.Texts.{TookBy, joined_texts}
 use Rattle.lr_cat.specs.Words.{wanted}
 
 -- What the output took of a call that came to this: the texts that were read, one behind another, and of those only a first part
 -- where its own fault ended the call; else nothing.
 abbrev pub TookOf : Option Came → Option (List ℕ) → Option (List ℕ) → Type 0
 TookOf None before after = after ≡ before
-TookOf (Some c) before after = TookBy (own_of c.how) (joined c.texts) before after
+TookOf (Some c) before after = TookBy (own_of c.how) (joined_texts c.texts) before after
 
 -- All that is told of a call with these words, at these seconds, by what it came to.
 pub record CatSays (here : Path) (words : List (List ℕ)) (seconds : ℤ) (outcome : CatOutcome) (told later : Option Journal)

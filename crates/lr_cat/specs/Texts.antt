@@ -22,8 +22,8 @@ abbrev pub text_paths : List FileText → List Path
 text_paths texts = map (λ t. t.path) texts
 
 -- the texts, one behind another
-abbrev pub joined : List FileText → List ℕ
-joined texts = flat_map (λ t. t.bytes) texts
+abbrev pub joined_texts : List FileText → List ℕ
+joined_texts texts = flat_map (λ t. t.bytes) texts
 
 -- ---- the reads
 
@@ -74,7 +74,7 @@ pub record PassesTexts (P : List FileText → List Entry → Type 0) (own : Opti
     (before after : Option (List ℕ)) : Type 0 where
   pub texts : List FileText
   pub left : Left (P texts) told later
-  pub took : TookBy own (joined texts) before after
+  pub took : TookBy own (joined_texts texts) before after
 
 -- each of these can be read, where the host tells its journal
 abbrev pub CanReadAll : Option Journal → List Path → Type 0

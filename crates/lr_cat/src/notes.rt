@@ -1,7 +1,7 @@
 // What there is to say of an outcome, put out.
 ghost use Rattle.std.specs.Prelude.{◌≡◌, ◌≤◌, ◌++◌, OnErr, OnOk};
 ghost use Rattle.lr_host.specs.Told.{Rose};
-ghost use Rattle.lr_report.specs.Lines.{lines};
+ghost use Rattle.lr_report.specs.Lines.{report_lines};
 ghost use Rattle.lr_report.specs.Outcome.{outcome_text};
 ghost use Rattle.lr_report.specs.Puts.{Took, TookPart};
 ghost use Rattle.lr_cat.specs.Outcome.{cat_outcome, notes_of, waits_line};
@@ -38,9 +38,9 @@ fn put_done<N: Sink>(
     log: &Path,
     notes: &mut N,
 ) -> Result<(), SinkFault>
-    ensures whole { OnOk result (Took (lines report.now.notices report.now.faults ++ waits_line waits log.now)
+    ensures whole { OnOk result (Took (report_lines report.now.notices report.now.faults ++ waits_line waits log.now)
         (N.taken notes.old) (N.taken notes.new)) }
-    ensures part { TookPart (lines report.now.notices report.now.faults ++ waits_line waits log.now) (N.taken notes.old)
+    ensures part { TookPart (report_lines report.now.notices report.now.faults ++ waits_line waits log.now) (N.taken notes.old)
         (N.taken notes.new) }
     ensures cause { OnErr result (Rose (N.faults notes.old) (N.faults notes.new)) }
     ensures counts { N.faults notes.old ≤ N.faults notes.new }

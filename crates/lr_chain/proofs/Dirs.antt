@@ -10,7 +10,7 @@ use Rattle.lr_host.specs.declared.entry.Entry.TheVariants.{Look, MakesDir}
 use Rattle.lr_host.specs.declared.journal.Journal.{Journal}
 use Rattle.lr_host.specs.declared.thing.Seen.{Seen}
 use Rattle.lr_host.specs.declared.thing.Thing.TheVariants as thing
-use Rattle.lr_host.specs.Fits.{Fits, IsDirectoryAt, Sees as Shows}
+use Rattle.lr_host.specs.Fits.{Fits, IsDirectoryAt, SeesThing as Shows}
 use Rattle.lr_host.specs.Looks.{Sees, IsDir, IsNoDir, is_dir, is_dir_kind}
 use Rattle.lr_host.specs.Steps.{FitAll, CanAll, changes_of, is_change}
 use Rattle.lr_host.specs.Told.{Made, at_first, by_writer, by_tool, Left, not_told, is_told, Are, CanCall, Can, WhereTold}

@@ -17,7 +17,7 @@ use Rattle.lr_family.specs.declared.place.Place.TheVariants as at
 use Rattle.lr_family.specs.declared.stand.Member.{Member}
 use Rattle.lr_family.specs.Places.{IsPlaceOf, AreNamed}
 use Rattle.lr_chain.specs.declared.ready.PrepareStop.{PrepareStop}
-use Rattle.lr_chain.specs.Hindrances.{is_stamp, fault_at, too_high, taken, stamp_hindrances, IsHindered}
+use Rattle.lr_chain.specs.Hindrances.{is_stamp, fault_at, too_high, taken_fault, stamp_hindrances, IsHindered}
 use Rattle.lr_chain.specs.Serials.{next_serial}
 use Rattle.lr_chain.proofs.Newest.{HasOne, IsStamp, one_in}
 use Rattle.lr_chain.proofs.Serials.{is_next}
@@ -95,19 +95,19 @@ next_may n f ms t e named free = ⊎_elim (λ z. inl z) (λ h. subst (IsSerial f
     raised : (k : ℕ) → HasOne (IsStamp t k) ms → IsSerial f (k + 1)
     raised k h = go f.serial refl free (cases_lt k 4294967295) (serial_in n f ms t k e named h)
       where
-        go : (b : Bool) → f.serial ≡ b → cond b (fault_at too_high t 4294967295 ms) (fault_at taken t 0 ms) ≡ [] → (k < 4294967295) ⊎ (4294967295 ≤ k) → IsSerial f k → IsSerial f (k + 1)
+        go : (b : Bool) → f.serial ≡ b → cond b (fault_at too_high t 4294967295 ms) (fault_at taken_fault t 0 ms) ≡ [] → (k < 4294967295) ⊎ (4294967295 ≤ k) → IsSerial f k → IsSerial f (k + 1)
         go true s free (inl lt) is = inr (s, omega (arith, lt))
         go true s free (inr ge) is =
             let top : k ≡ 4294967295 = ⊎_elim (λ z. omega (arith, ge, z)) (λ q. let le = q.1 in omega (arith, ge, le)) is in
             absurd (none_has too_high t 4294967295 ms free (subst (λ (j : ℕ). HasOne (IsStamp t j) ms) top h))
-        go false s free c (inl z) = absurd (none_has taken t 0 ms free (subst (λ (j : ℕ). HasOne (IsStamp t j) ms) z h))
+        go false s free c (inl z) = absurd (none_has taken_fault t 0 ms free (subst (λ (j : ℕ). HasOne (IsStamp t j) ms) z h))
         go false s free c (inr q) = absurd (let yes = q.0 in cc)
 
 -- ---- what is told
 
 module _ (f : Format) (t : ℤ) (ms : List Member) where
-  by_serials : (b : Bool) → f.serial ≡ b → stamp_hindrances f t ms ≡ cond b (fault_at too_high t 4294967295 ms) (fault_at taken t 0 ms)
-  by_serials b e = ap (λ (c : Bool). cond c (fault_at too_high t 4294967295 ms) (fault_at taken t 0 ms)) e
+  by_serials : (b : Bool) → f.serial ≡ b → stamp_hindrances f t ms ≡ cond b (fault_at too_high t 4294967295 ms) (fault_at taken_fault t 0 ms)
+  by_serials b e = ap (λ (c : Bool). cond c (fault_at too_high t 4294967295 ms) (fault_at taken_fault t 0 ms)) e
 
   -- the member with the greatest serial number, where names have them
   pub high_told : (stop : PrepareStop) (path : Path) → f.serial ≡ true → fault_at too_high t 4294967295 ms ≡ too_high path ∷ [] → IsHindered (too_high path ∷ []) stop → IsHindered (stamp_hindrances f t ms) stop
@@ -117,10 +117,10 @@ module _ (f : Format) (t : ℤ) (ms : List Member) where
   none_high e is = by_serials true e ∙ is
 
   -- the member of the moment, where they have none
-  pub taken_told : (stop : PrepareStop) (path : Path) → f.serial ≡ false → fault_at taken t 0 ms ≡ taken path ∷ [] → IsHindered (taken path ∷ []) stop → IsHindered (stamp_hindrances f t ms) stop
+  pub taken_told : (stop : PrepareStop) (path : Path) → f.serial ≡ false → fault_at taken_fault t 0 ms ≡ taken_fault path ∷ [] → IsHindered (taken_fault path ∷ []) stop → IsHindered (stamp_hindrances f t ms) stop
   taken_told stop path e is h = subst (λ (fs : List Fault). IsHindered fs stop) (sym (by_serials false e ∙ is)) h
 
-  pub none_taken : f.serial ≡ false → fault_at taken t 0 ms ≡ [] → stamp_hindrances f t ms ≡ []
+  pub none_taken : f.serial ≡ false → fault_at taken_fault t 0 ms ≡ [] → stamp_hindrances f t ms ≡ []
   none_taken e is = by_serials false e ∙ is
 
 -- ---- the name that is free

@@ -33,14 +33,14 @@ fault_at why seconds serial (m ∷ ms) = if is_stamp seconds serial m.place then
 abbrev pub too_high : Path → Fault
 too_high path = fault.TooHigh path
 
-abbrev pub taken : Path → Fault
-taken path = fault.Taken path
+abbrev pub taken_fault : Path → Fault
+taken_fault path = fault.Taken path
 
 -- What keeps the log from being rotated to the moment of a stamp: where names have serial numbers, a member of that moment has the
 -- greatest that there is, so that none comes next; where they have none, the name is a member's.
 abbrev pub stamp_hindrances : Format → ℤ → List Member → List Fault
-stamp_hindrances format seconds members = if format.serial then fault_at too_high seconds 4294967295 members else fault_at taken
-    seconds 0 members
+stamp_hindrances format seconds members =
+    if format.serial then fault_at too_high seconds 4294967295 members else fault_at taken_fault seconds 0 members
 
 -- all members are kept
 abbrev pub keeps_all : Count → Bool

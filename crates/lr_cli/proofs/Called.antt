@@ -20,7 +20,7 @@ use Rattle.lr_laws_rotations.proofs.Safety.{quiet_call_safe}
 use Rattle.lr_laws_rotations.specs.Runs.{IsWholeRunBy}
 use Rattle.lr_laws_rotations.proofs.RunSafety.{all_safe}
 use Rattle.lr_plan.specs.declared.plan.Plan.{Plan}
-use Rattle.lr_report.specs.Lines.{lines}
+use Rattle.lr_report.specs.Lines.{report_lines}
 use Rattle.lr_report.specs.Puts.{Took, TookPart}
 use Rattle.lr_shown.specs.Puts.{Puts}
 use Rattle.lr_run.specs.Ran.{TellsNamesOf}
@@ -33,7 +33,7 @@ use Rattle.lr_report.specs.declared.outcome.Outcome.{Outcome}
 use Rattle.lr_report.specs.declared.outcome.Outcome.TheVariants.{Done, BadWords, Held, OutOfMemory}
 use Rattle.lr_report.specs.declared.outcome.Report.{Report}
 use Rattle.lr_command.specs.declared.request.Request.{Request}
-use Rattle.lr_command.specs.Words.{asked}
+use Rattle.lr_command.specs.Words.{asked_request}
 use Rattle.lr_cli.specs.Called.{Came, CallEnds, CallShows, not_read, read}
 use Rattle.lr_clock.specs.Clock.{ShowsClock, ClockStopped, HasClock, IsClockFault, IsClocked, with_clock, without_clock, clock_answer}
 use Rattle.lr_report.specs.Reported.{AreReported}
@@ -140,7 +140,7 @@ says_nothing here words zone seconds a o j counted counts x y low high disk same
   ended = left_before here words zone seconds None (without_out a) None shown;
   state = came_whole here words zone seconds None (without_out a) None shown;
   copied = came_copied here words zone seconds None (without_out a) None disk shown;
-  prints = prints_line (asked_text (asked here words) None) o a x y low high i (none_asked (asked here words)) same p t;
+  prints = prints_line (asked_text (asked_request here words) None) o a x y low high i (none_asked (asked_request here words)) same p t;
 }
   where
     shown : Left (CallShows here words zone seconds None (without_out a) None) j j
@@ -171,7 +171,7 @@ says_so here words zone s seconds request plan a o j k counted counts x y low hi
     names_of e c report some done acts = subst (λ (r : Request). TellsNamesOf r.settings.state c.clock c.work j k) e (h.names c report some done (ap (λ (r : Request). r.settings.debug) e ∙ acts))
 
 -- what was put of a report
-pub report_prints : (put : Result (Unit {0}) SinkFault) (front : List ℕ) (ns : List Notice) (fs : List Fault) (o : Outcome) (x y : Option (List ℕ)) (low high : ℕ) → Puts (front ++ lines ns fs) put x y low high → without_out o ≡ report_with ns fs → OnErr put (HasFault o fault.Out) → Prints (printed_of front o) o x y low high
+pub report_prints : (put : Result (Unit {0}) SinkFault) (front : List ℕ) (ns : List Notice) (fs : List Fault) (o : Outcome) (x y : Option (List ℕ)) (low high : ℕ) → Puts (front ++ report_lines ns fs) put x y low high → without_out o ≡ report_with ns fs → OnErr put (HasFault o fault.Out) → Prints (printed_of front o) o x y low high
 report_prints (Ok u) front ns fs o x y low high p e h = record {
   printed = subst (λ (r : Outcome). TookPart (front ++ outcome_text r) x y) (sym e) p.part;
   whole = inl (subst (λ (r : Outcome). Took (front ++ outcome_text r) x y) (sym e) p.whole);

@@ -11,7 +11,7 @@ use Rattle.lr_rules.proofs.Bools.{not_both}
 use Rattle.lr_host.specs.declared.entry.Entry.{Entry}
 use Rattle.lr_host.specs.declared.entry.Entry.TheVariants as entry
 use Rattle.lr_host.specs.declared.journal.Journal.{Journal}
-use Rattle.lr_host.specs.Counted.{calls_in, scripts_in}
+use Rattle.lr_host.specs.Counted.{calls_in, bad_scripts_in}
 use Rattle.lr_host.specs.Lists.{IsIn}
 use Rattle.lr_host.specs.Opening.{IsJournal}
 use Rattle.lr_host.specs.Quiet.{AreQuiet}
@@ -86,14 +86,14 @@ use Rattle.lr_cli.proofs.Still.{front_sights, front_quiet, dry_quiet, halt_still
 -- ---- counts
 
 -- neither are told where no count rose
-none_told : (faults : List Fault) (counted counts : Counts) → AreReported faults counted counts → NoneRose counted counts → (calls_in faults ≡ 0) × (scripts_in faults ≡ 0)
-none_told faults counted counts are none = (none_rose (calls_in faults) counted.faults counts.faults are.calls none.0, none_rose (scripts_in faults) counted.bad_ends counts.bad_ends are.scripts none.1)
+none_told : (faults : List Fault) (counted counts : Counts) → AreReported faults counted counts → NoneRose counted counts → (calls_in faults ≡ 0) × (bad_scripts_in faults ≡ 0)
+none_told faults counted counts are none = (none_rose (calls_in faults) counted.faults counts.faults are.calls none.0, none_rose (bad_scripts_in faults) counted.bad_ends counts.bad_ends are.scripts none.1)
 
 own_calls : (xs ys : List Fault) → calls_in (xs ++ ys) ≡ 0 → calls_in ys ≡ 0
 own_calls xs ys h = let all : calls_in (xs ++ ys) ≡ calls_in xs + calls_in ys = calls_on xs ys in omega (arith, h, all)
 
-own_ends : (xs ys : List Fault) → scripts_in (xs ++ ys) ≡ 0 → scripts_in ys ≡ 0
-own_ends xs ys h = let all : scripts_in (xs ++ ys) ≡ scripts_in xs + scripts_in ys = scripts_on xs ys in omega (arith, h, all)
+own_ends : (xs ys : List Fault) → bad_scripts_in (xs ++ ys) ≡ 0 → bad_scripts_in ys ≡ 0
+own_ends xs ys h = let all : bad_scripts_in (xs ++ ys) ≡ bad_scripts_in xs + bad_scripts_in ys = scripts_on xs ys in omega (arith, h, all)
 
 -- faults behind others met nothing where all did
 own_met : (dirs : List Path) (xs own : List Fault) → MetNothing dirs (xs ++ own) → MetNothing dirs own

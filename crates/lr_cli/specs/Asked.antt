@@ -3,16 +3,16 @@ use Rattle.std.specs.Prelude.{◌≡◌, ◌||◌, ℕ, List, [], Option, Some, 
 use Rattle.lr_rules.specs.declared.path.Path.{Path}
 use Rattle.lr_plan.specs.declared.plan.Plan.{Plan}
 use Rattle.lr_command.specs.declared.request.Request.{Request}
-use Rattle.lr_command.specs.Words.{asked}
+use Rattle.lr_command.specs.Words.{asked_request}
 use Rattle.lr_shown.specs.Lines.{plan_text}
 
 -- the words ask for this request, from the directory `here` on
 abbrev pub AskFor : Path → List (List ℕ) → Request → Type 0
-AskFor here words request = asked here words ≡ Some request
+AskFor here words request = asked_request here words ≡ Some request
 
 -- they ask for none
 abbrev pub AskForNone : Path → List (List ℕ) → Type 0
-AskForNone here words = asked here words ≡ None
+AskForNone here words = asked_request here words ≡ None
 
 -- What is printed of a plan, where the call came to one: what was decided of each log, where that is asked for, and in a dry run
 -- the steps too.

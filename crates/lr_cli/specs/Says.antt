@@ -11,7 +11,7 @@ use Rattle.lr_laws_acts.specs.Emptied.{EmptiesWhole}
 use Rattle.lr_plan.specs.declared.plan.Plan.{Plan}
 use Rattle.lr_report.specs.Puts.{Took, TookPart}
 use Rattle.lr_command.specs.declared.request.Request.{Request}
-use Rattle.lr_command.specs.Words.{asked}
+use Rattle.lr_command.specs.Words.{asked_request}
 use Rattle.lr_report.specs.declared.outcome.Outcome.{Outcome}
 use Rattle.lr_report.specs.declared.outcome.Outcome.TheVariants.{Done}
 use Rattle.lr_report.specs.declared.outcome.Report.{Report}
@@ -57,4 +57,4 @@ pub record Says (here : Path) (words : List (List ℕ)) (zone : Zone) (seconds :
   -- path just before, with all bytes that the log had as it was last read
   pub copied : EmptiesWhole (IsCopyIn came) told later
   -- what was printed of the plan, and of the answer
-  pub prints : Prints (printed_of (asked_text (asked here words) plan) outcome) outcome before after low high
+  pub prints : Prints (printed_of (asked_text (asked_request here words) plan) outcome) outcome before after low high

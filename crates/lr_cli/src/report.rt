@@ -3,7 +3,7 @@ ghost use Rattle.std.specs.Prelude.{◌≡◌, ◌≤◌, ◌<◌, ◌+◌, ◌+
 ghost use Rattle.std.specs.Prelude.{if◌then◌else◌};
 ghost use Rattle.lr_rules.specs.declared.fault.Fault.TheVariants as fault;
 ghost use Rattle.lr_host.specs.Told.{Rose};
-ghost use Rattle.lr_report.specs.Lines.{lines};
+ghost use Rattle.lr_report.specs.Lines.{report_lines};
 ghost use Rattle.lr_shown.specs.Lines.{plan_text};
 ghost use Rattle.lr_shown.specs.Puts.{Puts};
 ghost use Rattle.lr_report.specs.declared.outcome.Report.{Report};
@@ -74,16 +74,16 @@ fn put_planned<K: Sink>(request: &Request, told: &Told, out: &mut K) -> Result<(
 
 // Puts the lines of what a run told.
 fn put_said_lines<K: Sink>(told: &Told, out: &mut K) -> Result<(), SinkFault>
-    ensures { Puts (lines told.now.notices told.now.faults.items) result (K.taken out.old) (K.taken out.new) (K.faults out.old)
-        (K.faults out.new) }
+    ensures { Puts (report_lines told.now.notices told.now.faults.items) result (K.taken out.old) (K.taken out.new)
+        (K.faults out.old) (K.faults out.new) }
 {
     put_lines(told.notices.as_slice(), &told.faults, out)
 }
 
 // Puts all that there is to say of a run that told this: the text of its plan, and then the lines.
 fn put_told<K: Sink>(request: &Request, told: &Told, out: &mut K) -> Result<(), SinkFault>
-    ensures { Puts (planned_text request.now told.now.plan ++ lines told.now.notices told.now.faults.items) result (K.taken out.old)
-        (K.taken out.new) (K.faults out.old) (K.faults out.new) }
+    ensures { Puts (planned_text request.now told.now.plan ++ report_lines told.now.notices told.now.faults.items) result
+        (K.taken out.old) (K.taken out.new) (K.faults out.old) (K.faults out.new) }
 {
     put_planned(request, told, out)?;
     put_said_lines(told, out)

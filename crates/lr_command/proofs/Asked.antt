@@ -7,7 +7,7 @@ use Rattle.lr_rules.specs.declared.path.Path.{Path}
 use Rattle.lr_rules.specs.StatePath.{can_be_state}
 use Rattle.lr_command.specs.declared.request.Request.{Request}
 use Rattle.lr_command.specs.Command.{are_taken, found_in}
-use Rattle.lr_command.specs.Words.{are_paths, asked, confs_in, has_confs, has_mailer, has_state, mailer_in, may_be_path, request_if, request_in, request_where, settings_with, state_in, state_value}
+use Rattle.lr_command.specs.Words.{are_paths, asked_request, confs_in, has_confs, has_mailer, has_state, mailer_in, may_be_path, request_if, request_in, request_where, settings_with, state_in, state_value}
 
 -- the request with the settings of this state file is the one of what was found
 pub request_is : (here : Path) (found : List Row) (state mailer : Path) (confs : List Path) (fits : can_be_state state ≡ true) → state ≡ state_in here found → mailer ≡ mailer_in here found → confs ≡ confs_in here found
@@ -63,7 +63,7 @@ asks_so (Ok request) here found s h m c = asks here found h.0 s m c ∙ ap Some 
 asks_so (Err e) here found s h m c = tt
 
 -- so it is of words that `clap` takes
-pub asks_words : {E : Type 0} (r : Result Request E) (here : Path) (words : List (List ℕ)) (found : List Row) → are_taken words ≡ true → found ≡ found_in words → IfOk r (λ request. request_where here found ≡ Some request) → IfOk r (λ request. asked here words ≡ Some request)
-unfolding asked
+pub asks_words : {E : Type 0} (r : Result Request E) (here : Path) (words : List (List ℕ)) (found : List Row) → are_taken words ≡ true → found ≡ found_in words → IfOk r (λ request. request_where here found ≡ Some request) → IfOk r (λ request. asked_request here words ≡ Some request)
+unfolding asked_request
 asks_words (Ok request) here words found taken same h = ap (λ (b : Bool). if b then request_where here (found_in words) else None) taken ∙ subst (λ (rows : List Row). request_where here rows ≡ Some request) same h
 asks_words (Err e) here words found taken same h = tt

@@ -8,8 +8,8 @@ use Rattle.clap.specs.declared.builder.action.ArgAction.TheVariants.{Append, Cou
 -- ---- the one command value
 
 -- a flag, which may stand any number of times
-abbrev pub counted : Text → ℕ → Rule
-counted name letter = record (new_rule name) {
+abbrev pub counted_flag : Text → ℕ → Rule
+counted_flag name letter = record (new_rule name) {
   short = Some letter;
   long = Some name;
   action = Some Count;
@@ -32,8 +32,8 @@ some_words name = record (new_rule name) {
 }
 
 -- a command whose words begin behind its name, without help and version
-abbrev pub bare : Text → App
-bare name = record (new_app name) {
+abbrev pub bare_command : Text → App
+bare_command name = record (new_app name) {
   top = record (new_app name).top { no_binary_name = true; disable_help_flag = true };
 }
 
@@ -41,10 +41,10 @@ bare name = record (new_app name) {
 -- once; one or more CONF.
 unfoldable pub command : App
 command =
-    with_rule (with_rule (with_rule (with_rule (with_rule (with_rule (bare (codes "logrotate"))
-    (counted (codes "debug") 100))
-    (counted (codes "force") 102))
-    (counted (codes "verbose") 118))
+    with_rule (with_rule (with_rule (with_rule (with_rule (with_rule (bare_command (codes "logrotate"))
+    (counted_flag (codes "debug") 100))
+    (counted_flag (codes "force") 102))
+    (counted_flag (codes "verbose") 118))
     (valued (codes "state") 115))
     (valued (codes "mail") 109))
     (some_words (codes "conf"))
@@ -68,8 +68,8 @@ abbrev pub has_flag : Text → List Row → Bool
 has_flag name found = nat_lt 0 (count_of name found)
 
 -- the value of an option, where it was found
-abbrev pub value_of : Text → List Row → Option Text
-value_of name found = first_of name found
+abbrev pub option_value : Text → List Row → Option Text
+option_value name found = first_of name found
 
 -- the words of an argument that takes several, in order
 abbrev pub words_of : Text → List Row → List Text

@@ -8,7 +8,7 @@ use Rattle.lr_rules.specs.declared.settings.Settings.{Settings}
 use Rattle.lr_rules.specs.Path.{cleaned, word_fault}
 use Rattle.lr_rules.specs.StatePath.{can_be_state}
 use Rattle.lr_command.specs.declared.request.Request.{Request}
-use Rattle.lr_command.specs.Command.{are_taken, found_in, has_flag, value_of, words_of}
+use Rattle.lr_command.specs.Command.{are_taken, found_in, has_flag, option_value, words_of}
 
 -- ---- paths
 
@@ -53,20 +53,20 @@ mail_program = codes "/usr/bin/mail"
 
 -- FILE, where the words have it
 abbrev pub state_value : List Row → Option (List ℕ)
-state_value found = value_of (codes "state") found
+state_value found = option_value (codes "state") found
 
 abbrev pub state_in : Path → List Row → Path
 state_in here found = state_by here (state_value found)
 
 abbrev pub mailer_in : Path → List Row → Path
-mailer_in here found = path_or here mail_program (value_of (codes "mail") found)
+mailer_in here found = path_or here mail_program (option_value (codes "mail") found)
 
 abbrev pub confs_in : Path → List Row → List Path
 confs_in here found = map (cleaned here) (words_of (codes "conf") found)
 
 -- COMMAND names a path
 abbrev pub has_mailer : Path → List Row → Bool
-has_mailer here found = may_be_path here (value_of (codes "mail") found)
+has_mailer here found = may_be_path here (option_value (codes "mail") found)
 
 -- each CONF names a path
 abbrev pub has_confs : Path → List Row → Bool
@@ -106,5 +106,5 @@ request_where here found = request_if here found (can_be_state (state_in here fo
 
 -- The request that the words ask for, from the directory `here` on: `clap` takes them, each path that they name is one, and the
 -- state file can have its own. Else they ask for none.
-unfoldable pub asked : Path → List (List ℕ) → Option Request
-asked here words = if are_taken words then request_where here (found_in words) else None
+unfoldable pub asked_request : Path → List (List ℕ) → Option Request
+asked_request here words = if are_taken words then request_where here (found_in words) else None

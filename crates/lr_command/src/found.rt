@@ -1,7 +1,7 @@
 // What `clap` finds in the words.
 ghost use Rattle.std.specs.Prelude.{◌≡◌, ◌≢◌, IfOk, map, option_map, true, false};
 ghost use Rattle.clap.specs.Words.{found_of, rows_of};
-ghost use Rattle.lr_command.specs.Command.{are_taken, found_in, has_flag, value_of};
+ghost use Rattle.lr_command.specs.Command.{are_taken, found_in, has_flag, option_value};
 
 use crate::command::command;
 use crate::request::WordsFault;
@@ -51,7 +51,7 @@ pub fn has_flag(found: &ArgMatches<'_>, name: &str) -> bool
 
 /// The value of the option, where it was found.
 pub fn value_of<'a>(found: &ArgMatches<'a>, name: &str) -> Option<&'a str>
-    ensures { option_map (λ s. s.now) result ≡ value_of name.now (rows_of (found_of found.now)) }
+    ensures { option_map (λ s. s.now) result ≡ option_value name.now (rows_of (found_of found.now)) }
 {
     found.get_str(name)
 }

@@ -2,7 +2,8 @@
 ghost use Rattle.std.specs.Prelude.{◌≡◌, ◌&&◌, IfOk, Some, None, true, false};
 ghost use Rattle.clap.specs.Words.{found_of, rows_of};
 ghost use Rattle.lr_command.specs.Command.{has_flag};
-ghost use Rattle.lr_command.specs.Words.{asked, confs_in, has_confs, has_mailer, has_state, mailer_in, request_in, request_where};
+ghost use Rattle.lr_command.specs.Words.{asked_request, confs_in, has_confs, has_mailer, has_state};
+ghost use Rattle.lr_command.specs.Words.{mailer_in, request_in, request_where};
 ghost use Rattle.lr_command.specs.Words.{settings_with, state_in, state_value};
 ghost use Rattle.lr_rules.specs.StatePath.{can_be_state};
 
@@ -109,10 +110,10 @@ fn request_of_found(
 }
 
 /// The request that the words ask for, where a relative path stands behind `here`.
-#[tactic(auto, unfolding(crate::specs::Words::asked))]
+#[tactic(auto, unfolding(crate::specs::Words::asked_request))]
 pub fn request_of(alloc: Global, words: &[Text], here: &Path) -> Result<Request, WordsFault>
-    ensures request { IfOk result (λ request. asked here.now words.now ≡ Some request) }
-    ensures refused { result ≡ Err WordsFault.Refused → asked here.now words.now ≡ None }
+    ensures request { IfOk result (λ request. asked_request here.now words.now ≡ Some request) }
+    ensures refused { result ≡ Err WordsFault.Refused → asked_request here.now words.now ≡ None }
 {
     let texts = texts_of(alloc, words)?;
     let found = find(alloc, texts.as_slice())?;

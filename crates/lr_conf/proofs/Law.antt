@@ -16,11 +16,11 @@ use Rattle.lr_forms.specs.declared.said.Said.TheVariants as says
 use Rattle.lr_forms.specs.declared.set.Set.TheVariants as set
 use Rattle.lr_rules.specs.declared.fault.ConfKind.{ConfKind}
 use Rattle.lr_rules.specs.declared.fault.Phase.{Phase}
-use Rattle.lr_forms.specs.Says.{said}
+use Rattle.lr_forms.specs.Says.{item_says}
 use Rattle.lr_conf.specs.Fields.{fields_of}
 use Rattle.lr_conf.specs.Rules.{rule_of}
 use Rattle.lr_conf.specs.Scripts.{script_fault}
-use Rattle.lr_conf.specs.Meaning.{Line, Read, Spoiled, End, Cut, OutsideLine, stands, spoiled, file_ends, breaks_off, Meaning, ◌and◌, told, conf, before, through, behind as behind_first, set_of, set_past, settings, names_past, settles, pending, first_line, first_pending, words_pending, past, notice_of, line_fault, script_of, line_script, scripts_in, script_says, said_behind, within, body_of, drops, is_bad_line, set_in, notice_in, fault_in, broken_fault, spoilt_fault, ends, opens, of_end, of_definition, of_body, of_opening, of_line, of_spoilt, meaning, line_file, or_line}
+use Rattle.lr_conf.specs.Meaning.{Line, Read, Spoiled, End, Cut, OutsideLine, stands, spoiled, file_ends, breaks_off, Meaning, ◌and◌, only_faults, conf, before, through, behind as behind_first, set_of, set_past, settings, names_past, settles, pending, first_line, first_pending, words_pending, outside_line, notice_of, line_fault, script_of, line_script, scripts_in, script_sets, said_behind, within, body_of, drops, is_bad_line, set_in, notice_in, fault_in, broken_fault, spoilt_fault, ends, opens_definition, of_end, of_definition, of_body, of_opening, of_line, of_spoilt, meaning, line_file, or_line}
 use Rattle.lr_conf.specs.Setting.{with_set, default_fields}
 use Rattle.lr_conf.specs.Internal.Draft.{State, run, with_said, scripted, said_inside, outside, turned}
 use Rattle.lr_conf.proofs.Settings.{fields-push}
@@ -112,7 +112,7 @@ rest_of earlier at ws vs es =
       notices = filter_map notice_in (through drops (body_of earlier (before ends es)));
       faults = filter_map fault_in (through drops (body_of earlier (before ends es)));
     }
-    and (cond (list_any drops (body_of earlier (before ends es))) (told (filter_map broken_fault (behind_first drops (body_of earlier (before ends es))))) (of_end at ws (fields_of (vs ++ filter_map set_in (body_of earlier (before ends es)))) (find ends es)))
+    and (cond (list_any drops (body_of earlier (before ends es))) (only_faults (filter_map broken_fault (behind_first drops (body_of earlier (before ends es))))) (of_end at ws (fields_of (vs ++ filter_map set_in (body_of earlier (before ends es)))) (find ends es)))
 
 abbrev pub GoodLaw : List Line → Type 0
 GoodLaw es = (out : List OutsideLine) (vs : List Set) (at : ℕ) (ws : List (List ℕ)) (earlier : List Line)
@@ -156,7 +156,7 @@ next_good es out p d ws at law de =
 
 -- what follows a line
 abbrev follows : List OutsideLine → OutsideLine → List Line → Meaning
-follows out p es = of_opening out p es and meaning (opens p) (out ++ p ∷ []) es
+follows out p es = of_opening out p es and meaning (opens_definition p) (out ++ p ∷ []) es
 
 -- a line that leaves pending names, without a brace
 stays : (p : OutsideLine) (es : List Line) → Laws es → (out : List OutsideLine) (f : Fields) (ps : List Phase) → settles p ≡ false → names_past p ≡ None → set_past p ≡ None
@@ -215,7 +215,7 @@ step-law file_ends es l out f ps = next es out file_ends _ [] None f ps l.out re
 step-law breaks_off es l out f ps = next es out breaks_off _ [] None f ps l.out refl refl refl
 
 outside-law : (e : Line) (es : List Line) → Laws es → OutsideLaw (e ∷ es)
-outside-law e es l out f ps = ap (λ m. of_line (line_file e) (first_pending out) (past e) and m) (step-law (past e) es l out f ps)
+outside-law e es l out f ps = ap (λ m. of_line (line_file e) (first_pending out) (outside_line e) and m) (step-law (outside_line e) es l out f ps)
 
 -- ---- dropped definitions
 
@@ -223,7 +223,7 @@ dropped-law : (e : Line) (es : List Line) → Laws es → DroppedLaw (e ∷ es)
 dropped-law (Read file (item.Close line)) es l out ws first f ps = next es out (stands line false says.Close) _ [] None f ps l.out refl refl refl
 dropped-law (Read file (item.Line words names brace stray line)) es l out ws first f ps = l.drop out ws first f ps
 dropped-law (Read file (item.Script word text brace stray line)) es l out ws first f ps = l.drop out ws first f ps
-dropped-law (Spoiled e) es l out ws first f ps = ap (λ m. told (e ∷ []) and m) (l.drop out ws first f ps)
+dropped-law (Spoiled e) es l out ws first f ps = ap (λ m. only_faults (e ∷ []) and m) (l.drop out ws first f ps)
 dropped-law (End file) es l out ws first f ps = next es out file_ends _ [] None f ps l.out refl refl refl
 dropped-law Cut es l out ws first f ps = next es out breaks_off _ [] None f ps l.out refl refl refl
 
@@ -263,7 +263,7 @@ from_line more file line v at ws vs es =
       faults = cons_option (line_fault file line v) (filter_map fault_in (cond (is_bad_line v) [] (through drops (body_of more (before ends es)))));
     }
     and (cond (is_bad_line v || list_any drops (body_of more (before ends es)))
-    (told (filter_map broken_fault (cond (is_bad_line v) (body_of more (before ends es)) (behind_first drops (body_of more (before ends es))))))
+    (only_faults (filter_map broken_fault (cond (is_bad_line v) (body_of more (before ends es)) (behind_first drops (body_of more (before ends es))))))
     (of_end at ws (fields_of (vs ++ cons_option (set_of v) (filter_map set_in (body_of more (before ends es))))) (find ends es)))
 
 -- the same, with the fields told
@@ -274,7 +274,7 @@ ended more at ws es f =
       notices = filter_map notice_in (through drops (body_of more (before ends es)));
       faults = filter_map fault_in (through drops (body_of more (before ends es)));
     }
-    and (cond (list_any drops (body_of more (before ends es))) (told (filter_map broken_fault (behind_first drops (body_of more (before ends es))))) (of_end at ws f (find ends es)))
+    and (cond (list_any drops (body_of more (before ends es))) (only_faults (filter_map broken_fault (behind_first drops (body_of more (before ends es))))) (of_end at ws f (find ends es)))
 
 abbrev good_state : List OutsideLine → List Set → ℕ → List (List ℕ) → List Phase → State
 good_state out vs at ws ps = st Good (fields_of (settings out)) ws (Some at) (fields_of vs) ps
@@ -296,9 +296,9 @@ set_on es l out vs at ws v more ps is =
 -- behind one that drops the definition
 drop_on : (es : List Line) → Laws es → (out : List OutsideLine) (vs : List Set) (at : ℕ) (ws : List (List ℕ)) (more : List Line) (ps : List Phase)
     → run (st Dropped (fields_of (settings out)) ws (Some at) (fields_of vs) ps) es
-    ≡ (told (filter_map broken_fault (body_of more (before ends es))) and meaning true out es)
+    ≡ (only_faults (filter_map broken_fault (body_of more (before ends es))) and meaning true out es)
 drop_on es l out vs at ws more ps =
-    l.drop out ws (Some at) (fields_of vs) ps ∙ ap (λ fs. told fs and meaning true out es) (sym (broken-are more (before ends es)))
+    l.drop out ws (Some at) (fields_of vs) ps ∙ ap (λ fs. only_faults fs and meaning true out es) (sym (broken-are more (before ends es)))
 
 inside-law : (file : Path) (line : ℕ) (v : Said) (es : List Line) → Laws es → (out : List OutsideLine) (vs : List Set) (at : ℕ) (ws : List (List ℕ)) (ps : List Phase) (more : List Line)
     → scripts_in more ≡ with_phase (script_of v) ps
@@ -309,9 +309,9 @@ inside-law file line (says.OwnerPassed v) es l out vs at ws ps more is =
     ap (λ m. record { rules = []; notices = record { file = file; line = line; word = None } ∷ []; faults = [] } and m) (set_on es l out vs at ws v more ps is)
 inside-law file line (says.Script p text stray) es l out vs at ws ps more is = by (script_fault ps p stray)
   where
-    by : (o : Option ConfKind) → (said_inside file line (script_says o p text) and run (scripted (good_state out vs at ws ps) p text o) es) ≡ (from_line more file line (script_says o p text) at ws vs es and meaning true out es)
+    by : (o : Option ConfKind) → (said_inside file line (script_sets o p text) and run (scripted (good_state out vs at ws ps) p text o) es) ≡ (from_line more file line (script_sets o p text) at ws vs es and meaning true out es)
     by None = set_on es l out vs at ws (set.Script p text) more (ps ++ p ∷ []) is
-    by (Some k) = ap (λ m. told (conf file k line ∷ []) and m) (drop_on es l out vs at ws more ps)
+    by (Some k) = ap (λ m. only_faults (conf file k line ∷ []) and m) (drop_on es l out vs at ws more ps)
 inside-law file line (says.Include path) es l out vs at ws ps more is = plain_on es l out vs at ws more ps is
 inside-law file line (says.Taboo patterns items) es l out vs at ws ps more is = plain_on es l out vs at ws more ps is
 inside-law file line (says.Passed word) es l out vs at ws ps more is =
@@ -319,8 +319,8 @@ inside-law file line (says.Passed word) es l out vs at ws ps more is =
 inside-law file line (says.Names names) es l out vs at ws ps more is = plain_on es l out vs at ws more ps is
 inside-law file line says.Open es l out vs at ws ps more is = plain_on es l out vs at ws more ps is
 inside-law file line says.Close es l out vs at ws ps more is = plain_on es l out vs at ws more ps is
-inside-law file line says.Unknown es l out vs at ws ps more is = ap (λ m. told (conf file kind.Unknown line ∷ []) and m) (plain_on es l out vs at ws more ps is)
-inside-law file line (says.Bad k) es l out vs at ws ps more is = ap (λ m. told (conf file k line ∷ []) and m) (drop_on es l out vs at ws more ps)
+inside-law file line says.Unknown es l out vs at ws ps more is = ap (λ m. only_faults (conf file kind.Unknown line ∷ []) and m) (plain_on es l out vs at ws more ps is)
+inside-law file line (says.Bad k) es l out vs at ws ps more is = ap (λ m. only_faults (conf file k line ∷ []) and m) (drop_on es l out vs at ws more ps)
 inside-law file line (says.BadNames k) es l out vs at ws ps more is = plain_on es l out vs at ws more ps is
 
 good-law : (e : Line) (es : List Line) → Laws es → GoodLaw (e ∷ es)
@@ -329,13 +329,13 @@ good-law (Read file (item.Close line)) es l out vs at ws earlier =
     ∙ ap (λ s. record { rules = rule_of file at ws (fields_of s) ∷ []; notices = []; faults = [] } and meaning false (out ++ stands line false says.Close ∷ []) es) (sym (append-nil vs))
 good-law (Read file (item.Line words names brace stray line)) es l out vs at ws earlier =
     let i = item.Line words names brace stray line in
-    inside-law file line (said true i) es l out vs at ws (scripts_in earlier) (earlier ++ Read file i ∷ []) (scripts-push earlier (Read file i))
+    inside-law file line (item_says true i) es l out vs at ws (scripts_in earlier) (earlier ++ Read file i ∷ []) (scripts-push earlier (Read file i))
 good-law (Read file (item.Script word text brace stray line)) es l out vs at ws earlier =
     let i = item.Script word text brace stray line in
-    inside-law file line (said true i) es l out vs at ws (scripts_in earlier) (earlier ++ Read file i ∷ []) (scripts-push earlier (Read file i))
-good-law (Spoiled e) es l out vs at ws earlier = ap (λ m. told (e ∷ []) and m) (drop_on es l out vs at ws (earlier ++ Spoiled e ∷ []) (scripts_in earlier))
+    inside-law file line (item_says true i) es l out vs at ws (scripts_in earlier) (earlier ++ Read file i ∷ []) (scripts-push earlier (Read file i))
+good-law (Spoiled e) es l out vs at ws earlier = ap (λ m. only_faults (e ∷ []) and m) (drop_on es l out vs at ws (earlier ++ Spoiled e ∷ []) (scripts_in earlier))
 good-law (End file) es l out vs at ws earlier =
-    ap (λ m. told (conf file kind.NoBrace at ∷ []) and m) (next es out file_ends _ [] None (fields_of vs) (scripts_in earlier) l.out refl refl refl)
+    ap (λ m. only_faults (conf file kind.NoBrace at ∷ []) and m) (next es out file_ends _ [] None (fields_of vs) (scripts_in earlier) l.out refl refl refl)
 good-law Cut es l out vs at ws earlier = next es out breaks_off _ [] None (fields_of vs) (scripts_in earlier) l.out refl refl refl
 
 pub laws : (es : List Line) → Laws es

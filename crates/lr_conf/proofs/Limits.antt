@@ -24,7 +24,7 @@ use Rattle.lr_forms.specs.declared.set.Set.{Set}
 use Rattle.lr_forms.specs.declared.set.Set.TheVariants as set
 use Rattle.lr_forms.specs.declared.said.Said.{Said}
 use Rattle.lr_forms.specs.declared.said.Said.TheVariants as says
-use Rattle.lr_forms.specs.Says.{said}
+use Rattle.lr_forms.specs.Says.{item_says}
 use Rattle.lr_forms.specs.Limits.{set_meets, said_meets}
 use Rattle.lr_forms.proofs.Limits.{said_fine}
 use Rattle.lr_conf.specs.declared.draft.Draft.{Draft}
@@ -34,7 +34,7 @@ use Rattle.lr_conf.specs.declared.stop.LayerStop.TheVariants as stop
 use Rattle.lr_conf.specs.Fields.{fields_of, last_set, criterion_set, count_set, maxage_set, minage_set, minsize_set, maxsize_set, start_set, extension_set, addextension_set, olddir_set, createolddir_set, create_set, mail_set, pieces_set, dated_set, back_set, serial_set}
 use Rattle.lr_conf.specs.Rules.{pieces_of, rule_of}
 use Rattle.lr_conf.specs.Scripts.{script_fault}
-use Rattle.lr_conf.specs.Meaning.{Line, End, Meaning, ◌and◌, told, conf, script_says, meaning}
+use Rattle.lr_conf.specs.Meaning.{Line, End, Meaning, ◌and◌, only_faults, conf, script_sets, meaning}
 use Rattle.lr_conf.specs.Stops.{layer_faults}
 use Rattle.lr_conf.specs.Internal.Draft.{coming_from, TookIn}
 use Rattle.lr_conf.proofs.Each.{Given}
@@ -54,10 +54,10 @@ line_ok (says.OwnerPassed v) h = h
 line_ok (says.Names ws) h = h
 line_ok v h = tt
 
-script_ok : (earlier : List Phase) (p : Phase) (text : List ℕ) (stray : Bool) → OkSaid S N (script_says (script_fault earlier p stray) p text)
+script_ok : (earlier : List Phase) (p : Phase) (text : List ℕ) (stray : Bool) → OkSaid S N (script_sets (script_fault earlier p stray) p text)
 script_ok earlier p text stray = by (script_fault earlier p stray)
   where
-    by : (o : Option ConfKind) → OkSaid S N (script_says o p text)
+    by : (o : Option ConfKind) → OkSaid S N (script_sets o p text)
     by None = refl
     by (Some k) = tt
 
@@ -193,7 +193,7 @@ rule_ok file at words vs n ok =
     (last_given S (λ o. or_none tested o ≡ true) pieces_set None refl pieces_given vs ok)))))))))))))))
 
 walk : Walk S N (λ r. meets_limits r ≡ true)
-walk = record { line = λ inside i. line_ok (said inside i) (said_fine inside i); script = script_ok; more = more_ok; rule = rule_ok }
+walk = record { line = λ inside i. line_ok (item_says inside i) (said_fine inside i); script = script_ok; more = more_ok; rule = rule_ok }
 
 all_true : (rs : List Rule) → Each (λ r. meets_limits r ≡ true) rs → list_all meets_limits rs ≡ true
 all_true [] a = refl
@@ -220,7 +220,7 @@ from_same old new e h lines = ap all_meet (e lines) ∙ h lines
 pub behind_silent : (old new : Draft) (e : Line) → ((lines : List Line) → coming_from old (e ∷ lines) ≡ coming_from new lines) → Limited old → Limited new
 behind_silent old new e is h lines = sym (ap all_meet (is lines)) ∙ h (e ∷ lines)
 
-pub behind_told : (old new : Draft) (e : Line) (faults : List Fault) → ((lines : List Line) → coming_from old (e ∷ lines) ≡ (told faults and coming_from new lines)) → Limited old → Limited new
+pub behind_told : (old new : Draft) (e : Line) (faults : List Fault) → ((lines : List Line) → coming_from old (e ∷ lines) ≡ (only_faults faults and coming_from new lines)) → Limited old → Limited new
 behind_told old new e faults is h lines = sym (ap all_meet (is lines)) ∙ h (e ∷ lines)
 
 pub behind_line : (old new : Draft) (file : Path) (e : Line) (r : Result (Option Include) LayerStop) → TookIn old new file e r → Limited old → Limited new
@@ -232,7 +232,7 @@ behind_line old new file e (Err (stop.NoBraceThen first i)) is h = behind_told o
 
 -- what the end of a file answers
 pub behind_end : (old new : Draft) (file : Path) (r : Option (ℕ × ConfKind))
-    → MatchOption r ((lines : List Line) → coming_from old (End file ∷ lines) ≡ coming_from new lines) (λ t. (lines : List Line) → coming_from old (End file ∷ lines) ≡ (told (conf file t.1 t.0 ∷ []) and coming_from new lines))
+    → MatchOption r ((lines : List Line) → coming_from old (End file ∷ lines) ≡ coming_from new lines) (λ t. (lines : List Line) → coming_from old (End file ∷ lines) ≡ (only_faults (conf file t.1 t.0 ∷ []) and coming_from new lines))
     → Limited old → Limited new
 behind_end old new file None is h = behind_silent old new (End file) is h
 behind_end old new file (Some t) is h = behind_told old new (End file) (conf file t.1 t.0 ∷ []) is h

@@ -7,7 +7,7 @@ use Rattle.lr_rules.specs.declared.fault.ConfKind.{ConfKind}
 use Rattle.lr_rules.specs.declared.fault.Fault.{Fault}
 use Rattle.lr_forms.specs.declared.said.Said.{Said}
 use Rattle.lr_forms.specs.declared.said.Said.TheVariants as says
-use Rattle.lr_forms.specs.Says.{closes, said}
+use Rattle.lr_forms.specs.Says.{closes_definition, item_says}
 use Rattle.lr_conf.specs.declared.draft.Draft.{Draft}
 use Rattle.lr_conf.specs.declared.place.Place.{Place}
 use Rattle.lr_conf.specs.declared.place.Place.TheVariants.{Outside, Good, Dropped}
@@ -17,14 +17,14 @@ use Rattle.lr_conf.specs.declared.stop.LayerStop.TheVariants as stop
 use Rattle.lr_words.specs.declared.taboo.TabooItems.{TabooItems}
 use Rattle.lr_match.specs.declared.taboo.Taboo.{Taboo}
 use Rattle.lr_conf.specs.Scripts.{script_fault}
-use Rattle.lr_conf.specs.Meaning.{Line, Read, Spoiled, End, Cut, OutsideLine, stands, spoiled, file_ends, breaks_off, opened, opens, past, ends, asks, asked, bans, after_bans, banned, outsiders}
+use Rattle.lr_conf.specs.Meaning.{Line, Read, Spoiled, End, Cut, OutsideLine, stands, spoiled, file_ends, breaks_off, opened_at, opens_definition, outside_line, ends, asks, asked, bans, after_bans, banned, outsiders}
 use Rattle.lr_conf.specs.Setting.{default_fields}
 use Rattle.lr_conf.specs.Internal.Draft.{State, spoken, turned, outside, scripted, with_said, good, dropped, left, step, is_inside, asks_at, bans_at, state_of, asking_from, banning_from, Stepped, Unchanged, Steps, AsksIn, BansIn}
 
 -- ---- where the next line stands
 
 abbrev inside_next : Place → Line → Bool
-inside_next Outside e = opens (past e)
+inside_next Outside e = opens_definition (outside_line e)
 inside_next p e = not (ends e)
 
 turned_inside : (o : Option ℕ) (s : State) → is_inside (turned true o s).place ≡ true
@@ -46,9 +46,9 @@ spoken_place s at says.Unknown = refl
 spoken_place s at (says.Bad k) = refl
 spoken_place s at (says.BadNames k) = refl
 
-outside_place : (s : State) (p : OutsideLine) → s.place ≡ Outside → is_inside (outside s p).place ≡ opens p
+outside_place : (s : State) (p : OutsideLine) → s.place ≡ Outside → is_inside (outside s p).place ≡ opens_definition p
 outside_place s (stands at false v) is = ap is_inside (spoken_place s at v ∙ is)
-outside_place s (stands at true v) is = turned_inside (opened s.first (stands at true v)) (spoken s at v)
+outside_place s (stands at true v) is = turned_inside (opened_at s.first (stands at true v)) (spoken s at v)
 outside_place s (spoiled f) is = ap is_inside is
 outside_place s file_ends is = ap is_inside is
 outside_place s breaks_off is = ap is_inside is
@@ -73,11 +73,11 @@ said_place s (says.Bad k) is = refl
 said_place s (says.BadNames k) is = ap is_inside is
 
 good_place : (s : State) (e : Line) → s.place ≡ Good → is_inside (good s e).place ≡ not (ends e)
-good_place s (Read file i) is = by (closes i)
+good_place s (Read file i) is = by (closes_definition i)
   where
-    by : (c : Bool) → is_inside (cond c (record s { place = Outside; words = []; first = None; fields = default_fields }) (with_said s (said true i))).place ≡ not c
+    by : (c : Bool) → is_inside (cond c (record s { place = Outside; words = []; first = None; fields = default_fields }) (with_said s (item_says true i))).place ≡ not c
     by true = refl
-    by false = said_place s (said true i) is
+    by false = said_place s (item_says true i) is
 good_place s (Spoiled f) is = refl
 good_place s (End file) is = refl
 good_place s Cut is = refl
@@ -90,7 +90,7 @@ dropped_place s e is = by (ends e)
     by false = ap is_inside is
 
 next_place : (p : Place) (s : State) (e : Line) → s.place ≡ p → is_inside (step p s e).place ≡ inside_next p e
-next_place Outside s e is = outside_place s (past e) is
+next_place Outside s e is = outside_place s (outside_line e) is
 next_place Good s e is = good_place s e is
 next_place Dropped s e is = dropped_place s e is
 
@@ -101,7 +101,7 @@ cons_is None xs = refl
 cons_is (Some x) xs = refl
 
 asked_one : (p : Place) (e : Line) (es : List Line) → asked (is_inside p) (e ∷ es) ≡ option_to_list (asks_at p e) ++ asked (inside_next p e) es
-asked_one Outside e es = cons_is (asks (past e)) (asked (opens (past e)) es)
+asked_one Outside e es = cons_is (asks (outside_line e)) (asked (opens_definition (outside_line e)) es)
 asked_one Good e es = refl
 asked_one Dropped e es = refl
 
@@ -110,7 +110,7 @@ after_cons t None cs = refl
 after_cons t (Some c) cs = refl
 
 banned_one : (p : Place) (t : Taboo) (e : Line) (es : List Line) → banned (is_inside p) t (e ∷ es) ≡ banned (inside_next p e) (after_bans t (option_to_list (bans_at p e))) es
-banned_one Outside t e es = after_cons t (bans (past e)) (filter_map bans (outsiders (opens (past e)) es))
+banned_one Outside t e es = after_cons t (bans (outside_line e)) (filter_map bans (outsiders (opens_definition (outside_line e)) es))
 banned_one Good t e es = refl
 banned_one Dropped t e es = refl
 

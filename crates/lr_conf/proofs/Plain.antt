@@ -16,14 +16,14 @@ use Rattle.lr_forms.specs.declared.set.Set.{Set}
 use Rattle.lr_forms.specs.declared.set.Set.TheVariants as set
 use Rattle.lr_forms.specs.declared.said.Said.{Said}
 use Rattle.lr_forms.specs.declared.said.Said.TheVariants as says
-use Rattle.lr_forms.specs.Says.{said}
+use Rattle.lr_forms.specs.Says.{item_says}
 use Rattle.lr_forms.specs.Limits.{set_meets, said_meets, NamesSome}
 use Rattle.lr_forms.proofs.Limits.{said_fine}
 use Rattle.lr_forms.proofs.Naming.{said_some}
 use Rattle.lr_conf.specs.Fields.{fields_of, count_set}
 use Rattle.lr_conf.specs.Rules.{rule_of}
 use Rattle.lr_conf.specs.Scripts.{script_fault}
-use Rattle.lr_conf.specs.Meaning.{Line, script_says, meaning}
+use Rattle.lr_conf.specs.Meaning.{Line, script_sets, meaning}
 use Rattle.lr_conf.specs.Plain.{IsRuleWord, IsPlainRule}
 use Rattle.lr_conf.proofs.Each.{append, Given}
 use Rattle.lr_conf.proofs.Walk.{OkSaid, Walk, each_rule, last_given}
@@ -48,10 +48,10 @@ line_ok (says.OwnerPassed v) some fine = fine
 line_ok (says.Names ws) some fine = (some, each_word ws fine)
 line_ok v some fine = tt
 
-script_ok : (earlier : List Phase) (p : Phase) (text : List ℕ) (stray : Bool) → OkSaid S N (script_says (script_fault earlier p stray) p text)
+script_ok : (earlier : List Phase) (p : Phase) (text : List ℕ) (stray : Bool) → OkSaid S N (script_sets (script_fault earlier p stray) p text)
 script_ok earlier p text stray = by (script_fault earlier p stray)
   where
-    by : (o : Option ConfKind) → OkSaid S N (script_says o p text)
+    by : (o : Option ConfKind) → OkSaid S N (script_sets o p text)
     by None = refl
     by (Some k) = tt
 
@@ -78,7 +78,7 @@ rule_ok file at words vs n ok = record {
 -- what holds of each rule where it follows from what lines set
 walk : (R : Rule → Type 0) → ((file : Path) (at : ℕ) (words : List (List ℕ)) (vs : List Set) → N words → Each S vs → R (rule_of file at words (fields_of vs))) → Walk S N R
 walk R rule = record {
-  line = λ inside i. line_ok (said inside i) (said_some inside i) (said_fine inside i);
+  line = λ inside i. line_ok (item_says inside i) (said_some inside i) (said_fine inside i);
   script = script_ok;
   more = more_ok;
   rule = rule;

@@ -21,7 +21,7 @@ use Rattle.lr_rules.specs.declared.rule.Way.TheVariants as way
 use Rattle.lr_conf.specs.declared.fields.Fields.{Fields}
 use Rattle.lr_forms.specs.declared.set.Set.{Set}
 use Rattle.lr_forms.specs.declared.set.Set.TheVariants as set
-use Rattle.lr_conf.specs.Fields.{fields_of, last_or, last_set, criterion_set, count_set, maxage_set, minage_set, minsize_set, maxsize_set, ifempty_set, missingok_set, ignore_set, start_set, extension_set, addextension_set, olddir_set, createolddir_set, create_set, mail_set, mailfirst_set, shared_set, first_set, pre_set, post_set, last_script_set, preremove_set, dated_set, pieces_set, back_set, serial_set, names_way, undoes, last_way}
+use Rattle.lr_conf.specs.Fields.{fields_of, last_or, last_set, criterion_set, count_set, maxage_set, minage_set, minsize_set, maxsize_set, ifempty_set, missingok_set, ignore_set, start_set, extension_set, addextension_set, olddir_set, createolddir_set, create_set, mail_set, mailfirst_set, shared_set, first_set, pre_set, post_set, last_script_set, preremove_set, dated_set, pieces_set, back_set, serial_set, names_way, unsets_way, last_way}
 use Rattle.lr_conf.specs.Setting.{with_set, without}
 
 last-push : {A : Type 0} (d : A) (xs : List A) (o : Option A) → last_or d (xs ++ cons_option o []) ≡ unwrap_or o (last_or d xs)
@@ -81,7 +81,7 @@ still_rename (set.Back b) h = refl
 still_rename (set.Serial b) h = refl
 still_rename (set.Script phase t) h = refl
 
-undone : (w : Way) (v : Set) → names_way v ≡ false → cond (undoes w v) way.Rename w ≡ way_behind v w
+undone : (w : Way) (v : Set) → names_way v ≡ false → cond (unsets_way w v) way.Rename w ≡ way_behind v w
 undone w (set.Way x) h = absurd (cc)
 undone way.Rename (set.NotWay way.Rename) h = refl
 undone way.Rename (set.NotWay way.Copy) h = refl
@@ -102,7 +102,7 @@ undone way.RenameCopy (set.NotWay way.RenameCopy) h = refl
 undone way.Rename v h = still_rename v h
 undone way.Copy v h = plain v h
   where
-    plain : (v : Set) → names_way v ≡ false → cond (undoes way.Copy v) way.Rename way.Copy ≡ way_behind v way.Copy
+    plain : (v : Set) → names_way v ≡ false → cond (unsets_way way.Copy v) way.Rename way.Copy ≡ way_behind v way.Copy
     plain (set.Way w) h = absurd (cc)
     plain (set.NotWay way.Rename) h = refl
     plain (set.NotWay way.Copy) h = refl
@@ -111,7 +111,7 @@ undone way.Copy v h = plain v h
     plain v h = refl
 undone way.CopyTruncate v h = plain v h
   where
-    plain : (v : Set) → names_way v ≡ false → cond (undoes way.CopyTruncate v) way.Rename way.CopyTruncate ≡ way_behind v way.CopyTruncate
+    plain : (v : Set) → names_way v ≡ false → cond (unsets_way way.CopyTruncate v) way.Rename way.CopyTruncate ≡ way_behind v way.CopyTruncate
     plain (set.Way w) h = absurd (cc)
     plain (set.NotWay way.Rename) h = refl
     plain (set.NotWay way.Copy) h = refl
@@ -120,7 +120,7 @@ undone way.CopyTruncate v h = plain v h
     plain v h = refl
 undone way.RenameCopy v h = plain v h
   where
-    plain : (v : Set) → names_way v ≡ false → cond (undoes way.RenameCopy v) way.Rename way.RenameCopy ≡ way_behind v way.RenameCopy
+    plain : (v : Set) → names_way v ≡ false → cond (unsets_way way.RenameCopy v) way.Rename way.RenameCopy ≡ way_behind v way.RenameCopy
     plain (set.Way w) h = absurd (cc)
     plain (set.NotWay way.Rename) h = refl
     plain (set.NotWay way.Copy) h = refl
@@ -162,10 +162,10 @@ only_way (set.Script phase t) h = absurd (cc)
 -- behind a setting that names a way
 way-step : (w : Way) (us : List Set) (v : Set) → last_way (us ++ v ∷ []) ≡ way_behind v (last_way us) → last_way (set.Way w ∷ us ++ v ∷ []) ≡ way_behind v (last_way (set.Way w ∷ us))
 way-step w us v rest =
-    ap (λ b. by_more w b (last_way (us ++ v ∷ [])) (list_any (undoes w) (us ++ v ∷ []))) (any-push names_way us v)
-    ∙ ap (λ b. by_more w (list_any names_way us || names_way v) (last_way (us ++ v ∷ [])) b) (any-push (undoes w) us v)
-    ∙ ap (λ r. by_more w (list_any names_way us || names_way v) r (list_any (undoes w) us || undoes w v)) rest
-    ∙ by_tests (list_any names_way us) (names_way v) refl (list_any (undoes w) us)
+    ap (λ b. by_more w b (last_way (us ++ v ∷ [])) (list_any (unsets_way w) (us ++ v ∷ []))) (any-push names_way us v)
+    ∙ ap (λ b. by_more w (list_any names_way us || names_way v) (last_way (us ++ v ∷ [])) b) (any-push (unsets_way w) us v)
+    ∙ ap (λ r. by_more w (list_any names_way us || names_way v) r (list_any (unsets_way w) us || unsets_way w v)) rest
+    ∙ by_tests (list_any names_way us) (names_way v) refl (list_any (unsets_way w) us)
   where
     as_way : (w : Way) (x y : Way) → way_behind (set.Way w) x ≡ way_behind (set.Way w) y
     as_way w x y = refl
@@ -173,7 +173,7 @@ way-step w us v rest =
     same : (v : Set) → names_way v ≡ true → (x y : Way) → way_behind v x ≡ way_behind v y
     same v h x y = let o = only_way v h in ap (λ s. way_behind s x) o.1 ∙ sym (ap (λ s. way_behind s y) o.1)
 
-    by_tests : (n m : Bool) → names_way v ≡ m → (g : Bool) → by_more w (n || m) (way_behind v (last_way us)) (g || undoes w v) ≡ way_behind v (by_more w n (last_way us) g)
+    by_tests : (n m : Bool) → names_way v ≡ m → (g : Bool) → by_more w (n || m) (way_behind v (last_way us)) (g || unsets_way w v) ≡ way_behind v (by_more w n (last_way us) g)
     by_tests true m is g = refl
     by_tests false true is g = same v is (last_way us) (cond g way.Rename w)
     by_tests false false is true = sym (still_rename v is)

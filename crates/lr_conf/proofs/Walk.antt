@@ -8,11 +8,11 @@ use Rattle.lr_rules.specs.declared.rule.Rule.{Rule}
 use Rattle.lr_forms.specs.declared.set.Set.{Set}
 use Rattle.lr_forms.specs.declared.said.Said.{Said}
 use Rattle.lr_forms.specs.declared.said.Said.TheVariants as says
-use Rattle.lr_forms.specs.Says.{said}
+use Rattle.lr_forms.specs.Says.{item_says}
 use Rattle.lr_conf.specs.Fields.{fields_of, last_set}
 use Rattle.lr_conf.specs.Rules.{rule_of}
 use Rattle.lr_conf.specs.Scripts.{script_fault}
-use Rattle.lr_conf.specs.Meaning.{Line, Read, Spoiled, End, Cut, OutsideLine, stands, spoiled, file_ends, breaks_off, Meaning, nothing, told, set_of, set_past, settings, names_past, settles, pending, first_line, words_pending, first_pending, words_with, opened, opens, past, before, behind, ends, scripts_in, script_says, said_behind, within, body_of, drops, set_in, broken_fault, of_end, of_body, of_opening, meaning}
+use Rattle.lr_conf.specs.Meaning.{Line, Read, Spoiled, End, Cut, OutsideLine, stands, spoiled, file_ends, breaks_off, Meaning, nothing, only_faults, set_of, set_past, settings, names_past, settles, pending, first_line, words_pending, first_pending, words_with, opened_at, opens_definition, outside_line, before, behind, ends, scripts_in, script_sets, said_behind, within, body_of, drops, set_in, broken_fault, of_end, of_body, of_opening, meaning}
 use Rattle.lr_conf.proofs.Each.{append, backwards, front, Given, one_more, mapped, last}
 
 -- what a line sets, and the names that it has, are such
@@ -24,8 +24,8 @@ OkSaid S N s = Unit {0}
 
 -- so is what each line says, and then a rule is such
 pub record Walk (S : Set → Type 0) (N : List (List ℕ) → Type 0) (R : Rule → Type 0) : Type 0 where
-  pub line : (inside : Bool) (i : Item) → OkSaid S N (said inside i)
-  pub script : (earlier : List Phase) (p : Phase) (text : List ℕ) (stray : Bool) → OkSaid S N (script_says (script_fault earlier p stray) p text)
+  pub line : (inside : Bool) (i : Item) → OkSaid S N (item_says inside i)
+  pub script : (earlier : List Phase) (p : Phase) (text : List ℕ) (stray : Bool) → OkSaid S N (script_sets (script_fault earlier p stray) p text)
   pub more : (xs ys : List (List ℕ)) → N xs → N ys → N (xs ++ ys)
   pub rule : (file : Path) (at : ℕ) (words : List (List ℕ)) (vs : List Set) → N words → Each S vs → R (rule_of file at words (fields_of vs))
 
@@ -35,7 +35,7 @@ abbrev OkPast : (Set → Type 0) → (List (List ℕ) → Type 0) → OutsideLin
 OkPast S N (stands at brace v) = OkSaid S N v
 OkPast S N p = Unit {0}
 
-past_ok : {S : Set → Type 0} {N : List (List ℕ) → Type 0} {R : Rule → Type 0} (w : Walk S N R) (e : Line) → OkPast S N (past e)
+past_ok : {S : Set → Type 0} {N : List (List ℕ) → Type 0} {R : Rule → Type 0} (w : Walk S N R) (e : Line) → OkPast S N (outside_line e)
 past_ok w (Read file i) = w.line false i
 past_ok w (Spoiled f) = tt
 past_ok w (End file) = tt
@@ -57,7 +57,7 @@ behind_ok w earlier (says.Script p text stray) ok = w.script earlier p text stra
 behind_ok w earlier v ok = ok
 
 set_in_ok : {S : Set → Type 0} {N : List (List ℕ) → Type 0} {R : Rule → Type 0} (w : Walk S N R) (earlier : List Line) (e : Line) → Given S (set_in (within earlier e))
-set_in_ok {S} {N} w earlier (Read file i) = set_ok S N (said_behind (scripts_in earlier) (said true i)) (behind_ok w (scripts_in earlier) (said true i) (w.line true i))
+set_in_ok {S} {N} w earlier (Read file i) = set_ok S N (said_behind (scripts_in earlier) (item_says true i)) (behind_ok w (scripts_in earlier) (item_says true i) (w.line true i))
 set_in_ok w earlier (Spoiled f) = tt
 set_in_ok w earlier (End file) = tt
 set_in_ok w earlier Cut = tt
@@ -101,7 +101,7 @@ joined_ok {S} {N} w (n ∷ ns) ok = by (first_line ns) (flat_map (λ m. m.1) ns)
     by None ws none = subst (λ rest. N (n.1 ++ rest)) (sym none) (subst N (sym (nil n.1)) ok.0)
     by (Some at) ws some = w.more n.1 ws ok.0 some
 
-opened_ok : {S : Set → Type 0} {N : List (List ℕ) → Type 0} {R : Rule → Type 0} (w : Walk S N R) (first : Option ℕ) (words : List (List ℕ)) (p : OutsideLine) → HasWords N first words → OkPast S N p → Opened N (opened first p) (words_with words p)
+opened_ok : {S : Set → Type 0} {N : List (List ℕ) → Type 0} {R : Rule → Type 0} (w : Walk S N R) (first : Option ℕ) (words : List (List ℕ)) (p : OutsideLine) → HasWords N first words → OkPast S N p → Opened N (opened_at first p) (words_with words p)
 opened_ok {S} {N} w None words (stands at brace (says.Names ws)) h ok = subst (λ front. N (front ++ ws)) (sym h) ok
 opened_ok w (Some n) words (stands at brace (says.Names ws)) h ok = w.more words ws h ok
 opened_ok w None words (stands at brace says.Open) h ok = tt
@@ -129,13 +129,13 @@ body_means_ok w None words vs es n ok = tt
 body_means_ok {S} {N} {R} w (Some at) words vs es n ok =
     let body = body_of [] (before ends es) in
     let all = vs ++ filter_map set_in body in
-    either R (list_any drops body) (told (filter_map broken_fault (behind drops body))) (of_end at words (fields_of all) (find ends es)) tt
+    either R (list_any drops body) (only_faults (filter_map broken_fault (behind drops body))) (of_end at words (fields_of all) (find ends es)) tt
     (end_ok w at words all (find ends es) n (append S vs (filter_map set_in body) ok (body_ok w [] (before ends es))))
 
 opening_ok : {S : Set → Type 0} {N : List (List ℕ) → Type 0} {R : Rule → Type 0} (w : Walk S N R) (out : List OutsideLine) (p : OutsideLine) (es : List Line) → Each (OkPast S N) out → OkPast S N p → Rules R (of_opening out p es)
 opening_ok {S} {N} {R} w out p es ok here =
-    either R (opens p) (of_body (opened (first_pending out) p) (words_with (words_pending out) p) (settings (out ++ p ∷ [])) es) nothing
-    (body_means_ok w (opened (first_pending out) p) (words_with (words_pending out) p) (settings (out ++ p ∷ [])) es
+    either R (opens_definition p) (of_body (opened_at (first_pending out) p) (words_with (words_pending out) p) (settings (out ++ p ∷ [])) es) nothing
+    (body_means_ok w (opened_at (first_pending out) p) (words_with (words_pending out) p) (settings (out ++ p ∷ [])) es
     (opened_ok w (first_pending out) (words_pending out) p (joined_ok w (pending out) (pending_ok S N out ok)) here)
     (mapped (OkPast S N) S set_past (set_past_ok S N) (out ++ p ∷ []) (append (OkPast S N) out (p ∷ []) ok (here, tt))))
     tt
@@ -144,13 +144,13 @@ meaning_ok : {S : Set → Type 0} {N : List (List ℕ) → Type 0} {R : Rule →
 meaning_ok w [] true out ok = tt
 meaning_ok w [] false out ok = tt
 meaning_ok {S} {N} {R} w (e ∷ es) true out ok =
-    either R (ends e) (meaning false (out ++ past e ∷ []) es) (meaning true out es)
-    (meaning_ok w es false (out ++ past e ∷ []) (append (OkPast S N) out (past e ∷ []) ok (past_ok w e, tt)))
+    either R (ends e) (meaning false (out ++ outside_line e ∷ []) es) (meaning true out es)
+    (meaning_ok w es false (out ++ outside_line e ∷ []) (append (OkPast S N) out (outside_line e ∷ []) ok (past_ok w e, tt)))
     (meaning_ok w es true out ok)
 meaning_ok {S} {N} {R} w (e ∷ es) false out ok =
-    append R (of_opening out (past e) es).rules (meaning (opens (past e)) (out ++ past e ∷ []) es).rules
-    (opening_ok w out (past e) es ok (past_ok w e))
-    (meaning_ok w es (opens (past e)) (out ++ past e ∷ []) (append (OkPast S N) out (past e ∷ []) ok (past_ok w e, tt)))
+    append R (of_opening out (outside_line e) es).rules (meaning (opens_definition (outside_line e)) (out ++ outside_line e ∷ []) es).rules
+    (opening_ok w out (outside_line e) es ok (past_ok w e))
+    (meaning_ok w es (opens_definition (outside_line e)) (out ++ outside_line e ∷ []) (append (OkPast S N) out (outside_line e ∷ []) ok (past_ok w e, tt)))
 
 pub each_rule : {S : Set → Type 0} {N : List (List ℕ) → Type 0} {R : Rule → Type 0} (w : Walk S N R) (lines : List Line) → Each R (meaning false [] lines).rules
 each_rule w lines = meaning_ok w lines false [] tt

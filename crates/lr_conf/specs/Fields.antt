@@ -143,18 +143,18 @@ abbrev pub names_way : Set → Bool
 names_way (set.Way w) = true
 names_way s = false
 
-abbrev pub undoes : Way → Set → Bool
-undoes way.Copy (set.NotWay way.Copy) = true
-undoes way.CopyTruncate (set.NotWay way.CopyTruncate) = true
-undoes way.RenameCopy (set.NotWay way.RenameCopy) = true
-undoes w s = false
+abbrev pub unsets_way : Way → Set → Bool
+unsets_way way.Copy (set.NotWay way.Copy) = true
+unsets_way way.CopyTruncate (set.NotWay way.CopyTruncate) = true
+unsets_way way.RenameCopy (set.NotWay way.RenameCopy) = true
+unsets_way w s = false
 
 -- the way of the last setting that names one, unless one behind it undoes that way
 abbrev pub last_way : List Set → Way
 last_way [] = way.Rename
 last_way (set.Way w ∷ more) =
     if list_any names_way more then last_way more
-    else if list_any (undoes w) more then way.Rename
+    else if list_any (unsets_way w) more then way.Rename
     else w
 last_way (s ∷ more) = last_way more
 

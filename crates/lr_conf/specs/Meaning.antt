@@ -20,7 +20,7 @@ use Rattle.lr_forms.specs.declared.said.Said.TheVariants as says
 use Rattle.lr_words.specs.declared.taboo.TabooItems.{TabooItems}
 use Rattle.lr_match.specs.declared.taboo.Taboo.{Taboo}
 use Rattle.lr_match.specs.Taboos.{taboo_after}
-use Rattle.lr_forms.specs.Says.{line_of, has_brace, closes, said}
+use Rattle.lr_forms.specs.Says.{line_of, has_brace, closes_definition, item_says}
 use Rattle.lr_conf.specs.Fields.{fields_of}
 use Rattle.lr_conf.specs.Rules.{rule_of}
 use Rattle.lr_conf.specs.Scripts.{script_fault}
@@ -86,9 +86,9 @@ names_past (stands at brace (says.Names ws)) = Some (at, ws)
 names_past p = None
 
 -- it ends with a brace, by which a definition begins
-abbrev pub opens : OutsideLine → Bool
-opens (stands at brace s) = brace
-opens p = false
+abbrev pub opens_definition : OutsideLine → Bool
+opens_definition (stands at brace s) = brace
+opens_definition p = false
 
 -- a directive, a `}` or the end of a file: names that are pending before it have no brace
 abbrev pub leaves_names : OutsideLine → Bool
@@ -107,7 +107,7 @@ leaves_names p = false
 -- behind it no names are pending
 abbrev pub settles : OutsideLine → Bool
 settles breaks_off = true
-settles p = leaves_names p || opens p
+settles p = leaves_names p || opens_definition p
 
 -- the names at the end of these lines, with the line of each
 abbrev pub pending : List OutsideLine → List (ℕ × List (List ℕ))
@@ -129,17 +129,17 @@ or_line None at = at
 or_line (Some first) at = first
 
 -- the line of the first name of the definition that this line opens; none where it drops it
-abbrev pub opened : Option ℕ → OutsideLine → Option ℕ
-opened first (stands at brace (says.Names ws)) = Some (or_line first at)
-opened first (stands at brace says.Open) = first
-opened first p = None
+abbrev pub opened_at : Option ℕ → OutsideLine → Option ℕ
+opened_at first (stands at brace (says.Names ws)) = Some (or_line first at)
+opened_at first (stands at brace says.Open) = first
+opened_at first p = None
 
 -- how a line is read outside definitions
-abbrev pub past : Line → OutsideLine
-past (Read file i) = stands (line_of i) (has_brace i) (said false i)
-past (Spoiled f) = spoiled f
-past (End file) = file_ends
-past Cut = breaks_off
+abbrev pub outside_line : Line → OutsideLine
+outside_line (Read file i) = stands (line_of i) (has_brace i) (item_says false i)
+outside_line (Spoiled f) = spoiled f
+outside_line (End file) = file_ends
+outside_line Cut = breaks_off
 
 -- ---- notices and faults
 
@@ -189,7 +189,7 @@ words_with words p = words
 
 -- it ends the definition that it stands in
 abbrev pub ends : Line → Bool
-ends (Read file i) = closes i
+ends (Read file i) = closes_definition i
 ends (Spoiled f) = false
 ends (End file) = true
 ends Cut = true
@@ -205,25 +205,25 @@ script_of (says.Script phase text stray) = Some phase
 script_of s = None
 
 abbrev pub line_script : Line → Option Phase
-line_script (Read file i) = script_of (said true i)
+line_script (Read file i) = script_of (item_says true i)
 line_script e = None
 
 -- the scripts that stand among the lines of a definition
 abbrev pub scripts_in : List Line → List Phase
 scripts_in lines = filter_map (line_script) lines
 
-abbrev pub script_says : Option ConfKind → Phase → List ℕ → Said
-script_says None p text = says.Sets (set.Script p text)
-script_says (Some k) p text = says.Bad k
+abbrev pub script_sets : Option ConfKind → Phase → List ℕ → Said
+script_sets None p text = says.Sets (set.Script p text)
+script_sets (Some k) p text = says.Bad k
 
 -- what a line of a definition says where these scripts stand before it
 abbrev pub said_behind : List Phase → Said → Said
-said_behind earlier (says.Script p text stray) = script_says (script_fault earlier p stray) p text
+said_behind earlier (says.Script p text stray) = script_sets (script_fault earlier p stray) p text
 said_behind earlier s = s
 
 -- how a line is read in a definition, behind those of its lines that stand before it
 abbrev pub within : List Line → Line → InsideLine
-within earlier (Read file i) = states file (line_of i) (said_behind (scripts_in earlier) (said true i))
+within earlier (Read file i) = states file (line_of i) (said_behind (scripts_in earlier) (item_says true i))
 within earlier (Spoiled f) = broken f
 within earlier (End file) = left_open
 within earlier Cut = left_open
@@ -285,18 +285,18 @@ abbrev pub ◌and◌ : Meaning → Meaning → Meaning
 m and n = record { rules = m.rules ++ n.rules; notices = m.notices ++ n.notices; faults = m.faults ++ n.faults }
 
 -- faults alone
-abbrev pub told : List Fault → Meaning
-told faults = record { rules = []; notices = []; faults = faults }
+abbrev pub only_faults : List Fault → Meaning
+only_faults faults = record { rules = []; notices = []; faults = faults }
 
 -- what ends a definition that no line drops: its rule, or no brace before the end of the file
 abbrev pub of_end : ℕ → List (List ℕ) → Fields → Option Line → Meaning
 of_end at words f (Some (Read file i)) = record { rules = rule_of file at words f ∷ []; notices = []; faults = [] }
-of_end at words f (Some (End file)) = told (conf file kind.NoBrace at ∷ [])
+of_end at words f (Some (End file)) = only_faults (conf file kind.NoBrace at ∷ [])
 of_end at words f other = nothing
 
 -- of lines in a definition that is dropped, the faults that their reading told
 abbrev pub of_spoilt : List Line → Meaning
-of_spoilt es = told (filter_map spoilt_fault es)
+of_spoilt es = only_faults (filter_map spoilt_fault es)
 
 -- A definition whose first name stands at this line: its words, what was set before its lines, and its lines with what
 -- follows. Behind the line that drops it only spoilt lines are told.
@@ -308,7 +308,7 @@ of_definition at words before_it es =
       notices = filter_map notice_in (through drops body);
       faults = filter_map fault_in (through drops body);
     }
-    and (if list_any drops body then told (filter_map broken_fault (behind drops body)) else of_end at words
+    and (if list_any drops body then only_faults (filter_map broken_fault (behind drops body)) else of_end at words
     (fields_of (before_it ++ filter_map set_in body)) (find ends es))
 
 -- one that a fault of its first line drops says nothing, its spoilt lines aside
@@ -319,7 +319,8 @@ of_body (Some at) words before_it es = of_definition at words before_it es
 -- what begins at a line that opens a definition
 abbrev pub of_opening : List OutsideLine → OutsideLine → List Line → Meaning
 of_opening out p es =
-    if opens p then of_body (opened (first_pending out) p) (words_with (words_pending out) p) (settings (out ++ p ∷ [])) es
+    if opens_definition p then
+    of_body (opened_at (first_pending out) p) (words_with (words_pending out) p) (settings (out ++ p ∷ [])) es
     else nothing
 
 -- a line outside definitions, for itself
@@ -330,10 +331,10 @@ of_line file first p = record { rules = []; notices = option_to_list (notice_pas
 -- the lines. Those of an included file stand in the place of the line that asks for it.
 abbrev pub meaning : Bool → List OutsideLine → List Line → Meaning
 meaning inside out [] = nothing
-meaning true out (e ∷ es) = if ends e then meaning false (out ++ past e ∷ []) es else meaning true out es
+meaning true out (e ∷ es) = if ends e then meaning false (out ++ outside_line e ∷ []) es else meaning true out es
 meaning false out (e ∷ es) =
-    of_line (line_file e) (first_pending out) (past e)
-    and (of_opening out (past e) es and meaning (opens (past e)) (out ++ past e ∷ []) es)
+    of_line (line_file e) (first_pending out) (outside_line e)
+    and (of_opening out (outside_line e) es and meaning (opens_definition (outside_line e)) (out ++ outside_line e ∷ []) es)
 
 -- ---- other files
 
@@ -341,7 +342,7 @@ meaning false out (e ∷ es) =
 abbrev pub outsiders : Bool → List Line → List OutsideLine
 outsiders inside [] = []
 outsiders true (e ∷ es) = outsiders (not (ends e)) es
-outsiders false (e ∷ es) = past e ∷ outsiders (opens (past e)) es
+outsiders false (e ∷ es) = outside_line e ∷ outsiders (opens_definition (outside_line e)) es
 
 -- the file that a line asks for
 abbrev pub asks : OutsideLine → Option Include

@@ -3,7 +3,7 @@ ghost use Rattle.std.specs.Prelude.{◌≡◌, ◌<◌, List, [], ◌∷◌, fal
 ghost use Rattle.lr_rules.specs.declared.fault.Fault.{Fault};
 ghost use Rattle.lr_match.specs.Taboos.{first_taboo};
 ghost use Rattle.lr_conf.specs.Setting.{default_fields};
-ghost use Rattle.lr_conf.specs.Meaning.{Line, Read, Spoiled, End, Cut, meaning, asked, banned, told, conf, ◌and◌};
+ghost use Rattle.lr_conf.specs.Meaning.{Line, Read, Spoiled, End, Cut, meaning, asked, banned, only_faults, conf, ◌and◌};
 ghost use Rattle.lr_conf.specs.Internal.Draft.{coming_from, asking_from, banning_from, TookIn, AsksIn, BansIn, PassesIn};
 ghost use Rattle.lr_conf.specs.Internal.Draft.{file_of_draft, files_of};
 
@@ -99,7 +99,7 @@ impl Draft {
     pub fn spoil(&mut self, _line: u32)
         ensures files { files_of self.new ≡ files_of self.old }
         ensures means { (f : Fault) (lines : List Line) → coming_from self.old (Spoiled f ∷ lines)
-            ≡ (told (f ∷ []) and coming_from self.new lines) }
+            ≡ (only_faults (f ∷ []) and coming_from self.new lines) }
         ensures passes { (f : Fault) → PassesIn self.old self.new (Spoiled f) }
     {
         if let Place::Good = self.place {
@@ -115,7 +115,7 @@ impl Draft {
         ensures means { MatchOption result
             ((lines : List Line) → coming_from self.old (End (file_of_draft self.old) ∷ lines) ≡ coming_from self.new lines)
             (λ r. (lines : List Line) → coming_from self.old (End (file_of_draft self.old) ∷ lines)
-            ≡ (told (conf (file_of_draft self.old) r.1 r.0 ∷ []) and coming_from self.new lines)) }
+            ≡ (only_faults (conf (file_of_draft self.old) r.1 r.0 ∷ []) and coming_from self.new lines)) }
         ensures passes { PassesIn self.old self.new (End (file_of_draft self.old)) }
     {
         self.end_file()

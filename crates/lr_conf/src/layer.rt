@@ -24,7 +24,7 @@ impl Layer {
     ghost use Rattle.std.specs.Prelude.{◌<◌, ◌-◌, [], ◌∷◌, ◌++◌, false, length, take, IfOk, MatchOption};
     ghost use Rattle.lr_rules.specs.declared.fault.Fault.{Fault};
     ghost use Rattle.lr_match.specs.Taboos.{first_taboo};
-    ghost use Rattle.lr_conf.specs.Meaning.{Read, Spoiled, End, Cut, meaning, asked, banned, told, conf, ◌and◌};
+    ghost use Rattle.lr_conf.specs.Meaning.{Read, Spoiled, End, Cut, meaning, asked, banned, only_faults, conf, ◌and◌};
     ghost use Rattle.lr_conf.specs.Fold.{coming, asking, banning, LayerTook, Asks, Bans, Alike, LayerPasses};
     ghost use Rattle.lr_conf.specs.Fold.{file_of_layer, entered};
 
@@ -92,7 +92,7 @@ impl Layer {
     pub fn spoil(&mut self, line: u32)
         ensures files { entered self.new ≡ entered self.old }
         ensures means { (f : Fault) (lines : List Line) → coming self.old (Spoiled f ∷ lines)
-            ≡ (told (f ∷ []) and coming self.new lines) }
+            ≡ (only_faults (f ∷ []) and coming self.new lines) }
         ensures passes { (f : Fault) → LayerPasses self.old self.new (Spoiled f) }
     {
         self.draft.spoil(line);
@@ -106,7 +106,7 @@ impl Layer {
         ensures means { MatchOption result
             ((lines : List Line) → coming self.old (End (file_of_layer self.old) ∷ lines) ≡ coming self.new lines)
             (λ r. (lines : List Line) → coming self.old (End (file_of_layer self.old) ∷ lines)
-            ≡ (told (conf (file_of_layer self.old) r.1 r.0 ∷ []) and coming self.new lines)) }
+            ≡ (only_faults (conf (file_of_layer self.old) r.1 r.0 ∷ []) and coming self.new lines)) }
         ensures passes { LayerPasses self.old self.new (End (file_of_layer self.old)) }
     {
         self.draft.close_file()

@@ -5,7 +5,7 @@ ghost use Rattle.lr_host.specs.declared.entry.Entry.{Entry};
 ghost use Rattle.lr_host.specs.declared.entry.Entry.TheVariants as entry;
 ghost use Rattle.lr_host.specs.World.{World, world, past, names, opened};
 ghost use Rattle.lr_host.specs.declared.thing.Thing.TheVariants as thing;
-ghost use Rattle.lr_host.specs.Fits.{Fits, IsCut, Sees, GivesPiece, IsFileAt, IsDirectoryAt};
+ghost use Rattle.lr_host.specs.Fits.{Fits, IsCut, SeesThing, GivesPiece, IsFileAt, IsDirectoryAt};
 ghost use Rattle.lr_host.specs.Told.{IsWriters};
 ghost use Rattle.lr_host.specs.Opening.{IsValid, IsJournal};
 ghost use Rattle.lr_host.specs.Sets.{LogSet};
@@ -299,7 +299,7 @@ impl Disk {
     }
 
     fn see(&self, path: &Path) -> Option<Seen>
-        ensures { Sees (world (past self.now)) (names (world (past self.now)) path.now) result }
+        ensures { SeesThing (world (past self.now)) (names (world (past self.now)) path.now) result }
     {
         match thing_at(&self.state.tree.names, path.bytes()) {
             Thing::Nothing => None,

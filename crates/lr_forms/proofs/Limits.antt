@@ -34,8 +34,8 @@ use Rattle.lr_forms.specs.declared.set.Set.TheVariants as set
 use Rattle.lr_forms.specs.declared.said.Said.{Said}
 use Rattle.lr_forms.specs.declared.said.Said.TheVariants as says
 use Rattle.lr_forms.specs.Forms.{form_of}
-use Rattle.lr_forms.specs.Values.{setting, value_of, sets_or_bad, one_says, day_of, day_says, mode_of, making, made, make_says, included, include_says, barred}
-use Rattle.lr_forms.specs.Says.{directive_of, checks, first_fault, means, or_bad, by_directive, texts, words_say, log_names, name_faults, named, names_say, nested, phase_named, script_in, said}
+use Rattle.lr_forms.specs.Values.{setting, value_of, sets_or_bad, one_says, weekday_given, day_says, mode_of, setting_make, made, make_says, included, include_says, taboo_or_bad}
+use Rattle.lr_forms.specs.Says.{directive_of, checks, first_fault, means, or_bad, by_directive, texts, words_say, log_names, name_faults, named, names_say, nested, phase_named, script_in, item_says}
 use Rattle.lr_forms.specs.Limits.{set_meets, said_meets}
 
 -- ---- values
@@ -76,12 +76,12 @@ one_fine : (v : Value) (ws : List (List ℕ)) → Fine (one_says v ws)
 one_fine v [] = refl
 one_fine v (w ∷ ws) = of_setting (value_of v w) (value_meets v w)
 
-day_meets : (ws : List (List ℕ)) (n : ℕ) → day_of ws ≡ Ok n → nat_le n 7 ≡ true
+day_meets : (ws : List (List ℕ)) (n : ℕ) → weekday_given ws ≡ Ok n → nat_le n 7 ≡ true
 day_meets [] n h = let e : 0 ≡ n = cc in ap (λ x. nat_le x 7) (sym e)
 day_meets (w ∷ ws) n h = weekday_meets w n h
 
 day_fine : (ws : List (List ℕ)) → Fine (day_says ws)
-day_fine ws = of_setting (setting (λ day. set.Criterion (criterion.Weekly day)) (day_of ws)) (setting_meets (λ n. nat_le n 7) (λ day. set.Criterion (criterion.Weekly day)) (λ a h. h) (day_of ws) (day_meets ws))
+day_fine ws = of_setting (setting (λ day. set.Criterion (criterion.Weekly day)) (weekday_given ws)) (setting_meets (λ n. nat_le n 7) (λ day. set.Criterion (criterion.Weekly day)) (λ a h. h) (weekday_given ws) (day_meets ws))
 
 first_mode_meets : (w : List ℕ) (mode : Option ℕ) → first_mode_value w ≡ Ok mode → is_make (make.Yes mode) ≡ true
 unfolding first_mode_value
@@ -96,14 +96,14 @@ mode_of_meets : (ws : List (List ℕ)) (mode : Option ℕ) → mode_of ws ≡ Ok
 mode_of_meets [] mode h = let same : None ≡ mode = cc in ap (λ m. is_make (make.Yes m)) (sym same)
 mode_of_meets (w ∷ ws) mode h = first_mode_meets w mode h
 
-making_meets : (olddir : Bool) (mode : Option ℕ) → is_make (make.Yes mode) ≡ true → set_meets (making olddir (make.Yes mode)) ≡ true
+making_meets : (olddir : Bool) (mode : Option ℕ) → is_make (make.Yes mode) ≡ true → set_meets (setting_make olddir (make.Yes mode)) ≡ true
 making_meets true mode h = h
 making_meets false mode h = h
 
 make_fine : (olddir : Bool) (ws : List (List ℕ)) → Fine (make_says olddir ws)
 make_fine olddir ws = by (mode_of ws) refl
   where
-    told : (owner olddir : Bool) (mode : Option ℕ) → is_make (make.Yes mode) ≡ true → Fine (cond owner (says.OwnerPassed (making olddir (make.Yes mode))) (says.Sets (making olddir (make.Yes mode))))
+    told : (owner olddir : Bool) (mode : Option ℕ) → is_make (make.Yes mode) ≡ true → Fine (cond owner (says.OwnerPassed (setting_make olddir (make.Yes mode))) (says.Sets (setting_make olddir (make.Yes mode))))
     told true olddir mode h = making_meets olddir mode h
     told false olddir mode h = making_meets olddir mode h
 
@@ -119,7 +119,7 @@ include_fine : (ws : List (List ℕ)) → Fine (include_says ws)
 include_fine [] = refl
 include_fine (w ∷ ws) = included_fine (include_value w)
 
-barred_fine : (patterns : Bool) (r : Result TabooItems ConfKind) → Fine (barred patterns r)
+barred_fine : (patterns : Bool) (r : Result TabooItems ConfKind) → Fine (taboo_or_bad patterns r)
 barred_fine patterns (Ok items) = refl
 barred_fine patterns (Err k) = refl
 
@@ -209,7 +209,7 @@ script_fine : (inside : Bool) (text : List ℕ) (stray : Bool) (o : Option Phase
 script_fine inside text stray None = refl
 script_fine inside text stray (Some p) = either inside (says.Script p text stray) (says.Bad kind.OutsideSet) refl refl
 
-pub said_fine : (inside : Bool) (i : Item) → said_meets (said inside i) ≡ true
+pub said_fine : (inside : Bool) (i : Item) → said_meets (item_says inside i) ≡ true
 said_fine inside (item.Close line) = refl
 said_fine inside (item.Script word text brace stray line) =
     either (inside && brace) (says.Bad kind.NestedBrace) (script_in inside text stray (phase_named (directive_of word.text))) refl

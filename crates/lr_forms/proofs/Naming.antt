@@ -23,8 +23,8 @@ use Rattle.lr_forms.specs.declared.set.Set.TheVariants as set
 use Rattle.lr_forms.specs.declared.said.Said.{Said}
 use Rattle.lr_forms.specs.declared.said.Said.TheVariants as says
 use Rattle.lr_forms.specs.Forms.{form_of}
-use Rattle.lr_forms.specs.Values.{setting, value_of, sets_or_bad, day_of, mode_of, making, made, included, barred}
-use Rattle.lr_forms.specs.Says.{directive_of, checks, first_fault, means, or_bad, by_directive, texts, words_say, log_names, name_faults, named, names_say, nested, phase_named, script_in, said}
+use Rattle.lr_forms.specs.Values.{setting, value_of, sets_or_bad, weekday_given, mode_of, setting_make, made, included, taboo_or_bad}
+use Rattle.lr_forms.specs.Says.{directive_of, checks, first_fault, means, or_bad, by_directive, texts, words_say, log_names, name_faults, named, names_say, nested, phase_named, script_in, item_says}
 use Rattle.lr_forms.specs.Limits.{NamesSome}
 
 either : (b : Bool) (s t : Said) → NamesSome s → NamesSome t → NamesSome (cond b s t)
@@ -38,14 +38,14 @@ set_some (Ok v) = tt
 set_some (Err k) = tt
 
 made_some : (olddir : Bool) (words : ℕ) (r : Result (Option ℕ) ConfKind) → NamesSome (made olddir words r)
-made_some olddir words (Ok mode) = either (names_owner words mode) (says.OwnerPassed (making olddir (make.Yes mode))) (says.Sets (making olddir (make.Yes mode))) tt tt
+made_some olddir words (Ok mode) = either (names_owner words mode) (says.OwnerPassed (setting_make olddir (make.Yes mode))) (says.Sets (setting_make olddir (make.Yes mode))) tt tt
 made_some olddir words (Err k) = tt
 
 included_some : (r : Result Path ConfKind) → NamesSome (included r)
 included_some (Ok path) = tt
 included_some (Err k) = tt
 
-barred_some : (patterns : Bool) (r : Result TabooItems ConfKind) → NamesSome (barred patterns r)
+barred_some : (patterns : Bool) (r : Result TabooItems ConfKind) → NamesSome (taboo_or_bad patterns r)
 barred_some patterns (Ok items) = tt
 barred_some patterns (Err k) = tt
 
@@ -54,7 +54,7 @@ means_some form.Passed word vs = tt
 means_some (form.Plain s) word vs = tt
 means_some (form.One v) word [] = tt
 means_some (form.One v) word (w ∷ ws) = set_some (value_of v w)
-means_some form.Day word vs = set_some (setting (λ day. set.Criterion (criterion.Weekly day)) (day_of vs))
+means_some form.Day word vs = set_some (setting (λ day. set.Criterion (criterion.Weekly day)) (weekday_given vs))
 means_some (form.Make olddir) word vs = made_some olddir (length vs) (mode_of vs)
 means_some form.Include word [] = tt
 means_some form.Include word (w ∷ ws) = included_some (include_value w)
@@ -97,7 +97,7 @@ script_some : (inside : Bool) (text : List ℕ) (stray : Bool) (o : Option Phase
 script_some inside text stray None = tt
 script_some inside text stray (Some p) = either inside (says.Script p text stray) (says.Bad kind.OutsideSet) tt tt
 
-pub said_some : (inside : Bool) (i : Item) → NamesSome (said inside i)
+pub said_some : (inside : Bool) (i : Item) → NamesSome (item_says inside i)
 said_some inside (item.Close line) = tt
 said_some inside (item.Script word text brace stray line) =
     either (inside && brace) (says.Bad kind.NestedBrace) (script_in inside text stray (phase_named (directive_of word.text))) tt

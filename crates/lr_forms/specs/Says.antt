@@ -37,9 +37,9 @@ has_brace (item.Close line) = false
 has_brace (item.Script word text brace stray line) = brace
 
 -- it closes a definition
-abbrev pub closes : Item → Bool
-closes (item.Close line) = true
-closes i = false
+abbrev pub closes_definition : Item → Bool
+closes_definition (item.Close line) = true
+closes_definition i = false
 
 -- ---- the directive of a line
 
@@ -186,10 +186,10 @@ script_says inside brace stray word text =
     else script_in inside text stray (phase_named (directive_of word))
 
 -- what a line says
-abbrev pub said : Bool → Item → Said
-said inside (item.Close line) = says.Close
-said inside (item.Script word text brace stray line) = script_says inside brace stray word.text text
-said inside (item.Line ws names brace stray line) =
+abbrev pub item_says : Bool → Item → Said
+item_says inside (item.Close line) = says.Close
+item_says inside (item.Script word text brace stray line) = script_says inside brace stray word.text text
+item_says inside (item.Line ws names brace stray line) =
     if not names then words_say inside brace stray ws
     else if inside then nested brace kind.Stray
     else names_say stray ws

@@ -52,12 +52,12 @@ one_says v (w ∷ ws) = sets_or_bad (value_of v w)
 -- ---- a day of the week
 
 -- the day that `weekly` names; without one it is 0
-abbrev pub day_of : List (List ℕ) → Result ℕ ConfKind
-day_of [] = Ok 0
-day_of (w ∷ ws) = weekday_value w
+abbrev pub weekday_given : List (List ℕ) → Result ℕ ConfKind
+weekday_given [] = Ok 0
+weekday_given (w ∷ ws) = weekday_value w
 
 abbrev pub day_says : List (List ℕ) → Said
-day_says ws = sets_or_bad (setting (λ day. set.Criterion (criterion.Weekly day)) (day_of ws))
+day_says ws = sets_or_bad (setting (λ day. set.Criterion (criterion.Weekly day)) (weekday_given ws))
 
 -- ---- files and directories that are made
 
@@ -66,15 +66,15 @@ abbrev pub mode_of : List (List ℕ) → Result (Option ℕ) ConfKind
 mode_of [] = Ok None
 mode_of (w ∷ ws) = first_mode_value w
 
-abbrev pub making : Bool → Make → Set
-making true m = set.CreateOlddir m
-making false m = set.Create m
+abbrev pub setting_make : Bool → Make → Set
+setting_make true m = set.CreateOlddir m
+setting_make false m = set.Create m
 
 -- it is made with this mode, and a word that isn't the mode is passed over
 abbrev pub made : Bool → ℕ → Result (Option ℕ) ConfKind → Said
 made olddir words (Ok mode) =
-    if names_owner words mode then says.OwnerPassed (making olddir (make.Yes mode))
-    else says.Sets (making olddir (make.Yes mode))
+    if names_owner words mode then says.OwnerPassed (setting_make olddir (make.Yes mode))
+    else says.Sets (setting_make olddir (make.Yes mode))
 made olddir words (Err k) = says.Bad k
 
 abbrev pub make_says : Bool → List (List ℕ) → Said
@@ -91,9 +91,9 @@ abbrev pub include_says : List (List ℕ) → Said
 include_says [] = says.Quiet
 include_says (w ∷ ws) = included (include_value w)
 
-abbrev pub barred : Bool → Result TabooItems ConfKind → Said
-barred patterns (Ok items) = says.Taboo patterns items
-barred patterns (Err k) = says.Bad k
+abbrev pub taboo_or_bad : Bool → Result TabooItems ConfKind → Said
+taboo_or_bad patterns (Ok items) = says.Taboo patterns items
+taboo_or_bad patterns (Err k) = says.Bad k
 
 abbrev pub taboo_says : Bool → List (List ℕ) → Said
-taboo_says patterns ws = barred patterns (taboo_value ws)
+taboo_says patterns ws = taboo_or_bad patterns (taboo_value ws)

@@ -1,7 +1,7 @@
 // What `create` and `createolddir` say.
 ghost use Rattle.std.specs.Prelude.{◌≡◌};
 ghost use Rattle.lr_forms.specs.Says.{texts};
-ghost use Rattle.lr_forms.specs.Values.{mode_of, making, made, make_says};
+ghost use Rattle.lr_forms.specs.Values.{mode_of, setting_make, made, make_says};
 
 use crate::said::Said;
 use crate::set::Set;
@@ -19,7 +19,7 @@ fn mode_of(values: &[Word]) -> Result<Option<u32>, ConfKind>
 }
 
 fn making(olddir: bool, make: Make) -> Set
-    ensures { result ≡ making olddir make }
+    ensures { result ≡ setting_make olddir make }
 {
     if olddir {
         Set::CreateOlddir(make)

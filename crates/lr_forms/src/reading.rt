@@ -1,6 +1,6 @@
 // Reading a line by itself.
 ghost use Rattle.std.specs.Prelude.{◌≡◌, ◌∷◌, [], IfOk, MatchOption};
-ghost use Rattle.lr_forms.specs.Says.{directive_of, means, by_directive, texts, words_say, nested, said};
+ghost use Rattle.lr_forms.specs.Says.{directive_of, means, by_directive, texts, words_say, nested, item_says};
 
 use crate::faults::fault_of;
 use crate::form::{Form, form_of};
@@ -94,7 +94,7 @@ fn nested(brace: bool, kind: ConfKind) -> Said
 
 /// What a line says, inside a definition or outside. The first fault that applies is the line's.
 pub fn say(alloc: Global, item: Item, inside: bool) -> Result<Said, Memory>
-    ensures { IfOk result (λ s. s ≡ said inside item) }
+    ensures { IfOk result (λ s. s ≡ item_says inside item) }
 {
     match item {
         Item::Close { .. } => Ok(Said::Close),

@@ -1,6 +1,6 @@
 // What one line says by itself.
 ghost use Rattle.std.specs.Prelude.{◌≡◌};
-ghost use Rattle.lr_forms.specs.Says.{line_of, has_brace, closes};
+ghost use Rattle.lr_forms.specs.Says.{line_of, has_brace, closes_definition};
 
 use crate::set::Set;
 use lr_lex::Item;
@@ -70,7 +70,7 @@ pub fn has_brace(item: &Item) -> bool
 
 /// Whether it closes a definition.
 pub fn closes(item: &Item) -> bool
-    ensures { result ≡ closes item.now }
+    ensures { result ≡ closes_definition item.now }
 {
     match item {
         Item::Close { .. } => true,

@@ -6,7 +6,7 @@ ghost use Rattle.lr_words.specs.Formats.{format_value};
 ghost use Rattle.lr_words.specs.Words.{extension_value, address_value, olddir_value};
 ghost use Rattle.lr_forms.specs.declared.set.Set.TheVariants as set;
 ghost use Rattle.lr_forms.specs.Says.{texts};
-ghost use Rattle.lr_forms.specs.Values.{setting, value_of, sets_or_bad, one_says, day_of, day_says};
+ghost use Rattle.lr_forms.specs.Values.{setting, value_of, sets_or_bad, one_says, weekday_given, day_says};
 
 use crate::form::Value;
 use crate::said::Said;
@@ -175,7 +175,7 @@ pub(crate) fn one_says(alloc: Global, value: Value, values: &[Word]) -> Result<S
 // ---- a day of the week
 
 fn day_of(values: &[Word]) -> Result<u8, ConfKind>
-    ensures { result ≡ day_of (texts values.now) }
+    ensures { result ≡ weekday_given (texts values.now) }
 {
     match values {
         [] => Ok(0),

@@ -8,7 +8,7 @@ use Rattle.lr_rules.specs.declared.fault.Fault.TheVariants as fault
 use Rattle.lr_rules.specs.declared.fault.Phase.{Phase}
 use Rattle.lr_rules.specs.declared.path.Path.{Path}
 use Rattle.lr_host.specs.Told.{Counts, NoneFell, Onward, Rose}
-use Rattle.lr_host.specs.Counted.{calls_in, scripts_in, NoneAround, RoseBy, AreCounted, AddsFaults, Went, WentBy}
+use Rattle.lr_host.specs.Counted.{calls_in, bad_scripts_in, NoneAround, RoseBy, AreCounted, AddsFaults, Went, WentBy}
 
 pub none_more : (n : ℕ) → 0 + n ≡ n
 none_more n = omega arith
@@ -17,9 +17,9 @@ pub calls_on : (xs ys : List Fault) → calls_in (xs ++ ys) ≡ calls_in xs + ca
 calls_on [] ys = sym (none_more (calls_in ys))
 calls_on (x ∷ xs) ys = let e : calls_in (xs ++ ys) ≡ calls_in xs + calls_in ys = calls_on xs ys in omega (arith, e)
 
-pub scripts_on : (xs ys : List Fault) → scripts_in (xs ++ ys) ≡ scripts_in xs + scripts_in ys
-scripts_on [] ys = sym (none_more (scripts_in ys))
-scripts_on (x ∷ xs) ys = let e : scripts_in (xs ++ ys) ≡ scripts_in xs + scripts_in ys = scripts_on xs ys in omega (arith, e)
+pub scripts_on : (xs ys : List Fault) → bad_scripts_in (xs ++ ys) ≡ bad_scripts_in xs + bad_scripts_in ys
+scripts_on [] ys = sym (none_more (bad_scripts_in ys))
+scripts_on (x ∷ xs) ys = let e : bad_scripts_in (xs ++ ys) ≡ bad_scripts_in xs + bad_scripts_in ys = scripts_on xs ys in omega (arith, e)
 
 pub none_around_on : (xs ys : List Fault) → NoneAround xs → NoneAround ys → NoneAround (xs ++ ys)
 none_around_on [] ys h g = g
@@ -31,7 +31,7 @@ rose_on a b c m n e f = omega (arith, e, f)
 pub counted_on : (xs ys : List Fault) (k l m : Counts) → AreCounted xs k l → AreCounted ys l m → AreCounted (xs ++ ys) k m
 counted_on xs ys k l m x y = record {
   calls = subst (λ n. RoseBy n k.faults m.faults) (sym (calls_on xs ys)) (rose_on k.faults l.faults m.faults (calls_in xs) (calls_in ys) x.calls y.calls);
-  scripts = subst (λ n. RoseBy n k.bad_ends m.bad_ends) (sym (scripts_on xs ys)) (rose_on k.bad_ends l.bad_ends m.bad_ends (scripts_in xs) (scripts_in ys) x.scripts y.scripts);
+  scripts = subst (λ n. RoseBy n k.bad_ends m.bad_ends) (sym (scripts_on xs ys)) (rose_on k.bad_ends l.bad_ends m.bad_ends (bad_scripts_in xs) (bad_scripts_in ys) x.scripts y.scripts);
   none_around = none_around_on xs ys x.none_around y.none_around;
 }
 
@@ -53,7 +53,7 @@ adds_none a k = record { added = []; after_is = sym (append-nil a); are_counted 
 -- neither a failed call, nor a script, nor one of the clock, the zone or the output
 pub record AreFree (added : List Fault) : Type 0 where
   pub calls : calls_in added ≡ 0
-  pub scripts : scripts_in added ≡ 0
+  pub scripts : bad_scripts_in added ≡ 0
   pub none_around : NoneAround added
 
 pub free_none : AreFree []

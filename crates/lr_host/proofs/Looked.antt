@@ -5,22 +5,22 @@ use Rattle.lr_host.specs.declared.thing.Thing.TheVariants as thing
 use Rattle.lr_host.specs.declared.thing.Kind.TheVariants as kind
 use Rattle.lr_host.specs.declared.thing.Seen.{Seen}
 use Rattle.lr_host.specs.World.{World, is_file}
-use Rattle.lr_host.specs.Fits.{Sees}
+use Rattle.lr_host.specs.Fits.{SeesThing}
 use Rattle.lr_host.proofs.Places.{eq_same}
 
-pub seen_file : (w : World) (t : Thing) (seen : Seen) → Sees w t (Some seen) → seen.kind ≡ kind.File → (g : ℕ) × (t ≡ thing.File g)
+pub seen_file : (w : World) (t : Thing) (seen : Seen) → SeesThing w t (Some seen) → seen.kind ≡ kind.File → (g : ℕ) × (t ≡ thing.File g)
 seen_file w thing.Nothing seen s k = absurd (let none : Some seen ≡ None = s in cc)
 seen_file w (thing.File g) seen s k = (g, refl)
 seen_file w thing.Directory seen s k = absurd (let dir : seen.kind ≡ kind.Dir = s in cc)
 seen_file w thing.Other seen s k = absurd (let other : seen.kind ≡ kind.Other = s in cc)
 
-pub seen_dir : (w : World) (t : Thing) (seen : Seen) → Sees w t (Some seen) → seen.kind ≡ kind.Dir → t ≡ thing.Directory
+pub seen_dir : (w : World) (t : Thing) (seen : Seen) → SeesThing w t (Some seen) → seen.kind ≡ kind.Dir → t ≡ thing.Directory
 seen_dir w thing.Nothing seen s k = absurd (let none : Some seen ≡ None = s in cc)
 seen_dir w (thing.File g) seen s k = absurd (let file : seen.kind ≡ kind.File = s.0 in cc)
 seen_dir w thing.Directory seen s k = refl
 seen_dir w thing.Other seen s k = absurd (let other : seen.kind ≡ kind.Other = s in cc)
 
-pub seen_none : (w : World) (t : Thing) → Sees w t None → t ≡ thing.Nothing
+pub seen_none : (w : World) (t : Thing) → SeesThing w t None → t ≡ thing.Nothing
 seen_none w thing.Nothing s = refl
 seen_none w (thing.File g) s = absurd s
 seen_none w thing.Directory s = absurd s

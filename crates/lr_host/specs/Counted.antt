@@ -14,13 +14,13 @@ calls_in [] = 0
 calls_in (f ∷ fs) = call_in f + calls_in fs
 
 -- how many are scripts that ended badly
-abbrev pub script_in : Fault → ℕ
-script_in (fault.Script phase on end) = 1
-script_in _ = 0
+abbrev pub bad_script_in : Fault → ℕ
+bad_script_in (fault.Script phase on end) = 1
+bad_script_in _ = 0
 
-abbrev pub scripts_in : List Fault → ℕ
-scripts_in [] = 0
-scripts_in (f ∷ fs) = script_in f + scripts_in fs
+abbrev pub bad_scripts_in : List Fault → ℕ
+bad_scripts_in [] = 0
+bad_scripts_in (f ∷ fs) = bad_script_in f + bad_scripts_in fs
 
 -- what is told around a run: a fault of the clock, of the zone or of the output
 abbrev pub IsAround : Fault → Type 0
@@ -42,7 +42,7 @@ RoseBy n before now = min (before + n) (2 ^ 64 - 1) ≤ now
 -- zone or the output.
 pub record AreCounted (faults : List Fault) (counted counts : Counts) : Type 0 where
   pub calls : RoseBy (calls_in faults) counted.faults counts.faults
-  pub scripts : RoseBy (scripts_in faults) counted.bad_ends counts.bad_ends
+  pub scripts : RoseBy (bad_scripts_in faults) counted.bad_ends counts.bad_ends
   pub none_around : NoneAround faults
 
 -- such faults were added

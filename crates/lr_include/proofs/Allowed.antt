@@ -19,7 +19,7 @@ use Rattle.lr_forms.specs.declared.said.Said.{Said}
 use Rattle.lr_forms.specs.declared.said.Said.TheVariants as says
 use Rattle.lr_conf.specs.Fields.{fields_of, last_or}
 use Rattle.lr_conf.specs.declared.stop.Include.{Include}
-use Rattle.lr_conf.specs.Meaning.{Line, Read, Spoiled, End, Cut, OutsideLine, stands, spoiled, Meaning, conf, nothing, line_file, first_pending, words_pending, words_with, settings, opened, opens, past, before, through, behind, ends, InsideLine, states, broken, left_open, within, body_of, drops, set_in, line_fault, fault_in, broken_fault, spoilt_fault, told, at_line, left_names, stray_at, own_fault, line_faults, of_end, of_body, of_opening, meaning}
+use Rattle.lr_conf.specs.Meaning.{Line, Read, Spoiled, End, Cut, OutsideLine, stands, spoiled, Meaning, conf, nothing, line_file, first_pending, words_pending, words_with, settings, opened_at, opens_definition, outside_line, before, through, behind, ends, InsideLine, states, broken, left_open, within, body_of, drops, set_in, line_fault, fault_in, broken_fault, spoilt_fault, only_faults, at_line, left_names, stray_at, own_fault, line_faults, of_end, of_body, of_opening, meaning}
 use Rattle.lr_conf.proofs.Each.{append, front, Given, one_more, mapped}
 use Rattle.lr_include.specs.declared.part.TextEnd.{TextEnd}
 use Rattle.lr_include.specs.declared.part.TextEnd.TheVariants as end
@@ -32,7 +32,7 @@ use Rattle.lr_include.specs.declared.task.Task.{Task}
 use Rattle.lr_include.specs.declared.task.Task.TheVariants as task
 use Rattle.lr_include.specs.Lines.{conf_kind}
 use Rattle.lr_include.specs.Allowed.{IsAllowed, IsAllowedVisit, AreAllowedVisits}
-use Rattle.lr_include.specs.Stages.{Stage, lines_in, lines_now, ask_of, asked_at, asks_in, asks_now, taken, before_asks, settled_from, settled_stage, kind_piece, piece_of, last_piece, line_tasks, entering, name_task, name_tasks, telling_exposed, behind_names, after_ask, after_name, visited, visited_by, at_visits, begun, line_ask, visits_mean}
+use Rattle.lr_include.specs.Stages.{Stage, lines_in, lines_now, ask_of, asked_at, asks_in, asks_now, past_piece, before_asks, settled_from, settled_stage, kind_piece, piece_of, last_piece, line_tasks, entering, name_task, name_tasks, telling_exposed, behind_names, after_ask, after_name, visited, visited_by, at_visits, begun, line_ask, visits_mean}
 
 through_each : {A : Type 0} (P : A → Type 0) (p : A → Bool) (xs : List A) → Each P xs → Each P (through p xs)
 through_each P p [] a = tt
@@ -58,7 +58,7 @@ abbrev pub IsFinePast : Bool → OutsideLine → Type 0
 IsFinePast calls (spoiled f) = (IsAllowed calls) f
 IsFinePast calls p = Unit {0}
 
-past_fine : (calls : Bool) (e : Line) → (IsFine calls) e → (IsFinePast calls) (past e)
+past_fine : (calls : Bool) (e : Line) → (IsFine calls) e → (IsFinePast calls) (outside_line e)
 past_fine calls (Read file i) ok = tt
 past_fine calls (Spoiled f) ok = ok
 past_fine calls (End file) ok = tt
@@ -144,7 +144,7 @@ body_fine calls (Some at) words vs es ok =
     let body = body_of [] (before ends es) in
     let fine : Each (IsFineWithin calls) body = (lines_fine calls) [] (before ends es) (front (IsFine calls) ends es ok) in
     let f = fields_of (vs ++ filter_map set_in body) in
-    let rest = told (filter_map broken_fault (behind drops body)) in
+    let rest = only_faults (filter_map broken_fault (behind drops body)) in
     append (IsAllowed calls) (filter_map fault_in (through drops body)) (cond (list_any drops body) rest (of_end at words f (find ends es))).faults
     (mapped (IsFineWithin calls) (IsAllowed calls) fault_in (inside_fine calls) (through drops body) (through_each (IsFineWithin calls) drops body fine))
     ((either calls) (list_any drops body) rest (of_end at words f (find ends es))
@@ -152,21 +152,21 @@ body_fine calls (Some at) words vs es ok =
 
 opening_fine : (calls : Bool) (out : List OutsideLine) (p : OutsideLine) (es : List Line) → Each (IsFine calls) es → Faults calls (of_opening out p es)
 opening_fine calls out p es ok =
-    (either calls) (opens p) (of_body (opened (first_pending out) p) (words_with (words_pending out) p) (settings (out ++ p ∷ [])) es) nothing
-    ((body_fine calls) (opened (first_pending out) p) (words_with (words_pending out) p) (settings (out ++ p ∷ [])) es ok) tt
+    (either calls) (opens_definition p) (of_body (opened_at (first_pending out) p) (words_with (words_pending out) p) (settings (out ++ p ∷ [])) es) nothing
+    ((body_fine calls) (opened_at (first_pending out) p) (words_with (words_pending out) p) (settings (out ++ p ∷ [])) es ok) tt
 
 pub meaning_fine : (calls : Bool) (es : List Line) (inside : Bool) (out : List OutsideLine) → Each (IsFine calls) es → Faults calls (meaning inside out es)
 meaning_fine calls [] true out ok = tt
 meaning_fine calls [] false out ok = tt
 meaning_fine calls (e ∷ es) true out ok =
-    let p = past e in
+    let p = outside_line e in
     (either calls) (ends e) (meaning false (out ++ p ∷ []) es) (meaning true out es) ((meaning_fine calls) es false (out ++ p ∷ []) ok.1) ((meaning_fine calls) es true out ok.1)
 meaning_fine calls (e ∷ es) false out ok =
-    let p = past e in
-    append (IsAllowed calls) (line_faults (line_file e) (first_pending out) p) ((of_opening out p es).faults ++ (meaning (opens p) (out ++ p ∷ []) es).faults)
+    let p = outside_line e in
+    append (IsAllowed calls) (line_faults (line_file e) (first_pending out) p) ((of_opening out p es).faults ++ (meaning (opens_definition p) (out ++ p ∷ []) es).faults)
     ((line_fine calls) (line_file e) (first_pending out) p ((past_fine calls) e ok.0))
-    (append (IsAllowed calls) (of_opening out p es).faults (meaning (opens p) (out ++ p ∷ []) es).faults
-    ((opening_fine calls) out p es ok.1) ((meaning_fine calls) es (opens p) (out ++ p ∷ []) ok.1))
+    (append (IsAllowed calls) (of_opening out p es).faults (meaning (opens_definition p) (out ++ p ∷ []) es).faults
+    ((opening_fine calls) out p es ok.1) ((meaning_fine calls) es (opens_definition p) (out ++ p ∷ []) ok.1))
 
 -- ---- stages
 
@@ -213,9 +213,9 @@ settled_fine : (calls : Bool) (s : Stage) (todo : List Task) → Each (IsFine ca
 settled_fine calls s [] l t = (l, tt)
 settled_fine calls s (task.Line p ∷ todo) l t =
     let lines = append (IsFine calls) s.lines (lines_now s.inside p) l (lines_now_fine calls s.inside p t.0) in
-    before_fine calls (asks_now s.inside s.lines p) (record (taken s p) { todo = asks_now s.inside s.lines p ++ todo }) (settled_from (taken s p) todo)
+    before_fine calls (asks_now s.inside s.lines p) (record (past_piece s p) { todo = asks_now s.inside s.lines p ++ todo }) (settled_from (past_piece s p) todo)
     (lines, append (FineTask calls) (asks_now s.inside s.lines p) todo (asks_now_fine calls s.inside s.lines p) t.1)
-    (settled_fine calls (taken s p) todo lines t.1)
+    (settled_fine calls (past_piece s p) todo lines t.1)
 settled_fine calls s (task.Ask a ∷ todo) l t = (l, t)
 settled_fine calls s (task.Name a ∷ todo) l t = (l, t)
 

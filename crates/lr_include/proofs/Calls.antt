@@ -18,7 +18,7 @@ use Rattle.lr_forms.specs.declared.set.Set.{Set}
 use Rattle.lr_conf.specs.declared.fields.Fields.{Fields}
 use Rattle.lr_conf.specs.Fields.{fields_of, last_or}
 use Rattle.lr_conf.specs.declared.stop.Include.{Include}
-use Rattle.lr_conf.specs.Meaning.{Line, Read, Spoiled, End, Cut, OutsideLine, stands, spoiled, Meaning, conf, nothing, line_file, first_pending, words_pending, words_with, settings, opened, opens, past, before, through, behind, ends, InsideLine, states, broken, left_open, within, body_of, drops, set_in, line_fault, fault_in, broken_fault, spoilt_fault, told, at_line, left_names, stray_at, own_fault, line_faults, of_end, of_body, of_opening, meaning}
+use Rattle.lr_conf.specs.Meaning.{Line, Read, Spoiled, End, Cut, OutsideLine, stands, spoiled, Meaning, conf, nothing, line_file, first_pending, words_pending, words_with, settings, opened_at, opens_definition, outside_line, before, through, behind, ends, InsideLine, states, broken, left_open, within, body_of, drops, set_in, line_fault, fault_in, broken_fault, spoilt_fault, only_faults, at_line, left_names, stray_at, own_fault, line_faults, of_end, of_body, of_opening, meaning}
 use Rattle.lr_host.specs.declared.entry.Entry.{Entry}
 use Rattle.lr_include.specs.declared.part.TextEnd.{TextEnd}
 use Rattle.lr_include.specs.declared.part.TextEnd.TheVariants as end
@@ -34,7 +34,7 @@ use Rattle.lr_include.specs.Lines.{conf_kind}
 use Rattle.lr_host.specs.Counted.{call_in, calls_in, RoseBy}
 use Rattle.lr_host.proofs.Counts.{calls_on}
 use Rattle.lr_include.specs.Allowed.{failed_read, failed_visit, failed_in}
-use Rattle.lr_include.specs.Stages.{Stage, lines_now, open_behind, ask_of, asked_at, asks_now, taken, before_asks, settled_from, settled_stage, room_for, kind_piece, piece_of, last_piece, line_tasks, entering, name_tasks, telling_exposed, behind_names, visited, visited_by, at_visits, ShowsNext, ShowsVisits, begun, line_ask, visits_mean, Reads}
+use Rattle.lr_include.specs.Stages.{Stage, lines_now, open_behind, ask_of, asked_at, asks_now, past_piece, before_asks, settled_from, settled_stage, room_for, kind_piece, piece_of, last_piece, line_tasks, entering, name_tasks, telling_exposed, behind_names, visited, visited_by, at_visits, ShowsNext, ShowsVisits, begun, line_ask, visits_mean, Reads}
 
 -- ---- sums over lists
 
@@ -76,7 +76,7 @@ abbrev calls_within : InsideLine → ℕ
 calls_within (broken f) = call_in f
 calls_within w = 0
 
-past_calls : (e : Line) → calls_past (past e) ≡ calls_line e
+past_calls : (e : Line) → calls_past (outside_line e) ≡ calls_line e
 past_calls (Read file i) = refl
 past_calls (Spoiled f) = refl
 past_calls (End file) = refl
@@ -130,9 +130,9 @@ own_calls file first (stands at brace (says.BadNames k)) = refl
 own_calls file first (spoiled f) = omega arith
 own_calls file first p = refl
 
-line_calls : (file : Path) (first : Option ℕ) (e : Line) → calls_in (line_faults file first (past e)) ≡ calls_line e
+line_calls : (file : Path) (first : Option ℕ) (e : Line) → calls_in (line_faults file first (outside_line e)) ≡ calls_line e
 line_calls file first e =
-    let p = past e in
+    let p = outside_line e in
     let a = calls_on (at_line file kind.NoBrace (left_names first p)) (own_fault file first p) in
     let b = at_calls file kind.NoBrace (left_names first p) in
     let c = own_calls file first p in
@@ -168,7 +168,7 @@ mapped_calls : {A : Type 0} (v : A → ℕ) (f : A → Option Fault) → ((x : A
 mapped_calls v f h xs = calls_total (filter_map f xs) ∙ total_mapped v call_in f h xs
 
 abbrev rest_of : List InsideLine → Meaning
-rest_of body = told (filter_map broken_fault (behind drops body))
+rest_of body = only_faults (filter_map broken_fault (behind drops body))
 
 closed_calls : (at : ℕ) (words : List (List ℕ)) (f : Fields) (o : Option Line) (body : List InsideLine) (b : Bool) → list_any drops body ≡ b → calls_in (cond b (rest_of body) (of_end at words f o)).faults ≡ total calls_within (behind drops body)
 closed_calls at words f o body true e = mapped_calls calls_within broken_fault broken_calls (behind drops body)
@@ -202,23 +202,23 @@ abbrev Inside : List OutsideLine → List Line → Type 0
 Inside out es = total calls_line (before ends es) + calls_in (meaning true out es).faults ≡ total calls_line es
 
 opened_calls : (p : OutsideLine) (es : List Line) (out : List OutsideLine) → Outside (out ++ p ∷ []) es → Inside (out ++ p ∷ []) es → (b : Bool)
-    → calls_in (cond b (of_body (opened (first_pending out) p) (words_with (words_pending out) p) (settings (out ++ p ∷ [])) es) nothing).faults + calls_in (meaning b (out ++ p ∷ []) es).faults ≡ total calls_line es
-opened_calls p es out f g true = let k = body_calls (opened (first_pending out) p) (words_with (words_pending out) p) (settings (out ++ p ∷ [])) es in omega (arith, k, g)
+    → calls_in (cond b (of_body (opened_at (first_pending out) p) (words_with (words_pending out) p) (settings (out ++ p ∷ [])) es) nothing).faults + calls_in (meaning b (out ++ p ∷ []) es).faults ≡ total calls_line es
+opened_calls p es out f g true = let k = body_calls (opened_at (first_pending out) p) (words_with (words_pending out) p) (settings (out ++ p ∷ [])) es in omega (arith, k, g)
 opened_calls p es out f g false = omega (arith, f)
 
-outside_on : (e : Line) (es : List Line) (out : List OutsideLine) → Outside (out ++ past e ∷ []) es → Inside (out ++ past e ∷ []) es → Outside out (e ∷ es)
+outside_on : (e : Line) (es : List Line) (out : List OutsideLine) → Outside (out ++ outside_line e ∷ []) es → Inside (out ++ outside_line e ∷ []) es → Outside out (e ∷ es)
 outside_on e es out f g =
-    let p = past e in
-    let a = calls_on (line_faults (line_file e) (first_pending out) p) ((of_opening out p es).faults ++ (meaning (opens p) (out ++ p ∷ []) es).faults) in
-    let b = calls_on (of_opening out p es).faults (meaning (opens p) (out ++ p ∷ []) es).faults in
+    let p = outside_line e in
+    let a = calls_on (line_faults (line_file e) (first_pending out) p) ((of_opening out p es).faults ++ (meaning (opens_definition p) (out ++ p ∷ []) es).faults) in
+    let b = calls_on (of_opening out p es).faults (meaning (opens_definition p) (out ++ p ∷ []) es).faults in
     let c = line_calls (line_file e) (first_pending out) e in
-    let d = opened_calls p es out f g (opens p) in
+    let d = opened_calls p es out f g (opens_definition p) in
     omega (arith, a, b, c, d)
 
-inside_on : (e : Line) (es : List Line) (out : List OutsideLine) → Outside (out ++ past e ∷ []) es → Inside out es → Inside out (e ∷ es)
+inside_on : (e : Line) (es : List Line) (out : List OutsideLine) → Outside (out ++ outside_line e ∷ []) es → Inside out es → Inside out (e ∷ es)
 inside_on e es out f g = by (ends e) refl
   where
-    by : (b : Bool) → ends e ≡ b → total calls_line (cond b [] (e ∷ before ends es)) + calls_in (cond b (meaning false (out ++ past e ∷ []) es) (meaning true out es)).faults ≡ calls_line e + total calls_line es
+    by : (b : Bool) → ends e ≡ b → total calls_line (cond b [] (e ∷ before ends es)) + calls_in (cond b (meaning false (out ++ outside_line e ∷ []) es) (meaning true out es)).faults ≡ calls_line e + total calls_line es
     by true h = let z = ends_none e h in omega (arith, z, f)
     by false h = omega (arith, g)
 
@@ -226,7 +226,7 @@ sides : (es : List Line) (out : List OutsideLine) → Outside out es × Inside o
 sides [] out = (refl, refl)
 sides (e ∷ es) out =
     let here = sides es out in
-    let later = sides es (out ++ past e ∷ []) in
+    let later = sides es (out ++ outside_line e ∷ []) in
     (outside_on e es out later.0 later.1, inside_on e es out later.0 here.1)
 
 meaning_calls : (es : List Line) → calls_in (meaning false [] es).faults ≡ total calls_line es
@@ -302,9 +302,9 @@ settled_sums n s (task.Line p ∷ todo) e f =
     let z = asks_none calls_task (λ x. refl) s.inside s.lines p in
     let g = total_both ends_task (asks_now s.inside s.lines p) todo in
     let y = asks_none ends_task (λ x. refl) s.inside s.lines p in
-    before_sums n (asks_now s.inside s.lines p) (record (taken s p) { todo = asks_now s.inside s.lines p ++ todo }) (settled_from (taken s p) todo)
+    before_sums n (asks_now s.inside s.lines p) (record (past_piece s p) { todo = asks_now s.inside s.lines p ++ todo }) (settled_from (past_piece s p) todo)
     (record { calls = omega (arith, a, b, d, z, e); ends_are = omega (arith, g, y, c, f) })
-    (settled_sums n (taken s p) todo (omega (arith, a, b, e)) (omega (arith, c, f)))
+    (settled_sums n (past_piece s p) todo (omega (arith, a, b, e)) (omega (arith, c, f)))
 settled_sums n s (task.Ask a ∷ todo) e f = record { calls = e; ends_are = f }
 settled_sums n s (task.Name a ∷ todo) e f = record { calls = e; ends_are = f }
 

@@ -21,7 +21,7 @@ use Rattle.lr_conf.specs.declared.stop.LayerStop.TheVariants as stop
 use Rattle.lr_conf.specs.Stops.{layer_faults}
 use Rattle.lr_lex.specs.declared.item.Item.{Item}
 use Rattle.lr_lex.specs.Items.{Told}
-use Rattle.lr_conf.specs.Meaning.{Line, Read, Spoiled, End, Cut, Meaning, meaning, ◌and◌, told, conf, asked, banned}
+use Rattle.lr_conf.specs.Meaning.{Line, Read, Spoiled, End, Cut, Meaning, meaning, ◌and◌, only_faults, conf, asked, banned}
 use Rattle.lr_conf.specs.Fold.{coming, asking, banning, entered, file_of_layer, LayerTook, Asks, Bans, Alike, LayerPasses}
 use Rattle.lr_conf.specs.Fields.{last_or}
 use Rattle.lr_host.specs.declared.entry.Entry.{Entry}
@@ -40,14 +40,14 @@ use Rattle.lr_include.specs.declared.task.Piece.{Piece}
 use Rattle.lr_include.specs.declared.task.Piece.TheVariants as piece
 use Rattle.lr_include.specs.declared.task.Task.{Task}
 use Rattle.lr_include.specs.declared.task.Task.TheVariants as task
-use Rattle.lr_include.specs.Stages.{Stage, piece_of, line_tasks, ask_of, asked_at, lines_in, lines_now, open_behind, asks_in, asks_now, taken, before_asks, settled_from, settled_stage, is_shallow, room_for, telling, telling_exposed, name_task, name_tasks, behind_names, after_ask, after_name, IsTaboo, visited, at_visits, ShowsNext, ShowsVisits, begun, visits_mean, Reads}
+use Rattle.lr_include.specs.Stages.{Stage, piece_of, line_tasks, ask_of, asked_at, lines_in, lines_now, open_behind, asks_in, asks_now, past_piece, before_asks, settled_from, settled_stage, is_shallow, room_for, telling, telling_exposed, name_task, name_tasks, behind_names, after_ask, after_name, IsTaboo, visited, at_visits, ShowsNext, ShowsVisits, begun, visits_mean, Reads}
 use Rattle.lr_include.specs.Course.{Knows, StandsAt, SameRest, SameButTodo, CourseTells, TellsAnswer, TookPiece, TakesPiece, ToldFault, ClosesFile, WentOn, GoesOn}
 
 -- ---- one more line
 
 abbrev SameLines : Layer → Layer → List Fault → List Include → Line → Type 0
 SameLines old new faults includes e =
-    ((more : List Line) → coming old (e ∷ more) ≡ (told faults and coming new more))
+    ((more : List Line) → coming old (e ∷ more) ≡ (only_faults faults and coming new more))
     × ((more : List Line) → asking old (e ∷ more) ≡ includes ++ asking new more)
     × ((more : List Line) → banning old (e ∷ more) ≡ banning new more)
 
@@ -57,9 +57,9 @@ one_line : (old new : Layer) (before after faults : List Fault) (includes : List
 one_line old new before after faults includes lines inside e same files_are is k = (
   record {
     means = λ more.
-        ap (λ (fs : List Fault). told fs and coming new more) is
+        ap (λ (fs : List Fault). only_faults fs and coming new more) is
         ∙ (ap (λ (fs : List Fault). record { rules = (coming new more).rules; notices = (coming new more).notices; faults = fs }) (append_assoc before faults (coming new more).faults)
-        ∙ (ap (λ (m : Meaning). told before and m) (sym (same.0 more))
+        ∙ (ap (λ (m : Meaning). only_faults before and m) (sym (same.0 more))
         ∙ (k.means (e ∷ more) ∙ ap (meaning false []) (sym (append_assoc lines (e ∷ []) more)))));
     asks = λ more.
         ap (asked false) (append_assoc lines (e ∷ []) more)
@@ -77,7 +77,7 @@ one_line old new before after faults includes lines inside e same files_are is k
     one = k.asks (e ∷ []) ∙ ap (λ (is : List Include). asked false lines ++ is) (same.1 [] ∙ append-nil includes)
 
 pub passed_line : (old new : Layer) (before after faults : List Fault) (lines : List Line) (inside : List Path) (e : Line)
-    → ((more : List Line) → coming old (e ∷ more) ≡ (told faults and coming new more)) → ((more : List Line) → asking old (e ∷ more) ≡ asking new more) → ((more : List Line) → banning old (e ∷ more) ≡ banning new more)
+    → ((more : List Line) → coming old (e ∷ more) ≡ (only_faults faults and coming new more)) → ((more : List Line) → asking old (e ∷ more) ≡ asking new more) → ((more : List Line) → banning old (e ∷ more) ≡ banning new more)
     → entered new ≡ entered old → after ≡ before ++ faults → Knows old before lines inside → Knows new after (lines ++ e ∷ []) inside
 passed_line old new before after faults lines inside e c a b files is k = (one_line old new before after faults [] lines inside e (c, a, b) files is k).0
 
@@ -86,7 +86,7 @@ pub alike_layer : (old new : Layer) (faults : List Fault) (lines : List Line) (i
     → ((more : List Line) → coming new more ≡ coming old more) → ((more : List Line) → asking new more ≡ asking old more) → ((more : List Line) → banning new more ≡ banning old more)
     → entered new ≡ files → Knows old faults lines inside → Knows new faults lines files
 alike_layer old new faults lines inside files c a b is k = record {
-  means = λ more. ap (λ (m : Meaning). told faults and m) (c more) ∙ k.means more;
+  means = λ more. ap (λ (m : Meaning). only_faults faults and m) (c more) ∙ k.means more;
   asks = λ more. k.asks more ∙ ap (λ (is : List Include). asked false lines ++ is) (sym (a more));
   bans = λ more. k.bans more ∙ sym (b more);
   files = is;
@@ -154,7 +154,7 @@ took_item old mid new item r same files pos took asks bans tells = by_entered ol
           ∙ ap (λ (ts : List Task). ts ++ reverse old.todo.items) (sym (asks_of_open (entered old.layer) lines (piece.Item item) (some_file old.layer pos) ∙ ap (map (ask_of file)) one.1)));
     })
 
-pub told_fault : (old mid new : Course) (f : Fault) → Beside old mid → ((g : Fault) (more : List Line) → coming old.layer (Spoiled g ∷ more) ≡ (told (g ∷ []) and coming mid.layer more)) → ((g : Fault) → LayerPasses old.layer mid.layer (Spoiled g))
+pub told_fault : (old mid new : Course) (f : Fault) → Beside old mid → ((g : Fault) (more : List Line) → coming old.layer (Spoiled g ∷ more) ≡ (only_faults (g ∷ []) and coming mid.layer more)) → ((g : Fault) → LayerPasses old.layer mid.layer (Spoiled g))
     → entered mid.layer ≡ entered old.layer → new.layer ≡ mid.layer → new.faults.items ≡ mid.faults.items ++ f ∷ [] → SameRest mid new → ToldFault old new f
 told_fault old mid new f same means passes files layer told_it rest = record {
   knows = λ lines inside k. subst (λ (x : Layer). Knows x new.faults.items (lines ++ Spoiled f ∷ []) inside) (sym layer)
@@ -172,7 +172,7 @@ took_fault old new line kind t pos = by_entered old new (piece.Fault line kind) 
   todo = ap reverse t.rest.todo ∙ ap (λ (ts : List Task). ts ++ reverse old.todo.items) (sym (asks_of_open (entered old.layer) lines (piece.Fault line kind) (some_file old.layer pos)));
 })
 
-pub took_spoilt : (old mid new : Course) (line : ℕ) (kind : ConfKind) → Beside old mid → ((g : Fault) (more : List Line) → coming old.layer (Spoiled g ∷ more) ≡ (told (g ∷ []) and coming mid.layer more)) → ((g : Fault) → LayerPasses old.layer mid.layer (Spoiled g))
+pub took_spoilt : (old mid new : Course) (line : ℕ) (kind : ConfKind) → Beside old mid → ((g : Fault) (more : List Line) → coming old.layer (Spoiled g ∷ more) ≡ (only_faults (g ∷ []) and coming mid.layer more)) → ((g : Fault) → LayerPasses old.layer mid.layer (Spoiled g))
     → entered mid.layer ≡ entered old.layer → 0 < length (entered old.layer) → new.layer ≡ mid.layer → new.faults.items ≡ mid.faults.items ++ conf (file_of_layer mid.layer) kind line ∷ [] → SameRest mid new → TakesPiece old new (piece.Fault line kind)
 took_spoilt old mid new line kind same means passes files pos layer told_it rest = took_fault old new line kind
     (told_fault old mid new (conf (file_of_layer old.layer) kind line) same means passes files layer (told_it ∙ ap (λ (x : Path). mid.faults.items ++ conf x kind line ∷ []) (ap (last_or []) files)) rest) pos
@@ -253,7 +253,7 @@ went_then r s t i j k a b = record {
 -- what is still to be read makes no difference before it comes
 settled_any : (s : Stage) (x todo : List Task) → settled_from (record s { todo = x }) todo ≡ settled_from s todo
 settled_any s x [] = refl
-settled_any s x (task.Line p ∷ todo) = ap (before_asks (asks_now s.inside s.lines p) (record (taken s p) { todo = asks_now s.inside s.lines p ++ todo })) (settled_any (taken s p) x todo)
+settled_any s x (task.Line p ∷ todo) = ap (before_asks (asks_now s.inside s.lines p) (record (past_piece s p) { todo = asks_now s.inside s.lines p ++ todo })) (settled_any (past_piece s p) x todo)
 settled_any s x (task.Ask a ∷ todo) = refl
 settled_any s x (task.Name a ∷ todo) = refl
 
@@ -273,17 +273,17 @@ asks_are (f ∷ fs) lines (piece.Fault at kind) = inl refl
 asks_are (f ∷ fs) lines piece.End = inl refl
 asks_are (f ∷ fs) lines (piece.Break e) = inl refl
 
-behind_piece : (s : Stage) (p : Piece) → settled_stage (record s { todo = task.Line p ∷ s.todo }) ≡ settled_stage (record (taken s p) { todo = asks_now s.inside s.lines p ++ s.todo })
+behind_piece : (s : Stage) (p : Piece) → settled_stage (record s { todo = task.Line p ∷ s.todo }) ≡ settled_stage (record (past_piece s p) { todo = asks_now s.inside s.lines p ++ s.todo })
 behind_piece s p =
-    ap (before_asks (asks_now s.inside s.lines p) (record (taken s p) { todo = asks_now s.inside s.lines p ++ s.todo })) (settled_any (taken s p) (task.Line p ∷ s.todo) s.todo)
-    ∙ piece_settled (taken s p) (asks_now s.inside s.lines p) s.todo (asks_are s.inside s.lines p)
+    ap (before_asks (asks_now s.inside s.lines p) (record (past_piece s p) { todo = asks_now s.inside s.lines p ++ s.todo })) (settled_any (past_piece s p) (task.Line p ∷ s.todo) s.todo)
+    ∙ piece_settled (past_piece s p) (asks_now s.inside s.lines p) s.todo (asks_are s.inside s.lines p)
 
 -- a piece was taken in
 pub line_turned : (old new : Course) (p : Piece) (s : Stage) (o : Option Journal) (b : ℕ) → TakesPiece old new p → StandsAt old s → GoesOn (record s { todo = task.Line p ∷ s.todo }) new o o b b
 line_turned old new p s o b t st =
     let k = t s.lines s.inside st.knows in
     record {
-      stage = record (taken s p) { todo = asks_now s.inside s.lines p ++ s.todo };
+      stage = record (past_piece s p) { todo = asks_now s.inside s.lines p ++ s.todo };
       stands = record { knows = k.knows; files = k.files ∙ st.files; bytes = k.bytes ∙ st.bytes; exposed = k.exposed ∙ st.exposed; todo = k.todo ∙ ap (λ (ts : List Task). asks_now s.inside s.lines p ++ ts) st.todo };
       went = went_same _ _ o b (behind_piece s p);
     }
@@ -426,7 +426,7 @@ abbrev made : List Rule → List Notice → List Fault → Meaning
 made rules notices faults = record { rules = rules; notices = notices; faults = faults }
 
 -- what a layer that is finished gave, with the faults that were told
-pub finished : (layer : Layer) (faults kept : List Fault) (rules : List Rule) (notices : List Notice) → rules ≡ (coming layer []).rules → notices ≡ (coming layer []).notices → kept ≡ faults → made rules notices kept ≡ (told faults and coming layer [])
+pub finished : (layer : Layer) (faults kept : List Fault) (rules : List Rule) (notices : List Notice) → rules ≡ (coming layer []).rules → notices ≡ (coming layer []).notices → kept ≡ faults → made rules notices kept ≡ (only_faults faults and coming layer [])
 finished layer faults kept rules notices r n f =
     ap (λ (xs : List Rule). made xs notices kept) r
     ∙ (ap (λ (xs : List Notice). made (coming layer []).rules xs kept) n

@@ -8,7 +8,7 @@ use Rattle.lr_conf.specs.declared.stop.Include.{Include}
 use Rattle.lr_conf.specs.declared.stop.LayerStop.{LayerStop}
 use Rattle.lr_conf.specs.declared.stop.LayerStop.TheVariants as stop
 use Rattle.lr_conf.specs.Stops.{layer_faults, include_of}
-use Rattle.lr_conf.specs.Meaning.{Line, Spoiled, End, meaning, ◌and◌, told, asked, banned}
+use Rattle.lr_conf.specs.Meaning.{Line, Spoiled, End, meaning, ◌and◌, only_faults, asked, banned}
 use Rattle.lr_conf.specs.Fold.{coming, asking, banning, entered, file_of_layer}
 use Rattle.lr_host.specs.declared.entry.Entry.{Entry}
 use Rattle.lr_host.specs.declared.journal.Journal.{Journal}
@@ -22,7 +22,7 @@ use Rattle.lr_include.specs.Stages.{Stage, ask_of, lines_now, open_behind, asks_
 
 -- The layer took these lines, with these faults, and these files are entered.
 pub record Knows (layer : Layer) (faults : List Fault) (lines : List Line) (inside : List Path) : Type 0 where
-  pub means : (more : List Line) → (told faults and coming layer more) ≡ meaning false [] (lines ++ more)
+  pub means : (more : List Line) → (only_faults faults and coming layer more) ≡ meaning false [] (lines ++ more)
   pub asks : (more : List Line) → asked false (lines ++ more) ≡ asked false lines ++ asking layer more
   pub bans : (more : List Line) → banned false first_taboo (lines ++ more) ≡ banning layer more
   pub files : entered layer ≡ inside

@@ -76,8 +76,8 @@ asks_now [] lines p = []
 asks_now (file ∷ files) lines p = asks_in (last_or [] (file ∷ files)) lines p
 
 -- behind a piece of the file that is read now
-abbrev pub taken : Stage → Piece → Stage
-taken s p = record s { lines = s.lines ++ lines_now s.inside p; inside = open_behind s.inside p }
+abbrev pub past_piece : Stage → Piece → Stage
+past_piece s p = record s { lines = s.lines ++ lines_now s.inside p; inside = open_behind s.inside p }
 
 -- where something is asked for, what comes next waits
 abbrev pub before_asks : List Task → Stage → Stage → Stage
@@ -88,7 +88,7 @@ before_asks (t ∷ ts) here next = here
 abbrev pub settled_from : Stage → List Task → Stage
 settled_from s [] = record s { todo = [] }
 settled_from s (task.Line p ∷ todo) = before_asks (asks_now s.inside s.lines p)
-    (record (taken s p) { todo = asks_now s.inside s.lines p ++ todo }) (settled_from (taken s p) todo)
+    (record (past_piece s p) { todo = asks_now s.inside s.lines p ++ todo }) (settled_from (past_piece s p) todo)
 settled_from s (task.Ask a ∷ todo) = record s { todo = task.Ask a ∷ todo }
 settled_from s (task.Name a ∷ todo) = record s { todo = task.Name a ∷ todo }
 

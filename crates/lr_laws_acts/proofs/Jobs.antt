@@ -7,7 +7,7 @@ use Rattle.lr_rules.specs.declared.rule.Way.TheVariants as way
 use Rattle.lr_rules.specs.Names.{aside_path}
 use Rattle.lr_copy.specs.declared.job.Job.{Job}
 use Rattle.lr_plan.specs.declared.looks.LogLook.{LogLook}
-use Rattle.lr_plan.specs.Planned.{is_file, copy_job, from_path, job_by}
+use Rattle.lr_plan.specs.Planned.{is_seen_file, copy_job, from_path, job_by}
 
 -- a log is emptied only by that way
 pub cut_way : (rule : Rule) (look : LogLook) (target : Path) (job : Job) → job_by rule.way look target ≡ Some job → job.cut ≡ true → rule.way ≡ way.CopyTruncate
@@ -32,4 +32,4 @@ cut_way rule look target job is cut = go rule.way is
     go way.Rename is = absurd (cc)
     go way.Copy is = absurd (not_cut is)
     go way.CopyTruncate is = refl
-    go way.RenameCopy is = absurd (not_aside (is_file look.tmp) is)
+    go way.RenameCopy is = absurd (not_aside (is_seen_file look.tmp) is)

@@ -7,7 +7,7 @@ use Rattle.lr_host.specs.declared.thing.Kind.TheVariants as kind
 use Rattle.lr_host.specs.declared.thing.Seen.{Seen}
 use Rattle.lr_host.specs.declared.thing.Thing.{Thing}
 use Rattle.lr_host.specs.declared.thing.Thing.TheVariants as thing
-use Rattle.lr_host.specs.Fits.{IsFileAt, IsDirectoryAt, Sees}
+use Rattle.lr_host.specs.Fits.{IsFileAt, IsDirectoryAt, SeesThing}
 use Rattle.lr_host.specs.Lists.{IsIn}
 use Rattle.lr_host.specs.Quiet.{Quiet, here, wrote, looked}
 use Rattle.lr_host.specs.Safe.{IsPrefix, whole, shorter}
@@ -65,7 +65,7 @@ stood_or_came x p q r s on file = ⊎_elim
     (λ new. inr (new.0, ⊎_elim (λ same. absurd (nothing_no_file (names (world q) x) file.0 (same ∙ new.0) file.1)) (λ came. later x p q r came on) (same_or_came x p q s)))
     (quiet_more IsAny p q s x)
 
-seen_other : (w : World) (t : Thing) (seen : Seen) → Sees w t (Some seen) → seen.kind ≡ kind.Other → t ≡ thing.Other
+seen_other : (w : World) (t : Thing) (seen : Seen) → SeesThing w t (Some seen) → seen.kind ≡ kind.Other → t ≡ thing.Other
 seen_other w thing.Nothing seen s k = absurd (let none : Some seen ≡ None = s in cc)
 seen_other w (thing.File g) seen s k = absurd (let e = sym s.0 ∙ k in cc)
 seen_other w thing.Directory seen s k = absurd (let e = sym s ∙ k in cc)

@@ -11,7 +11,7 @@ use Rattle.lr_host.specs.declared.thing.Thing.{Thing}
 use Rattle.lr_host.specs.declared.thing.Thing.TheVariants as thing
 use Rattle.lr_host.specs.declared.entry.Entry.{Entry}
 use Rattle.lr_host.specs.declared.entry.Entry.TheVariants as entry
-use Rattle.lr_host.specs.Fits.{IsFileAt, Sees, IsNameIn}
+use Rattle.lr_host.specs.Fits.{IsFileAt, SeesThing, IsNameIn}
 use Rattle.lr_host.specs.Lists.{IsIn}
 use Rattle.lr_host.specs.Looks.{IsFile}
 use Rattle.lr_host.specs.Opening.{IsJournal}
@@ -40,10 +40,10 @@ use Rattle.lr_laws_looks.proofs.Sought.{WereSought, WasSought}
 use Rattle.lr_laws_looks.proofs.Words.{still_named}
 
 -- a file is seen as one
-pub file_seen : (w : World) (t : Thing) (g : ℕ) (o : Option Seen) → t ≡ thing.File g → Sees w t o → IsFile o
-file_seen w t g o is s = go o (subst (λ (u : Thing). Sees w u o) is s)
+pub file_seen : (w : World) (t : Thing) (g : ℕ) (o : Option Seen) → t ≡ thing.File g → SeesThing w t o → IsFile o
+file_seen w t g o is s = go o (subst (λ (u : Thing). SeesThing w u o) is s)
   where
-    go : (o : Option Seen) → Sees w (thing.File g) o → IsFile o
+    go : (o : Option Seen) → SeesThing w (thing.File g) o → IsFile o
     go None s = s
     go (Some seen) s = s.0
 
@@ -86,7 +86,7 @@ module _ (p q : Past) (es : List Entry) (m : Made p es q) (still : ChangeNothing
   thing_seen x o i named none =
       let t = then_ (entry.Look x o) i in
       still_named (names (world p) x) (names (world t.at) x) (quiet_more IsAny p t.at t.since x) named
-      (seen_none (world t.at) (names (world t.at) x) (subst (Sees (world t.at) (names (world t.at) x)) none t.fits))
+      (seen_none (world t.at) (names (world t.at) x) (subst (SeesThing (world t.at) (names (world t.at) x)) none t.fits))
 
   -- the look where a log waits
   pub true_aside : (log : Path) (tmp : Option Seen) → IsIn (entry.Look (aside_path log) tmp) (reverse es) → IsTrueAside log tmp p q

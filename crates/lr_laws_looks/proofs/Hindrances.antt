@@ -19,10 +19,10 @@ use Rattle.lr_host.specs.declared.thing.Seen.{Seen}
 use Rattle.lr_host.specs.Listing.{is_file_kind}
 use Rattle.lr_family.specs.declared.stand.Member.{Member}
 use Rattle.lr_family.specs.declared.stand.Stand.{Stand}
-use Rattle.lr_chain.specs.Hindrances.{is_stamp, fault_at, too_high, taken, stamp_hindrances, keeps_all, number_hindrances, name_hindrances, what_hinders}
+use Rattle.lr_chain.specs.Hindrances.{is_stamp, fault_at, too_high, taken_fault, stamp_hindrances, keeps_all, number_hindrances, name_hindrances, what_hinders}
 use Rattle.lr_chain.specs.Ready.{is_highest, highest_path}
 use Rattle.lr_plan.specs.declared.looks.LogLook.{LogLook}
-use Rattle.lr_plan.specs.Planned.{is_file, other_thing, or_else, takes_up, aside_by, aside_hinders, stand_for, hindrances, unfinished, due_faults}
+use Rattle.lr_plan.specs.Planned.{is_seen_file, other_thing, or_else, takes_up, aside_by, aside_hinders, stand_for, hindrances, unfinished, due_faults}
 
 -- the directory is there where nothing hinders
 pub there_of : (n : Naming) (c : Count) (clock : Clock) (stand : Stand) → what_hinders n c clock stand ≡ [] → stand.there ≡ true
@@ -52,9 +52,9 @@ module _ (P : List Fault → Type 0) (none : P []) (high : (path : Path) → P (
   by_stamps : (format : Format) (seconds : ℤ) (ms : List Member) → P (stamp_hindrances format seconds ms)
   by_stamps format seconds ms = go format.serial
     where
-      go : (b : Bool) → P (cond b (fault_at too_high seconds 4294967295 ms) (fault_at taken seconds 0 ms))
+      go : (b : Bool) → P (cond b (fault_at too_high seconds 4294967295 ms) (fault_at taken_fault seconds 0 ms))
       go true = at_stamp too_high high seconds 4294967295 ms
-      go false = at_stamp taken had seconds 0 ms
+      go false = at_stamp taken_fault had seconds 0 ms
 
   by_names : (d : Option Format) (n : Naming) (c : Count) (clock : Clock) (ms : List Member) → P (name_hindrances d n c clock ms)
   by_names None n c clock ms = by_numbers n c ms
@@ -115,7 +115,7 @@ free_of_members clock rule look free = (or_else_none (what_hinders look.family.n
 pub nothing_aside : (clock : Clock) (rule : Rule) (look : LogLook) (path : Path) → hindrances clock rule look ≡ [] → aside_by rule.way look.path look.tmp ≡ Some path → (look.tmp ≡ None) × (path ≡ aside_path look.path)
 nothing_aside clock rule look path free is = by rule.way is (or_else_none (what_hinders look.family.naming rule.count clock (stand_for rule look)) (aside_hinders rule.way look.path look.tmp) free).1
   where
-    by_file : (tmp : Option Seen) → (if is_file tmp then None else Some (aside_path look.path)) ≡ Some path → other_thing (aside_path look.path) tmp ≡ [] → (tmp ≡ None) × (path ≡ aside_path look.path)
+    by_file : (tmp : Option Seen) → (if is_seen_file tmp then None else Some (aside_path look.path)) ≡ Some path → other_thing (aside_path look.path) tmp ≡ [] → (tmp ≡ None) × (path ≡ aside_path look.path)
     by_file None e h = (refl, (let same : Some (aside_path look.path) ≡ Some path = e in cc))
     by_file (Some seen) e h = go (is_file_kind seen.kind) e h
       where
@@ -138,7 +138,7 @@ file_aside rule look up = by rule.way refl up
     file_kind kind.Dir e = absurd (cc)
     file_kind kind.Other e = absurd (cc)
 
-    by_file : (tmp : Option Seen) → look.tmp ≡ tmp → is_file tmp ≡ true → (seen : Seen) × (look.tmp ≡ Some seen) × (seen.kind ≡ kind.File)
+    by_file : (tmp : Option Seen) → look.tmp ≡ tmp → is_seen_file tmp ≡ true → (seen : Seen) × (look.tmp ≡ Some seen) × (seen.kind ≡ kind.File)
     by_file None same e = absurd (cc)
     by_file (Some seen) same e = (seen, same, file_kind seen.kind e)
 

@@ -27,8 +27,8 @@ use Rattle.lr_host.specs.Lists.{IsIn}
 use Rattle.lr_plan.specs.declared.looks.LogLook.{LogLook}
 use Rattle.lr_plan.specs.declared.looks.SetLooks.{SetLooks}
 use Rattle.lr_plan.specs.declared.plan.LogPlan.{LogPlan}
-use Rattle.lr_scripts.specs.Commands.{spaced, script, where_so, mail, with_programs}
-use Rattle.lr_plan.specs.Planned.{dir_of, stand_for, standing, is_file, first_path, aside_by, make_for, copy_job, from_path, job_by, ready_for, with_removals, dressed, hindrances, plan_with, log_plan, none_hinders, plans_of, where_due, log_plans, all_plans}
+use Rattle.lr_scripts.specs.Commands.{spaced, script_command, where_so, mail, with_programs}
+use Rattle.lr_plan.specs.Planned.{dir_of, stand_for, standing, is_seen_file, first_path, aside_by, make_for, copy_job, from_path, job_by, ready_for, with_removals, dressed, hindrances, plan_with, log_plan, none_hinders, plans_of, where_due, log_plans, all_plans}
 use Rattle.lr_looks.specs.Shown.{ShowsLooks}
 use Rattle.lr_chain.specs.DatedRotation.{Ranked}
 use Rattle.lr_chain.specs.DatedReady.{removal_of}
@@ -41,7 +41,7 @@ use Rattle.lr_laws_looks.proofs.Coming.{AskSo, asks_so}
 
 -- ---- programs
 
-reads_script : (text : Option (List ℕ)) (args : List (List ℕ)) → ReadsNothing (script text args)
+reads_script : (text : Option (List ℕ)) (args : List (List ℕ)) → ReadsNothing (script_command text args)
 reads_script None args = tt
 reads_script (Some text) args = refl
 
@@ -60,8 +60,8 @@ read_themselves mailer rule log (r ∷ rs) = (reads_script rule.scripts.preremov
 
 asks : (mailer : Path) (rule : Rule) (look : LogLook) (ready : Ready) → ReadsOwn (plan_with mailer rule look ready)
 asks mailer rule look ready = record {
-  pre = reads_where (not rule.shared) (script rule.scripts.pre (look.path ∷ [])) (reads_script rule.scripts.pre (look.path ∷ []));
-  post = reads_where (not rule.shared) (script rule.scripts.post (look.path ∷ ready.target ∷ [])) (reads_script rule.scripts.post (look.path ∷ ready.target ∷ []));
+  pre = reads_where (not rule.shared) (script_command rule.scripts.pre (look.path ∷ [])) (reads_script rule.scripts.pre (look.path ∷ []));
+  post = reads_where (not rule.shared) (script_command rule.scripts.post (look.path ∷ ready.target ∷ [])) (reads_script rule.scripts.post (look.path ∷ ready.target ∷ []));
   first_mail = reads_mail rule.mailfirst mailer rule.mail look.path ready.target;
   leftovers = read_themselves mailer rule look.path ready.leftovers;
   retire = read_themselves mailer rule look.path ready.retire;
@@ -91,8 +91,8 @@ read_own clock mailer (rule ∷ rules) [] decide = tt
 read_own clock mailer (rule ∷ rules) (set ∷ sets) decide = (
   record {
     first = reads_script rule.scripts.first (spaced rule.words ∷ []);
-    pre = reads_where rule.shared (script rule.scripts.pre (spaced rule.words ∷ [])) (reads_script rule.scripts.pre (spaced rule.words ∷ []));
-    post = reads_where rule.shared (script rule.scripts.post (spaced rule.words ∷ [])) (reads_script rule.scripts.post (spaced rule.words ∷ []));
+    pre = reads_where rule.shared (script_command rule.scripts.pre (spaced rule.words ∷ [])) (reads_script rule.scripts.pre (spaced rule.words ∷ []));
+    post = reads_where rule.shared (script_command rule.scripts.post (spaced rule.words ∷ [])) (reads_script rule.scripts.post (spaced rule.words ∷ []));
     last = reads_script rule.scripts.last (spaced rule.words ∷ []);
     logs = ask_logs clock mailer rule (decide rule) set.logs;
   },
@@ -127,7 +127,7 @@ by_copy way.Rename look target job is = absurd (cc)
 by_copy way.Copy look target job is = record { from = look.path; cut = false; is = some_same (copy_job look target false) job is; from_is = refl }
 by_copy way.CopyTruncate look target job is = record { from = look.path; cut = true; is = some_same (copy_job look target true) job is; from_is = refl }
 by_copy way.RenameCopy look target job is =
-    let g = go (is_file look.tmp) is in
+    let g = go (is_seen_file look.tmp) is in
     record { from = aside_path look.path; cut = false; is = g.0; from_is = g.1 }
   where
     go : (b : Bool) → (if b then None else Some (from_path (aside_path look.path) (copy_job look target false))) ≡ Some job
@@ -160,7 +160,7 @@ module _ (clock : Clock) (rule : Rule) (look : LogLook) where
   job_is_by : (w : Way) (j : Option Job) → rule.way ≡ w → job_by w (standing rule look) (ready_for clock rule look).target ≡ j → job_by rule.way (standing rule look) (ready_for clock rule look).target ≡ j
   job_is_by w j is e = ap (λ (w : Way). job_by w (standing rule look) (ready_for clock rule look).target) is ∙ e
 
-  aside_or_taken : (b : Bool) → is_file look.tmp ≡ b → rule.way ≡ way.RenameCopy → IsTargetAside (target_of clock rule look) ⊎ IsTakenUp (target_of clock rule look)
+  aside_or_taken : (b : Bool) → is_seen_file look.tmp ≡ b → rule.way ≡ way.RenameCopy → IsTargetAside (target_of clock rule look) ⊎ IsTakenUp (target_of clock rule look)
   aside_or_taken false none is = inl (record {
     aside_is = ap (λ (w : Way). aside_by w look.path look.tmp) is ∙ ap (λ (b : Bool). if b then None else Some (aside_path look.path)) none;
     first_is = begins_at clock rule look ∙ (ap (λ (w : Way). first_path w look.path look.tmp) is ∙ ap (λ (b : Bool). if b then aside_path look.path else look.path) none);
@@ -178,7 +178,7 @@ module _ (clock : Clock) (rule : Rule) (look : LogLook) where
   goes_by way.Rename is asked = (stays_by way.Rename is refl refl, job_is_by way.Rename None is refl)
   goes_by way.Copy is asked = (stays_by way.Copy is refl refl, (copy_job (standing rule look) goal false, job_is_by way.Copy (Some (copy_job (standing rule look) goal false)) is refl))
   goes_by way.CopyTruncate is asked = (stays_by way.CopyTruncate is refl refl, (copy_job (standing rule look) goal true, job_is_by way.CopyTruncate (Some (copy_job (standing rule look) goal true)) is refl))
-  goes_by way.RenameCopy is asked = (asked, aside_or_taken (is_file look.tmp) refl is)
+  goes_by way.RenameCopy is asked = (asked, aside_or_taken (is_seen_file look.tmp) refl is)
 
   -- it goes so, where its naming is that of the rule
   pub goes_by_rule : look.family.naming.aside ≡ is_aside rule.way → GoesBy rule.way (target_of clock rule look)

@@ -33,7 +33,7 @@ use Rattle.lr_chain.specs.Hindrances.{what_hinders}
 use Rattle.lr_copy.specs.declared.job.Job.{Job}
 use Rattle.lr_plan.specs.declared.looks.LogLook.{LogLook}
 use Rattle.lr_plan.specs.declared.looks.SetLooks.{SetLooks}
-use Rattle.lr_plan.specs.Planned.{is_made, mode_of, dir_is_log, makes_dir, empty_stand, stand_for, with_stand, standing, ready_for, job_by, hindrances, takes_up, aside_by}
+use Rattle.lr_plan.specs.Planned.{is_made, rule_mode, dir_is_log, makes_dir, empty_stand, stand_for, with_stand, standing, ready_for, job_by, hindrances, takes_up, aside_by}
 use Rattle.lr_looks.specs.Asked.{CanAsk}
 use Rattle.lr_looks.specs.Families.{LookedLog}
 use Rattle.lr_looks.specs.Choices.{kept_of}
@@ -194,7 +194,7 @@ module _ (rule : Rule) (look : LogLook) (ts : List Entry) (shown : WasShown look
 
   -- the directory was seen, or it was missing and is made
   dir_seen : (target : Path) → or_none is_format look.family.naming.dated ≡ true → (made : Bool) → makes_dir rule look ≡ made → (if made then empty_stand else look.stand).there ≡ true
-      → IsDirSeenBy (if made then Some (look.family.naming.dir, mode_of rule.createolddir) else None) look.path look.family.naming (if made then empty_stand else look.stand).members (job_by rule.way (with_stand (if made then empty_stand else look.stand) look) target) ts
+      → IsDirSeenBy (if made then Some (look.family.naming.dir, rule_mode rule.createolddir) else None) look.path look.family.naming (if made then empty_stand else look.stand).members (job_by rule.way (with_stand (if made then empty_stand else look.stand) look) target) ts
   dir_seen target format false is there = (shown.0 there).0
   dir_seen target format true is there =
       let m = to_make rule look is in

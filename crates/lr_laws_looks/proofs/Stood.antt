@@ -13,7 +13,7 @@ use Rattle.lr_host.specs.declared.thing.Kind.TheVariants as kind
 use Rattle.lr_host.specs.declared.thing.Seen.{Seen}
 use Rattle.lr_host.specs.declared.thing.Thing.{Thing}
 use Rattle.lr_host.specs.declared.thing.Thing.TheVariants as thing
-use Rattle.lr_host.specs.Fits.{Fits, IsFileAt, IsDirectoryAt, Sees, IsPart}
+use Rattle.lr_host.specs.Fits.{Fits, IsFileAt, IsDirectoryAt, SeesThing, IsPart}
 use Rattle.lr_host.specs.Lists.{IsIn}
 use Rattle.lr_host.specs.Looks.{is_dir, is_dir_kind, PathSight, look_of}
 use Rattle.lr_host.specs.Opening.{IsJournal}
@@ -66,31 +66,31 @@ its_list v h = inr (subst (λ c. IsIn (entry.List v.dir v.listed) (cond c (entry
 its_names : (v : Visit) → is_dir v.seen ≡ true → visit_names v ≡ v.listed
 its_names v h = ap (λ c. cond c v.listed []) h
 
-sees_dir : (w : World) (t : Thing) (look : Option Seen) → t ≡ thing.Directory → Sees w t look → is_dir look ≡ true
-sees_dir w t look e s = go look (subst (λ u. Sees w u look) e s)
+sees_dir : (w : World) (t : Thing) (look : Option Seen) → t ≡ thing.Directory → SeesThing w t look → is_dir look ≡ true
+sees_dir w t look e s = go look (subst (λ u. SeesThing w u look) e s)
   where
-    go : (o : Option Seen) → Sees w thing.Directory o → is_dir o ≡ true
+    go : (o : Option Seen) → SeesThing w thing.Directory o → is_dir o ≡ true
     go None h = absurd h
     go (Some z) h = ap is_dir_kind h
 
-pub sees_file : (w : World) (t : Thing) (look : Option Seen) (g : ℕ) → t ≡ thing.File g → Sees w t look → (z : Seen) × (look ≡ Some z) × (z.kind ≡ kind.File)
-sees_file w t look g e s = go look (subst (λ u. Sees w u look) e s)
+pub sees_file : (w : World) (t : Thing) (look : Option Seen) (g : ℕ) → t ≡ thing.File g → SeesThing w t look → (z : Seen) × (look ≡ Some z) × (z.kind ≡ kind.File)
+sees_file w t look g e s = go look (subst (λ u. SeesThing w u look) e s)
   where
-    go : (o : Option Seen) → Sees w (thing.File g) o → (z : Seen) × (o ≡ Some z) × (z.kind ≡ kind.File)
+    go : (o : Option Seen) → SeesThing w (thing.File g) o → (z : Seen) × (o ≡ Some z) × (z.kind ≡ kind.File)
     go None h = absurd h
     go (Some z) h = (z, refl, h.0)
 
-sees_some : (w : World) (t : Thing) (look : Option Seen) → t ≢ thing.Nothing → Sees w t look → (z : Seen) × (look ≡ Some z)
+sees_some : (w : World) (t : Thing) (look : Option Seen) → t ≢ thing.Nothing → SeesThing w t look → (z : Seen) × (look ≡ Some z)
 sees_some w thing.Nothing look ne s = absurd (ne refl)
 sees_some w (thing.File g) look ne s = let r = sees_file w (thing.File g) look g refl s in (r.0, r.1)
 sees_some w thing.Directory look ne s = go look s
   where
-    go : (o : Option Seen) → Sees w thing.Directory o → (z : Seen) × (o ≡ Some z)
+    go : (o : Option Seen) → SeesThing w thing.Directory o → (z : Seen) × (o ≡ Some z)
     go None h = absurd h
     go (Some z) h = (z, refl)
 sees_some w thing.Other look ne s = go look s
   where
-    go : (o : Option Seen) → Sees w thing.Other o → (z : Seen) × (o ≡ Some z)
+    go : (o : Option Seen) → SeesThing w thing.Other o → (z : Seen) × (o ≡ Some z)
     go None h = absurd h
     go (Some z) h = (z, refl)
 

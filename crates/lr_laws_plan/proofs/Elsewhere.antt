@@ -26,7 +26,7 @@ use Rattle.lr_looks.specs.Found.{FoundLog}
 use Rattle.lr_looks.specs.Shown.{ShowsLooks}
 use Rattle.lr_plan.specs.declared.looks.LogLook.{LogLook}
 use Rattle.lr_plan.specs.declared.looks.SetLooks.{SetLooks}
-use Rattle.lr_plan.specs.Planned.{makes_dir, mode_of}
+use Rattle.lr_plan.specs.Planned.{makes_dir, rule_mode}
 use Rattle.lr_laws_rotations.specs.AllTurns.{IsStatePath, IsItsDir, IsOfState, IsOfSome}
 use Rattle.lr_laws_rotations.specs.Target.{Target}
 use Rattle.lr_laws_rotations.specs.Apart.{TargetsHaveNames}
@@ -99,8 +99,8 @@ its_dir rules sets clock decide t x i h = subst (λ (u : Target). IsItsDir u x �
     c : Comes clock rules sets t
     c = comes_from clock decide rules sets t i
 
-    go : (makes : Bool) (mode : Option ℕ) → cond {A = Option (Path × Option ℕ)} makes (Some (c.look.family.naming.dir, mode_of c.rule.createolddir)) None ≡ Some (x, mode) → x ≡ c.look.family.naming.dir
-    go true mode e = let same : (c.look.family.naming.dir, mode_of c.rule.createolddir) ≡ (x, mode) = cc in sym (ap (λ (d : Path × Option ℕ). d.0) same)
+    go : (makes : Bool) (mode : Option ℕ) → cond {A = Option (Path × Option ℕ)} makes (Some (c.look.family.naming.dir, rule_mode c.rule.createolddir)) None ≡ Some (x, mode) → x ≡ c.look.family.naming.dir
+    go true mode e = let same : (c.look.family.naming.dir, rule_mode c.rule.createolddir) ≡ (x, mode) = cc in sym (ap (λ (d : Path × Option ℕ). d.0) same)
     go false mode e = let clash : None ≡ Some (x, mode) = e in cc
 
 pub kept_elsewhere : (state : Path) (rules : List Rule) (sets : List SetLooks) (faults : List Fault) (ts : List Entry) (clock : Clock) (decide : Rule → LogLook → Due) (f : FoundLog) (x : Path) → (s : ShowsLooks (reserved_by state) rules sets faults ts) → IsIn f s.kept

@@ -7,7 +7,7 @@ use Rattle.lr_host.specs.declared.thing.Kind.TheVariants as kind
 use Rattle.lr_host.specs.declared.thing.Seen.{Seen}
 use Rattle.lr_host.specs.declared.thing.Thing.{Thing}
 use Rattle.lr_host.specs.declared.thing.Thing.TheVariants as thing
-use Rattle.lr_host.specs.Fits.{Sees}
+use Rattle.lr_host.specs.Fits.{SeesThing}
 use Rattle.lr_host.specs.Lists.{IsIn}
 use Rattle.lr_host.specs.Told.{Each, IsTools, Made, at_first, by_writer, by_tool}
 use Rattle.lr_host.specs.World.{Past, ◌▸◌, World, world, names}
@@ -68,9 +68,9 @@ other_front x xs ys s = record { seen = s.seen; other = s.other; look = in_front
 pub other_back : (x : Path) (xs ys : List Entry) → SawOther x ys → SawOther x (xs ++ ys)
 other_back x xs ys s = record { seen = s.seen; other = s.other; look = in_back (Look x (Some s.seen)) xs ys s.look }
 
-sees_dir : (w : World) (t : Thing) (seen : Seen) → IsNothingOrDir t → Sees w t (Some seen) → seen.kind ≡ kind.Dir
-sees_dir w t seen (inl none) s = let clash : Some seen ≡ None = subst (λ (u : Thing). Sees w u (Some seen)) none s in absurd (cc)
-sees_dir w t seen (inr dir) s = subst (λ (u : Thing). Sees w u (Some seen)) dir s
+sees_dir : (w : World) (t : Thing) (seen : Seen) → IsNothingOrDir t → SeesThing w t (Some seen) → seen.kind ≡ kind.Dir
+sees_dir w t seen (inl none) s = let clash : Some seen ≡ None = subst (λ (u : Thing). SeesThing w u (Some seen)) none s in absurd (cc)
+sees_dir w t seen (inr dir) s = subst (λ (u : Thing). SeesThing w u (Some seen)) dir s
 
 -- no look sees such a thing
 pub never_other : (x : Path) (p q : Past) (es : List Entry) → Made p es q → Spared x p q → Each (GivesNoFile x) es → names (world p) x ≡ thing.Nothing → SawOther x es → ⊥

@@ -17,7 +17,7 @@ use Rattle.lr_plan.specs.declared.plan.SetPlan.{SetPlan}
 use Rattle.lr_plan.specs.declared.step.Step.{Step}
 use Rattle.lr_plan.specs.declared.step.Step.TheVariants.{Runs, Removes, MakesDir, Renames, Creates, Takes, Copies, SyncsFile, SyncsDir, Truncates, Rotated}
 use Rattle.lr_plan.specs.Done.{SetsDone}
-use Rattle.lr_plan.specs.Planned.{mode_of, makes_dir as is_made, hindrances, log_plan, none_hinders, plans_of, where_due, log_plans, all_plans}
+use Rattle.lr_plan.specs.Planned.{rule_mode, makes_dir as is_made, hindrances, log_plan, none_hinders, plans_of, where_due, log_plans, all_plans}
 use Rattle.lr_plan.specs.Steps.{steps_of_set}
 use Rattle.lr_acts.specs.Making.{all_of_sets}
 use Rattle.lr_writing.specs.Synced.{made_of, to_make_of, all_to_make_of}
@@ -47,7 +47,7 @@ module _ (state : Path) (clock : Clock) (mailer : Path) (decide : Rule → LogLo
   look_aside : (rule : Rule) (look : LogLook) → IsAside state look.family.naming.dir → (dir : Path) → IsIn dir (made_of (log_plan clock mailer rule look).ready.dir) → IsAside state dir
   look_aside rule look aside dir i = go (is_made rule look) i
     where
-      go : (made : Bool) → IsIn dir (made_of (if made then Some (look.family.naming.dir, mode_of rule.createolddir) else None)) → IsAside state dir
+      go : (made : Bool) → IsIn dir (made_of (if made then Some (look.family.naming.dir, rule_mode rule.createolddir) else None)) → IsAside state dir
       go true (inl e) = subst (IsAside state) e aside
       go true (inr none) = absurd none
       go false none = absurd none

@@ -6,7 +6,7 @@ use Rattle.lr_rules.specs.declared.path.Path.{Path}
 use Rattle.lr_rules.specs.declared.rules.Rules.{Rules}
 use Rattle.lr_host.specs.declared.entry.Entry.{Entry}
 use Rattle.lr_host.specs.declared.journal.Journal.{Journal}
-use Rattle.lr_host.specs.Counted.{calls_in, scripts_in}
+use Rattle.lr_host.specs.Counted.{calls_in, bad_scripts_in}
 use Rattle.lr_host.specs.Opening.{IsJournal}
 use Rattle.lr_host.specs.Quiet.{AreQuiet}
 use Rattle.lr_host.specs.Told.{Made}
@@ -32,7 +32,7 @@ use Rattle.lr_laws_plan.proofs.Smooth.{acts_fail_nothing}
 
 pub run_fails_nothing : (state : Path) (asked : Asked) (clock : Clock) (rules : Rules) (w : Work) (j k : Journal) (es reads : List Entry) → Made (past j) es (past k) → IsJournal (past j) → reverse es ≡ reads ++ run_entries false state clock rules w → AreQuiet reads
     → ShowsWork false state rules.sets clock asked w → CarriesOut state clock w → TellsNamesOf state clock w (Some j) (Some k) → IsSmooth state (jobs_of w.plan.sets) (dirs_in w.plan) (past j) (past k)
-    → calls_in (act_faults w.acts) ≡ 0 → scripts_in (act_faults w.acts) ≡ 0 → act_faults w.acts ≡ []
+    → calls_in (act_faults w.acts) ≡ 0 → bad_scripts_in (act_faults w.acts) ≡ 0 → act_faults w.acts ≡ []
 run_fails_nothing state asked clock rules w j k es reads made journal joined quiet shows out names smooth no_call no_end =
     acts_met_nothing state rules.sets clock asked w shows.plan out (subst (λ (p : Plan). NothingFailed state (dirs_in p) (act_faults w.acts)) (sym shows.plan.is)
     (acts_fail_nothing state asked clock rules (faults_of w) j k es reads (run_entries false state clock rules w) made journal joined quiet (inside state asked clock rules w shows out)

@@ -20,8 +20,8 @@ use Rattle.lr_host.specs.declared.journal.Journal.{Journal}
 use Rattle.lr_host.specs.declared.thing.Seen.{Seen}
 use Rattle.lr_host.specs.declared.thing.Thing.{Thing}
 use Rattle.lr_host.specs.declared.thing.Thing.TheVariants as thing
-use Rattle.lr_host.specs.Counted.{calls_in, scripts_in, RoseBy}
-use Rattle.lr_host.specs.Fits.{IsFileAt, Sees}
+use Rattle.lr_host.specs.Counted.{calls_in, bad_scripts_in, RoseBy}
+use Rattle.lr_host.specs.Fits.{IsFileAt, SeesThing}
 use Rattle.lr_host.specs.Lists.{IsIn}
 use Rattle.lr_host.specs.Looks.{IsDir}
 use Rattle.lr_host.specs.Opening.{IsJournal}
@@ -231,8 +231,8 @@ module _ (state : Path) (asked : Asked) (clock : Clock) (rules : Rules) (own : L
   planned t one job is = job_in_sets plan.sets job (job_in_logs targets (flat_map (λ (set : SetPlan). set.logs) plan.sets) ready t one job is)
 
   -- so a look at it saw what stood there at first
-  seen_at_first : (x : Path) (o : Option Seen) → Spared x p q → IsIn (entry.Look x o) seen → (w : World) × Sees w (names (world p) x) o
-  seen_at_first x o spared i = (world t.at, subst (λ (there : Thing). Sees (world t.at) there o) (quiet_same (λ y. y ≢ x) p t.at x t.since (λ no. no refl)) t.fits)
+  seen_at_first : (x : Path) (o : Option Seen) → Spared x p q → IsIn (entry.Look x o) seen → (w : World) × SeesThing w (names (world p) x) o
+  seen_at_first x o spared i = (world t.at, subst (λ (there : Thing). SeesThing (world t.at) there o) (quiet_same (λ y. y ≢ x) p t.at x t.since (λ no. no refl)) t.fits)
     where
       t : Look (λ y. y ≢ x) p at.looked (entry.Look x o)
       t = moment (λ y. y ≢ x) p at.looked (entry.Look x o) (reverse seen ++ (start ∷ reverse front))
@@ -438,7 +438,7 @@ module _ (state : Path) (asked : Asked) (clock : Clock) (rules : Rules) (own : L
 
   -- ---- nothing failed
 
-  pub acts_fail_nothing : WereTaken state plan w.acted.of_acts j k → calls_in w.acted.of_acts ≡ 0 → scripts_in w.acted.of_acts ≡ 0 → NothingFailed state (dirs_in plan) w.acted.of_acts
+  pub acts_fail_nothing : WereTaken state plan w.acted.of_acts j k → calls_in w.acted.of_acts ≡ 0 → bad_scripts_in w.acted.of_acts ≡ 0 → NothingFailed state (dirs_in plan) w.acted.of_acts
   acts_fail_nothing taken no_call no_end = record {
     met = record { no_call = no_call; no_end = no_end; no_copy = each_in (λ f. IsOfCopy f → ⊥) w.acted.of_acts no_copy; no_other = λ dir making told. by_acts dir making told };
     not_taken = acts_take_none taken (state_part state);

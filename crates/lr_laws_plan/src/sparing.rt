@@ -5,7 +5,7 @@ ghost use Rattle.lr_rules.specs.declared.path.Path.{Path};
 ghost use Rattle.lr_rules.specs.declared.rules.Rules.{Rules};
 ghost use Rattle.lr_host.specs.declared.entry.Entry.{Entry};
 ghost use Rattle.lr_host.specs.declared.journal.Journal.{Journal};
-ghost use Rattle.lr_host.specs.Counted.{calls_in, scripts_in};
+ghost use Rattle.lr_host.specs.Counted.{calls_in, bad_scripts_in};
 ghost use Rattle.lr_host.specs.Opening.{IsJournal};
 ghost use Rattle.lr_host.specs.Quiet.{AreQuiet};
 ghost use Rattle.lr_host.specs.Told.{Made};
@@ -27,5 +27,5 @@ pub fn smooth_run_fails_nothing()
         → AreQuiet reads
         → ShowsWork false state rules.sets clock asked w → CarriesOut state clock w → TellsNamesOf state clock w (Some j) (Some k)
         → IsSmooth state (jobs_of w.plan.sets) (dirs_in w.plan) (past j) (past k)
-        → calls_in (act_faults w.acts) ≡ 0 → scripts_in (act_faults w.acts) ≡ 0 → act_faults w.acts ≡ [] }
+        → calls_in (act_faults w.acts) ≡ 0 → bad_scripts_in (act_faults w.acts) ≡ 0 → act_faults w.acts ≡ [] }
 {}

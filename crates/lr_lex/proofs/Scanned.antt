@@ -4,7 +4,7 @@ use Rattle.lr_lex.specs.declared.word.Word.{Word}
 use Rattle.lr_lex.specs.declared.sign.Sign.{Sign}
 use Rattle.lr_lex.specs.declared.sign.Sign.TheVariants.{Blank, Mark, Plain, Quoted}
 use Rattle.lr_lex.specs.declared.scan.Scan.{Scan}
-use Rattle.lr_lex.specs.Words.{words, onto, joined, one, goes_on, is_gap, sign_text}
+use Rattle.lr_lex.specs.Words.{words, onto, joined_words, one, goes_on, is_gap, sign_text}
 use Rattle.lr_lex.specs.Scanning.{ahead, to_come, draft, draft_bytes, with_draft, extended, behind_sign, Extends}
 
 -- ---- parts of a state: words, whether a word is being read, and the word
@@ -23,16 +23,16 @@ plain-one : (at : ℕ) (s : Sign) (ss : List Sign) → is_gap s ≡ false → wo
 plain-one at s ss gap =
     ap (λ g. cond g (words (at + 1) ss) (cond (goes_on ss) (onto (one at s) (words (at + 1) ss)) (one at s ∷ words (at + 1) ss))) gap
 
-onto-onto : (w v : Word) (us : List Word) → onto w (onto v us) ≡ onto (joined w v) us
+onto-onto : (w v : Word) (us : List Word) → onto w (onto v us) ≡ onto (joined_words w v) us
 onto-onto w v [] = refl
 onto-onto w v (u ∷ us) =
     ap (λ t. record { text = t; at = w.at; len = w.len + (v.len + u.len) } ∷ us) (sym (append_assoc w.text v.text u.text))
     ∙ ap (λ n. record { text = (w.text ++ v.text) ++ u.text; at = w.at; len = n } ∷ us) (sym (add_assoc w.len v.len u.len))
 
-onto-ahead : (w v : Word) (at : ℕ) (ss : List Sign) → onto w (ahead true v at ss) ≡ ahead true (joined w v) at ss
+onto-ahead : (w v : Word) (at : ℕ) (ss : List Sign) → onto w (ahead true v at ss) ≡ ahead true (joined_words w v) at ss
 onto-ahead w v at ss = by_test (goes_on ss)
   where
-    by_test : (b : Bool) → onto w (cond b (onto v (words at ss)) (v ∷ words at ss)) ≡ cond b (onto (joined w v) (words at ss)) (joined w v ∷ words at ss)
+    by_test : (b : Bool) → onto w (cond b (onto v (words at ss)) (v ∷ words at ss)) ≡ cond b (onto (joined_words w v) (words at ss)) (joined_words w v ∷ words at ss)
     by_test true = onto-onto w v (words at ss)
     by_test false = refl
 

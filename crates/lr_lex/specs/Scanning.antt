@@ -6,7 +6,7 @@ use Rattle.lr_lex.specs.declared.word.Word.{Word}
 use Rattle.lr_lex.specs.declared.sign.Sign.{Sign}
 use Rattle.lr_lex.specs.declared.sign.Sign.TheVariants.{Blank, Mark, Plain, Quoted}
 use Rattle.lr_lex.specs.declared.scan.Scan.{Scan}
-use Rattle.lr_lex.specs.Words.{words, goes_on, onto, joined, one, sign_text, is_gap}
+use Rattle.lr_lex.specs.Words.{words, goes_on, onto, joined_words, one, sign_text, is_gap}
 use Rattle.lr_lex.specs.Lines.{NumberedLine, lines, line_of, after_line}
 use Rattle.lr_lex.specs.Items.{is_text, body, ended, behind_script, script_text}
 
@@ -50,7 +50,7 @@ pub record WordEnds (old : Scan) (new : Scan) : Type 0 where
 
 -- the sign is part of the word now
 abbrev pub extended : Bool → Word → Word → Word
-extended true w v = joined w v
+extended true w v = joined_words w v
 extended false w v = v
 
 pub record Extends (old : Scan) (new : Scan) (at : ℕ) (s : Sign) : Type 0 where

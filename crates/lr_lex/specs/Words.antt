@@ -47,13 +47,13 @@ goes_on (s ∷ ss) = is_ink s
 abbrev pub one : ℕ → Sign → Word
 one at s = record { text = sign_text s; at = at; len = 1 }
 
-abbrev pub joined : Word → Word → Word
-joined w v = record { text = w.text ++ v.text; at = w.at; len = w.len + v.len }
+abbrev pub joined_words : Word → Word → Word
+joined_words w v = record { text = w.text ++ v.text; at = w.at; len = w.len + v.len }
 
 -- w and the first of the words are one
 abbrev pub onto : Word → List Word → List Word
 onto w [] = w ∷ []
-onto w (v ∷ vs) = joined w v ∷ vs
+onto w (v ∷ vs) = joined_words w v ∷ vs
 
 -- the words of signs, of which the first stands at this place
 abbrev pub words : ℕ → List Sign → List Word

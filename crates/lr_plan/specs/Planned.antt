@@ -30,7 +30,7 @@ use Rattle.lr_family.specs.declared.stand.Stand.{Stand}
 use Rattle.lr_family.specs.Parts.{part_of}
 use Rattle.lr_family.specs.Places.{AreNamed}
 use Rattle.lr_family.specs.Stands.{AreNewestFirst}
-use Rattle.lr_scripts.specs.Commands.{spaced, script, where_so, mail, with_programs}
+use Rattle.lr_scripts.specs.Commands.{spaced, script_command, where_so, mail, with_programs}
 use Rattle.lr_chain.specs.declared.ready.Ready.{Ready}
 use Rattle.lr_chain.specs.Hindrances.{what_hinders}
 use Rattle.lr_chain.specs.Prepared.{ready_of}
@@ -57,9 +57,9 @@ is_made make.No = false
 is_made (make.Yes mode) = true
 
 -- with this mode, where the rule gives one
-abbrev pub mode_of : Make → Option ℕ
-mode_of make.No = None
-mode_of (make.Yes mode) = mode
+abbrev pub rule_mode : Make → Option ℕ
+rule_mode make.No = None
+rule_mode (make.Yes mode) = mode
 
 -- the family's directory has the log's path, or that where the log waits that is set aside
 abbrev pub dir_is_log : Naming → Path → Bool
@@ -73,7 +73,7 @@ makes_dir rule look = is_made rule.createolddir && (not look.stand.there &&
 
 -- the directory that the rotation makes, if any, and the mode that the rule gives it
 abbrev pub dir_of : Rule → LogLook → Option (Path × Option ℕ)
-dir_of rule look = if makes_dir rule look then Some (look.family.naming.dir, mode_of rule.createolddir) else None
+dir_of rule look = if makes_dir rule look then Some (look.family.naming.dir, rule_mode rule.createolddir) else None
 
 -- what stands of a family whose directory was just made: no member, and no part file
 abbrev pub empty_stand : Stand
@@ -94,9 +94,9 @@ standing rule look = with_stand (stand_for rule look) look
 -- ---- a log that is set aside, or was
 
 -- a file was seen
-abbrev pub is_file : Option Seen → Bool
-is_file None = false
-is_file (Some seen) = is_file_kind seen.kind
+abbrev pub is_seen_file : Option Seen → Bool
+is_seen_file None = false
+is_seen_file (Some seen) = is_file_kind seen.kind
 
 -- another thing was seen at this path
 abbrev pub other_thing : Path → Option Seen → List Fault
@@ -111,7 +111,7 @@ or_else (f ∷ fs) gs = f ∷ fs
 -- Where the rule's way sets logs aside, and a file was seen where such a log waits, a run broke off before that was copied. It is
 -- taken up: the rotation turns it, and leaves the log.
 abbrev pub takes_up : Way → Option Seen → Bool
-takes_up way.RenameCopy tmp = is_file tmp
+takes_up way.RenameCopy tmp = is_seen_file tmp
 takes_up _ tmp = false
 
 -- where the file stands that is turned
@@ -120,7 +120,7 @@ first_path way log tmp = if takes_up way tmp then aside_path log else log
 
 -- the path to which the log is set aside, where it is
 abbrev pub aside_by : Way → Path → Option Seen → Option Path
-aside_by way.RenameCopy log tmp = if is_file tmp then None else Some (aside_path log)
+aside_by way.RenameCopy log tmp = if is_seen_file tmp then None else Some (aside_path log)
 aside_by _ log tmp = None
 
 -- ---- what hinders, and what is made ready
@@ -217,7 +217,7 @@ abbrev pub job_by : Way → LogLook → Path → Option Job
 job_by way.Rename look target = None
 job_by way.Copy look target = Some (copy_job look target false)
 job_by way.CopyTruncate look target = Some (copy_job look target true)
-job_by way.RenameCopy look target = if is_file look.tmp then None
+job_by way.RenameCopy look target = if is_seen_file look.tmp then None
     else Some (from_path (aside_path look.path) (copy_job look target false))
 
 -- what is done with it: its own scripts where the definition doesn't share them, this rotation, by rename or by copy, and with
@@ -226,8 +226,8 @@ job_by way.RenameCopy look target = if is_file look.tmp then None
 abbrev pub plan_with : Path → Rule → LogLook → Ready → LogPlan
 plan_with mailer rule look ready = record {
   log = look.path;
-  pre = where_so (not rule.shared) (script rule.scripts.pre (look.path ∷ []));
-  post = where_so (not rule.shared) (script rule.scripts.post (look.path ∷ ready.target ∷ []));
+  pre = where_so (not rule.shared) (script_command rule.scripts.pre (look.path ∷ []));
+  post = where_so (not rule.shared) (script_command rule.scripts.post (look.path ∷ ready.target ∷ []));
   first_mail = where_so rule.mailfirst (mail mailer rule.mail look.path ready.target);
   ready = dressed rule mailer look.path ready;
   job = job_by rule.way look ready.target;
@@ -275,10 +275,10 @@ log_faults clock rule decide looks = flat_map (λ look. where_due (decide look) 
 -- its scripts, of which those of the rotations are its own where they are shared, and its logs that are due
 abbrev pub set_plan : Rule → List LogPlan → SetPlan
 set_plan rule logs = record {
-  first = script rule.scripts.first (spaced rule.words ∷ []);
-  pre = where_so rule.shared (script rule.scripts.pre (spaced rule.words ∷ []));
-  post = where_so rule.shared (script rule.scripts.post (spaced rule.words ∷ []));
-  last = script rule.scripts.last (spaced rule.words ∷ []);
+  first = script_command rule.scripts.first (spaced rule.words ∷ []);
+  pre = where_so rule.shared (script_command rule.scripts.pre (spaced rule.words ∷ []));
+  post = where_so rule.shared (script_command rule.scripts.post (spaced rule.words ∷ []));
+  last = script_command rule.scripts.last (spaced rule.words ∷ []);
   shared = rule.shared;
   logs = logs;
 }

@@ -2,7 +2,7 @@
 ghost use Rattle.std.specs.Prelude.{◌≡◌, ◌≤◌, ◌∷◌, [], length, if◌then◌else◌, IfOk};
 ghost use Rattle.lr_rules.specs.declared.fault.Fault.TheVariants as fault;
 ghost use Rattle.lr_rules.specs.Names.{aside_path};
-ghost use Rattle.lr_plan.specs.Planned.{is_file, takes_up, first_path, aside_by, aside_hinders};
+ghost use Rattle.lr_plan.specs.Planned.{is_seen_file, takes_up, first_path, aside_by, aside_hinders};
 
 use lr_host::{Kind, Seen};
 use lr_plan::LogLook;
@@ -11,7 +11,7 @@ use std::alloc::Global;
 
 /// Whether a file was seen.
 pub fn is_file(seen: &Option<Seen>) -> bool
-    ensures { result ≡ is_file seen.now }
+    ensures { result ≡ is_seen_file seen.now }
 {
     match seen {
         Some(seen) => matches!(seen.kind, Kind::File),

@@ -1,6 +1,6 @@
 // The scripts of a plan, all of which are made before the first of them is run.
 ghost use Rattle.std.specs.Prelude.{◌≡◌, ◌∷◌, [], not, true, IfOk};
-ghost use Rattle.lr_scripts.specs.Commands.{script, where_so};
+ghost use Rattle.lr_scripts.specs.Commands.{script_command, where_so};
 
 use lr_rules::{Memory, Path, Rule};
 use lr_scripts::{Command, script_on, script_on_both};
@@ -13,9 +13,9 @@ pub fn own_scripts(
     log: &Path,
     target: &Path,
 ) -> Result<(Option<Command>, Option<Command>), Memory>
-    ensures pre { IfOk result (λ two. two.0 ≡ where_so (not rule.now.shared) (script rule.now.scripts.pre (log.now ∷ []))) }
+    ensures pre { IfOk result (λ two. two.0 ≡ where_so (not rule.now.shared) (script_command rule.now.scripts.pre (log.now ∷ []))) }
     ensures post { IfOk result (λ two. two.1 ≡ where_so (not rule.now.shared)
-        (script rule.now.scripts.post (log.now ∷ target.now ∷ []))) }
+        (script_command rule.now.scripts.post (log.now ∷ target.now ∷ []))) }
 {
     let own = !rule.shared;
     let pre = script_on(alloc, own, &rule.scripts.pre, log.bytes())?;
@@ -29,8 +29,8 @@ pub fn shared_scripts(
     rule: &Rule,
     words: &[u8],
 ) -> Result<(Option<Command>, Option<Command>), Memory>
-    ensures pre { IfOk result (λ two. two.0 ≡ where_so rule.now.shared (script rule.now.scripts.pre (words.now ∷ []))) }
-    ensures post { IfOk result (λ two. two.1 ≡ where_so rule.now.shared (script rule.now.scripts.post (words.now ∷ []))) }
+    ensures pre { IfOk result (λ two. two.0 ≡ where_so rule.now.shared (script_command rule.now.scripts.pre (words.now ∷ []))) }
+    ensures post { IfOk result (λ two. two.1 ≡ where_so rule.now.shared (script_command rule.now.scripts.post (words.now ∷ []))) }
 {
     let pre = script_on(alloc, rule.shared, &rule.scripts.pre, words)?;
     let post = script_on(alloc, rule.shared, &rule.scripts.post, words)?;
@@ -43,8 +43,8 @@ pub fn outer_scripts(
     rule: &Rule,
     words: &[u8],
 ) -> Result<(Option<Command>, Option<Command>), Memory>
-    ensures first { IfOk result (λ two. two.0 ≡ script rule.now.scripts.first (words.now ∷ [])) }
-    ensures last { IfOk result (λ two. two.1 ≡ script rule.now.scripts.last (words.now ∷ [])) }
+    ensures first { IfOk result (λ two. two.0 ≡ script_command rule.now.scripts.first (words.now ∷ [])) }
+    ensures last { IfOk result (λ two. two.1 ≡ script_command rule.now.scripts.last (words.now ∷ [])) }
 {
     let first = script_on(alloc, true, &rule.scripts.first, words)?;
     let last = script_on(alloc, true, &rule.scripts.last, words)?;

@@ -3,7 +3,7 @@ ghost use Rattle.std.specs.Prelude.{◌≡◌, ◌≤◌, ◌++◌, ◌∷◌, [
 ghost use Rattle.lr_plan.specs.Planned.{dir_of, stand_for, with_log, first_path, aside_by};
 ghost use Rattle.lr_plan.specs.Planned.{standing, dressed, job_by, plan_with};
 ghost use Rattle.lr_chain.specs.Ready.{with_dir};
-ghost use Rattle.lr_scripts.specs.Commands.{script, where_so, mail};
+ghost use Rattle.lr_scripts.specs.Commands.{script_command, where_so, mail};
 
 use crate::aside::{aside_of, first_path};
 use crate::commands::own_scripts;
@@ -89,9 +89,10 @@ fn log_programs(
     log: &Path,
     target: &Path,
 ) -> Result<(Option<Command>, Option<Command>, Option<Command>), Memory>
-    ensures pre { IfOk result (λ three. three.0 ≡ where_so (not rule.now.shared) (script rule.now.scripts.pre (log.now ∷ []))) }
+    ensures pre { IfOk result (λ three. three.0 ≡ where_so (not rule.now.shared)
+        (script_command rule.now.scripts.pre (log.now ∷ []))) }
     ensures post { IfOk result (λ three. three.1 ≡ where_so (not rule.now.shared)
-        (script rule.now.scripts.post (log.now ∷ target.now ∷ []))) }
+        (script_command rule.now.scripts.post (log.now ∷ target.now ∷ []))) }
     ensures first_mail { IfOk result (λ three. three.2 ≡ where_so rule.now.mailfirst
         (mail mailer.now rule.now.mail log.now target.now)) }
 {

@@ -49,5 +49,5 @@ fault_text (fault.Script phase on ended.Killed) = concat (phase_text phase ∷ c
 fault_text fault.Out = codes "output failed"
 
 -- the lines of these notices, and then of these faults
-abbrev pub lines : List Notice → List Fault → List ℕ
-lines notices faults = concat (map (λ n. line (notice_text n)) notices) ++ concat (map (λ f. line (fault_text f)) faults)
+abbrev pub report_lines : List Notice → List Fault → List ℕ
+report_lines notices faults = concat (map (λ n. line (notice_text n)) notices) ++ concat (map (λ f. line (fault_text f)) faults)

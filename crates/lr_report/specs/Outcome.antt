@@ -2,7 +2,7 @@
 use Rattle.std.specs.Prelude.{ℕ, List, [], ◌∷◌, codes}
 use Rattle.lr_report.specs.declared.outcome.Outcome.{Outcome}
 use Rattle.lr_report.specs.declared.outcome.Outcome.TheVariants.{Done, BadWords, Held, OutOfMemory}
-use Rattle.lr_report.specs.Lines.{line, lines}
+use Rattle.lr_report.specs.Lines.{line, report_lines}
 
 -- 0 where there is no fault, else 1
 abbrev pub some_fault : {A : Type 0} → List A → ℕ
@@ -17,7 +17,7 @@ status_of OutOfMemory = 4
 
 -- all that there is to say of an answer: the lines of its report, or one line
 abbrev pub outcome_text : Outcome → List ℕ
-outcome_text (Done report) = lines report.notices report.faults
+outcome_text (Done report) = report_lines report.notices report.faults
 outcome_text BadWords = line (codes "bad command line")
 outcome_text Held = line (codes "state file is locked")
 outcome_text OutOfMemory = line (codes "out of memory")

@@ -5,7 +5,7 @@ ghost use Rattle.std.specs.List.{concat};
 ghost use Rattle.lr_rules.specs.declared.fault.Fault.TheVariants as fault;
 ghost use Rattle.lr_host.specs.Told.{Rose};
 ghost use Rattle.lr_report.specs.Puts.{Took, TookPart};
-ghost use Rattle.lr_report.specs.Lines.{line, lines, passed, place, notice_text, fault_text};
+ghost use Rattle.lr_report.specs.Lines.{line, report_lines, passed, place, notice_text, fault_text};
 
 use crate::kinds::{call_name, conf_kind_name, phase_name, state_kind_name, zone_name};
 use crate::put::{put_five, put_four, put_one, put_three, put_two};
@@ -185,8 +185,8 @@ pub fn put_lines<K: Sink>(
     faults: &[Fault],
     out: &mut K,
 ) -> Result<(), SinkFault>
-    ensures whole { OnOk result (Took (lines notices.now faults.now) (K.taken out.old) (K.taken out.new)) }
-    ensures part { TookPart (lines notices.now faults.now) (K.taken out.old) (K.taken out.new) }
+    ensures whole { OnOk result (Took (report_lines notices.now faults.now) (K.taken out.old) (K.taken out.new)) }
+    ensures part { TookPart (report_lines notices.now faults.now) (K.taken out.old) (K.taken out.new) }
     ensures cause { OnErr result (Rose (K.faults out.old) (K.faults out.new)) }
     ensures counts { K.faults out.old ≤ K.faults out.new }
 {

@@ -1,7 +1,7 @@
 // What there is to say of an outcome, printed.
 ghost use Rattle.std.specs.Prelude.{◌≡◌, ◌≤◌, ◌⊎◌, OnErr, OnOk};
 ghost use Rattle.lr_host.specs.Told.{Rose};
-ghost use Rattle.lr_report.specs.Lines.{lines};
+ghost use Rattle.lr_report.specs.Lines.{report_lines};
 ghost use Rattle.lr_report.specs.Outcome.{outcome_text};
 ghost use Rattle.lr_report.specs.Puts.{Took, TookPart};
 
@@ -12,8 +12,8 @@ use lr_host::{Sink, SinkFault};
 /// Puts the lines of a report: of its notices, then of its faults, each in order. It takes no memory, and stops at the
 /// first fault of the output.
 pub fn put_report<K: Sink>(report: &Report, out: &mut K) -> Result<(), SinkFault>
-    ensures whole { OnOk result (Took (lines report.now.notices report.now.faults) (K.taken out.old) (K.taken out.new)) }
-    ensures part { TookPart (lines report.now.notices report.now.faults) (K.taken out.old) (K.taken out.new) }
+    ensures whole { OnOk result (Took (report_lines report.now.notices report.now.faults) (K.taken out.old) (K.taken out.new)) }
+    ensures part { TookPart (report_lines report.now.notices report.now.faults) (K.taken out.old) (K.taken out.new) }
     ensures cause { OnErr result (Rose (K.faults out.old) (K.faults out.new)) }
     ensures counts { K.faults out.old ≤ K.faults out.new }
 {

@@ -11,12 +11,12 @@ use Rattle.lr_rules.specs.Stamps.{is_in, IsStampReading}
 abbrev pub AreOfMoment : StampParts → Type 0
 AreOfMoment p = IsMoment (pos p.year) p.month p.day p.hour p.minute p.second
 
-abbrev pub civil_seconds : StampParts → ℤ
-civil_seconds p = moment_seconds (pos p.year) p.month p.day p.hour p.minute p.second
+abbrev pub parts_seconds : StampParts → ℤ
+parts_seconds p = moment_seconds (pos p.year) p.month p.day p.hour p.minute p.second
 
 -- the seconds since 1970 where they stand among the pieces, else those of the civil moment
 abbrev pub seconds_by : List Piece → StampParts → ℤ
-seconds_by pieces p = if is_in field.Epoch pieces then pos p.epoch else civil_seconds p
+seconds_by pieces p = if is_in field.Epoch pieces then pos p.epoch else parts_seconds p
 
 -- The bytes are the pieces with the fields of a moment filled in; a field that lacks is the least of its kind. Their seconds are
 -- these.

@@ -20,7 +20,7 @@ use Rattle.lr_plan.specs.declared.looks.SetLooks.{SetLooks}
 use Rattle.lr_plan.specs.declared.mark.Mark.{Mark}
 use Rattle.lr_plan.specs.declared.step.Step.{Step}
 use Rattle.lr_plan.specs.declared.step.Step.TheVariants.{Runs, Removes, MakesDir, Renames, Creates, Takes, Copies, SyncsFile, SyncsDir, Truncates, Rotated}
-use Rattle.lr_host.specs.Counted.{call_in, calls_in, script_in, scripts_in}
+use Rattle.lr_host.specs.Counted.{call_in, calls_in, bad_script_in, bad_scripts_in}
 use Rattle.lr_plan.specs.Done.{PlanDone}
 use Rattle.lr_chain.specs.declared.directory.DirStop.TheVariants as unmade
 use Rattle.lr_plan.specs.Outcomes.{bytes_fault, Fails, ProgramFailed, badly, not_run, maybe_run}
@@ -46,11 +46,11 @@ none_before all xs ys e z = let a = ap calls_in e in let b = calls_on xs ys in o
 pub none_behind : (all xs ys : List Fault) → all ≡ xs ++ ys → calls_in all ≡ 0 → calls_in ys ≡ 0
 none_behind all xs ys e z = let a = ap calls_in e in let b = calls_on xs ys in omega (arith, a, b, z)
 
-no_end_before : (all xs ys : List Fault) → all ≡ xs ++ ys → scripts_in all ≡ 0 → scripts_in xs ≡ 0
-no_end_before all xs ys e z = let a = ap scripts_in e in let b = scripts_on xs ys in omega (arith, a, b, z)
+no_end_before : (all xs ys : List Fault) → all ≡ xs ++ ys → bad_scripts_in all ≡ 0 → bad_scripts_in xs ≡ 0
+no_end_before all xs ys e z = let a = ap bad_scripts_in e in let b = scripts_on xs ys in omega (arith, a, b, z)
 
-no_end_behind : (all xs ys : List Fault) → all ≡ xs ++ ys → scripts_in all ≡ 0 → scripts_in ys ≡ 0
-no_end_behind all xs ys e z = let a = ap scripts_in e in let b = scripts_on xs ys in omega (arith, a, b, z)
+no_end_behind : (all xs ys : List Fault) → all ≡ xs ++ ys → bad_scripts_in all ≡ 0 → bad_scripts_in ys ≡ 0
+no_end_behind all xs ys e z = let a = ap bad_scripts_in e in let b = scripts_on xs ys in omega (arith, a, b, z)
 
 none_copied_before : (xs ys : List Fault) → NoneOfCopy (xs ++ ys) → NoneOfCopy xs
 none_copied_before [] ys n = tt
@@ -69,7 +69,7 @@ none_other_before dirs all xs ys e n = λ dir i j. n dir i (subst (IsIn (fault.N
 
 -- a failed call or a bad end; or, without one, a copy that broke off, or another thing at the path of one of these directories, which was to be made
 abbrev IsStop : List Path → Fault → Type 0
-IsStop dirs f = (call_in f + script_in f ≡ 1) ⊎ (IsOfCopy f ⊎ ((dir : Path) × IsIn dir dirs × (f ≡ fault.NotFile dir)))
+IsStop dirs f = (call_in f + bad_script_in f ≡ 1) ⊎ (IsOfCopy f ⊎ ((dir : Path) × IsIn dir dirs × (f ≡ fault.NotFile dir)))
 
 -- each of the faults is so
 abbrev AreStops : List Path → List Fault → Type 0
@@ -94,8 +94,8 @@ none_stopped dirs (f ∷ fs) h n = absurd (go h.0)
 -- ---- the acts
 
 -- a fault that is one of these
-is_stop : (dirs : List Path) (f g : Fault) → f ≡ g → call_in g + script_in g ≡ 1 → AreStops dirs (f ∷ [])
-is_stop dirs f g e h = (inl (ap (λ (x : Fault). call_in x + script_in x) e ∙ h), tt)
+is_stop : (dirs : List Path) (f g : Fault) → f ≡ g → call_in g + bad_script_in g ≡ 1 → AreStops dirs (f ∷ [])
+is_stop dirs f g e h = (inl (ap (λ (x : Fault). call_in x + bad_script_in x) e ∙ h), tt)
 
 -- a copy that broke off so
 is_copy : (dirs : List Path) (f g : Fault) → f ≡ g → IsOfCopy g → AreStops dirs (f ∷ [])

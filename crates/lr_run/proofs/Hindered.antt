@@ -38,7 +38,7 @@ use Rattle.lr_family.specs.Places.{IsPlaceOf}
 use Rattle.lr_family.proofs.Placed.{dated_at}
 use Rattle.lr_family.specs.Looks.{WasSeen}
 use Rattle.lr_family.proofs.Names.{member_own}
-use Rattle.lr_chain.specs.Hindrances.{is_stamp, fault_at, too_high, taken, stamp_hindrances, keeps_all, number_hindrances, name_hindrances, what_hinders}
+use Rattle.lr_chain.specs.Hindrances.{is_stamp, fault_at, too_high, taken_fault, stamp_hindrances, keeps_all, number_hindrances, name_hindrances, what_hinders}
 use Rattle.lr_chain.specs.Ready.{is_highest, highest_path}
 use Rattle.lr_plan.specs.declared.looks.LogLook.{LogLook}
 use Rattle.lr_plan.specs.declared.looks.SetLooks.{SetLooks}
@@ -104,11 +104,11 @@ in_high path seconds serial (m ∷ ms) i = go (is_stamp seconds serial m.place) 
     go true further (inr none) = none
     go false further i = further i
 
-in_taken : (path : Path) (seconds : ℤ) (serial : ℕ) (ms : List Member) → IsIn (fault.Taken path) (fault_at taken seconds serial ms) → (m : Member) × IsIn m ms × (m.path ≡ path)
+in_taken : (path : Path) (seconds : ℤ) (serial : ℕ) (ms : List Member) → IsIn (fault.Taken path) (fault_at taken_fault seconds serial ms) → (m : Member) × IsIn m ms × (m.path ≡ path)
 in_taken path seconds serial [] i = absurd i
 in_taken path seconds serial (m ∷ ms) i = go (is_stamp seconds serial m.place) (λ k. in_taken path seconds serial ms k) i
   where
-    go : (b : Bool) → (IsIn (fault.Taken path) (fault_at taken seconds serial ms) → (x : Member) × IsIn x ms × (x.path ≡ path)) → IsIn (fault.Taken path) (cond b (fault.Taken m.path ∷ []) (fault_at taken seconds serial ms)) → (x : Member) × IsIn x (m ∷ ms) × (x.path ≡ path)
+    go : (b : Bool) → (IsIn (fault.Taken path) (fault_at taken_fault seconds serial ms) → (x : Member) × IsIn x ms × (x.path ≡ path)) → IsIn (fault.Taken path) (cond b (fault.Taken m.path ∷ []) (fault_at taken_fault seconds serial ms)) → (x : Member) × IsIn x (m ∷ ms) × (x.path ≡ path)
     go true further (inl e) = (m, inl refl, same_path m.path path e)
     go true further (inr none) = absurd none
     go false further i = let r = further i in (r.0, inr r.1, r.2)
@@ -125,7 +125,7 @@ in_numbers n c path ms i = go (keeps_all c && list_any (is_highest n) ms) i
 in_stamps : (format : Format) (path : Path) (seconds : ℤ) (ms : List Member) → IsIn (fault.Taken path) (stamp_hindrances format seconds ms) → (m : Member) × IsIn m ms × (m.path ≡ path)
 in_stamps format path seconds ms i = go format.serial i
   where
-    go : (b : Bool) → IsIn (fault.Taken path) (cond b (fault_at too_high seconds 4294967295 ms) (fault_at taken seconds 0 ms)) → (m : Member) × IsIn m ms × (m.path ≡ path)
+    go : (b : Bool) → IsIn (fault.Taken path) (cond b (fault_at too_high seconds 4294967295 ms) (fault_at taken_fault seconds 0 ms)) → (m : Member) × IsIn m ms × (m.path ≡ path)
     go true i = absurd (in_high path seconds 4294967295 ms i)
     go false i = in_taken path seconds 0 ms i
 

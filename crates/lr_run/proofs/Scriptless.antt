@@ -6,7 +6,7 @@ use Rattle.lr_rules.specs.declared.fault.Phase.TheVariants as phase
 use Rattle.lr_rules.specs.declared.path.Path.{Path}
 use Rattle.lr_rules.specs.declared.rule.Rule.{Rule}
 use Rattle.lr_host.specs.declared.entry.Entry.{Entry}
-use Rattle.lr_scripts.specs.Commands.{script, mail}
+use Rattle.lr_scripts.specs.Commands.{script_command, mail}
 use Rattle.lr_plan.specs.Asked.{Asked}
 use Rattle.lr_plan.specs.declared.step.Step.{Step}
 use Rattle.lr_plan.specs.Planned.{decision}
@@ -28,8 +28,8 @@ no_program (s ∷ ss) h (inr p) = no_program ss h.1 p
 abbrev IsNone : Option (List ℕ) → Type 0
 IsNone text = text ≡ None
 
-none_runs : (p : Phase) (text : Option (List ℕ)) (args : List (List ℕ)) → IsNone text → EachStep IsNoProgram (program p (script text args))
-none_runs p text args e = subst (λ (t : Option (List ℕ)). EachStep IsNoProgram (program p (script t args))) (sym e) tt
+none_runs : (p : Phase) (text : Option (List ℕ)) (args : List (List ℕ)) → IsNone text → EachStep IsNoProgram (program p (script_command text args))
+none_runs p text args e = subst (λ (t : Option (List ℕ)). EachStep IsNoProgram (program p (script_command t args))) (sym e) tt
 
 none_mails : (mailer : Path) (address : Option (List ℕ)) (log file : Path) → IsNone address → EachStep IsNoProgram (program phase.Mail (mail mailer address log file))
 none_mails mailer address log file e = subst (λ (t : Option (List ℕ)). EachStep IsNoProgram (program phase.Mail (mail mailer t log file))) (sym e) tt

@@ -20,7 +20,7 @@ use Rattle.lr_family.specs.Parts.{part_of}
 use Rattle.lr_chain.specs.declared.ready.Move.{Move}
 use Rattle.lr_chain.specs.declared.ready.Ready.{Ready}
 use Rattle.lr_scripts.specs.declared.removal.Removal.{Removal}
-use Rattle.lr_scripts.specs.Commands.{script, where_so, mail, with_programs}
+use Rattle.lr_scripts.specs.Commands.{script_command, where_so, mail, with_programs}
 use Rattle.lr_copy.specs.declared.job.Job.{Job}
 use Rattle.lr_plan.specs.declared.looks.LogLook.{LogLook}
 use Rattle.lr_plan.specs.declared.looks.SetLooks.{SetLooks}
@@ -28,7 +28,7 @@ use Rattle.lr_plan.specs.declared.plan.LogPlan.{LogPlan}
 use Rattle.lr_plan.specs.declared.plan.SetPlan.{SetPlan}
 use Rattle.lr_plan.specs.declared.step.Step.{Step}
 use Rattle.lr_plan.specs.declared.step.Step.TheVariants.{Runs, Removes, MakesDir, Renames, Creates, Takes, Copies, SyncsFile, SyncsDir, Truncates, Rotated}
-use Rattle.lr_plan.specs.Planned.{is_file, aside_by, from_path, copy_job, job_by, hindrances, standing, ready_for, plan_with, log_plan, none_hinders, plans_of, where_due, log_plans, set_plan, all_plans}
+use Rattle.lr_plan.specs.Planned.{is_seen_file, aside_by, from_path, copy_job, job_by, hindrances, standing, ready_for, plan_with, log_plan, none_hinders, plans_of, where_due, log_plans, set_plan, all_plans}
 use Rattle.lr_plan.specs.Steps.{program, removal, removals, directory, move, step_if, copy, transfer, anew, made_anew, finishing, rotation_of, retirement_of, steps_of_log, shared_steps, by_logs, steps_of_set}
 use Rattle.lr_acts.specs.Making.{all_of_each, all_of_set, all_of_sets}
 
@@ -60,7 +60,7 @@ pub record IsOfSteps (P : Step → Type 0) (Q : Option (List ℕ) → Type 0) : 
   pub syncs_dir : (path : Path) → P (SyncsDir path)
   pub truncates : (path : Path) → P (Truncates path)
   pub rotated : (log : Path) → P (Rotated log)
-  pub runs : (p : Phase) (text : Option (List ℕ)) (args : List (List ℕ)) → Q text → EachStep P (program p (script text args))
+  pub runs : (p : Phase) (text : Option (List ℕ)) (args : List (List ℕ)) → Q text → EachStep P (program p (script_command text args))
   pub mails : (mailer : Path) (address : Option (List ℕ)) (log file : Path) → Q address → EachStep P (program phase.Mail (mail mailer address log file))
 
 -- Q holds of the scripts of the rule, and of the address that it mails to
@@ -79,7 +79,7 @@ AreOfScripts Q (rule ∷ rules) = IsOfScripts Q rule × AreOfScripts Q rules
 module _ (P : Step → Type 0) (Q : Option (List ℕ) → Type 0) (k : IsOfSteps P Q) where
   -- ---- one log
 
-  where_runs : (b : Bool) (p : Phase) (text : Option (List ℕ)) (args : List (List ℕ)) → Q text → EachStep P (program p (where_so b (script text args)))
+  where_runs : (b : Bool) (p : Phase) (text : Option (List ℕ)) (args : List (List ℕ)) → Q text → EachStep P (program p (where_so b (script_command text args)))
   where_runs true p text args q = k.runs p text args q
   where_runs false p text args q = tt
 
@@ -91,7 +91,7 @@ module _ (P : Step → Type 0) (Q : Option (List ℕ) → Type 0) (k : IsOfSteps
   removals_so mailer rule log [] h = tt
   removals_so mailer rule log (r ∷ rs) h =
       step_both P (removal (with_programs rule mailer log r)) _
-      (step_both P (program phase.Preremove (script rule.scripts.preremove (r.path ∷ []))) _ (k.runs phase.Preremove rule.scripts.preremove (r.path ∷ []) h.preremove)
+      (step_both P (program phase.Preremove (script_command rule.scripts.preremove (r.path ∷ []))) _ (k.runs phase.Preremove rule.scripts.preremove (r.path ∷ []) h.preremove)
       (step_both P (program phase.Mail (where_so (not rule.mailfirst) (mail mailer rule.mail log r.path))) _ (where_mails (not rule.mailfirst) mailer rule.mail log r.path h.mail) (k.removes _, tt)))
       (removals_so mailer rule log rs h)
 
@@ -120,7 +120,7 @@ module _ (P : Step → Type 0) (Q : Option (List ℕ) → Type 0) (k : IsOfSteps
   transfer_so way.Rename look log target = (k.renames log target, tt)
   transfer_so way.Copy look log target = copy_so look.path look target false
   transfer_so way.CopyTruncate look log target = copy_so look.path look target true
-  transfer_so way.RenameCopy look log target = go (is_file look.tmp)
+  transfer_so way.RenameCopy look log target = go (is_seen_file look.tmp)
     where
       go : (b : Bool) → EachStep P (transfer log target (if b then None else Some (from_path (aside_path look.path) (copy_job look target false))) (if b then None else Some (aside_path look.path)))
       go true = (k.renames log target, tt)
@@ -135,7 +135,7 @@ module _ (P : Step → Type 0) (Q : Option (List ℕ) → Type 0) (k : IsOfSteps
   finishing_so way.Rename look target = tt
   finishing_so way.Copy look target = tt
   finishing_so way.CopyTruncate look target = tt
-  finishing_so way.RenameCopy look target = go (is_file look.tmp)
+  finishing_so way.RenameCopy look target = go (is_seen_file look.tmp)
     where
       go : (b : Bool) → EachStep P (finishing (if b then None else Some (from_path (aside_path look.path) (copy_job look target false))) (if b then None else Some (aside_path look.path)))
       go true = tt
@@ -269,7 +269,7 @@ simple_split xs ys h = step_split IsSimple xs ys h
 abbrev Any : Option (List ℕ) → Type 0
 Any text = Unit {0}
 
-program_simple : (p : Phase) (text : Option (List ℕ)) (args : List (List ℕ)) → Any text → AreSimple (program p (script text args))
+program_simple : (p : Phase) (text : Option (List ℕ)) (args : List (List ℕ)) → Any text → AreSimple (program p (script_command text args))
 program_simple p None args q = tt
 program_simple p (Some text) args q = (tt, tt)
 

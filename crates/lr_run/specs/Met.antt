@@ -3,7 +3,7 @@ use Rattle.std.specs.Prelude.{◌≡◌, List}
 use Rattle.lr_rules.specs.declared.fault.Fault.{Fault}
 use Rattle.lr_rules.specs.declared.fault.Fault.TheVariants as fault
 use Rattle.lr_rules.specs.declared.path.Path.{Path}
-use Rattle.lr_host.specs.Counted.{calls_in, scripts_in}
+use Rattle.lr_host.specs.Counted.{calls_in, bad_scripts_in}
 use Rattle.lr_host.specs.Lists.{IsIn}
 use Rattle.lr_run.specs.Copied.{NoneOfCopy}
 
@@ -16,6 +16,6 @@ IsNoOther dirs faults = (dir : Path) → IsIn dir dirs → IsIn (fault.NotFile d
 -- its path.
 pub record MetNothing (dirs : List Path) (faults : List Fault) : Type 0 where
   pub no_call : calls_in faults ≡ 0
-  pub no_end : scripts_in faults ≡ 0
+  pub no_end : bad_scripts_in faults ≡ 0
   pub no_copy : NoneOfCopy faults
   pub no_other : IsNoOther dirs faults

@@ -16,9 +16,9 @@ spaced [] = []
 spaced (word ∷ words) = word ++ behind_spaces words
 
 -- a script as a shell runs it, with its arguments
-abbrev pub script : Option (List ℕ) → List (List ℕ) → Option Command
-script None args = None
-script (Some text) args = Some (record {
+abbrev pub script_command : Option (List ℕ) → List (List ℕ) → Option Command
+script_command None args = None
+script_command (Some text) args = Some (record {
   program = codes "/bin/sh";
   args = codes "-c" ∷ text ∷ codes "logrotate_script" ∷ args;
   input = None;
@@ -41,6 +41,6 @@ mail mailer (Some address) log file = Some (record { program = mailer; args = co
 abbrev pub with_programs : Rule → Path → Path → Removal → Removal
 with_programs rule mailer log file = record {
   path = file.path;
-  preremove = script rule.scripts.preremove (file.path ∷ []);
+  preremove = script_command rule.scripts.preremove (file.path ∷ []);
   mail = where_so (not rule.mailfirst) (mail mailer rule.mail log file.path);
 }

@@ -8,7 +8,7 @@
 //! remove(alloc, &mut host, &removal)?;   // runs the script, then unlinks the file
 //! ```
 //!
-//! The command of a script is exactly its definition's (`script` in `specs/Commands.antt`): a shell with the words `-c`, the
+//! The command of a script is exactly its definition's (`script_command`, `specs/Commands.antt`): a shell with the words `-c`, the
 //! script's text, `logrotate_script`, and the script's arguments, without an input. And each removal gets its definition's
 //! preremove and mail ([`with_programs`]). Begin with [`script_on`]:
 //!

@@ -1,6 +1,6 @@
 // The programs before the removal of a file.
 ghost use Rattle.std.specs.Prelude.{◌≡◌, ◌∷◌, [], None, Some, codes, map, not, IfOk};
-ghost use Rattle.lr_scripts.specs.Commands.{script, where_so, mail, with_programs};
+ghost use Rattle.lr_scripts.specs.Commands.{script_command, where_so, mail, with_programs};
 
 use crate::command::Command;
 use crate::removal::Removal;
@@ -75,7 +75,7 @@ fn removal_of(
 ) -> Result<Removal, Memory>
     ensures { IfOk result (λ removal. removal ≡ record {
       path = path;
-      preremove = script rule.now.scripts.preremove (path ∷ []);
+      preremove = script_command rule.now.scripts.preremove (path ∷ []);
       mail = where_so (not rule.now.mailfirst) (mail mailer.now rule.now.mail log.now path);
     }) }
 {

@@ -1,6 +1,6 @@
 // Scripts with their arguments.
 ghost use Rattle.std.specs.Prelude.{◌≡◌, ◌∷◌, [], None, Some, codes, IfOk};
-ghost use Rattle.lr_scripts.specs.Commands.{script, where_so};
+ghost use Rattle.lr_scripts.specs.Commands.{script_command, where_so};
 
 use crate::command::Command;
 use lr_rules::{Listed, Memory, Path, Text, push_text, text_of};
@@ -32,7 +32,7 @@ fn shell(alloc: Global, words: Vec<Text>) -> Result<Command, Memory>
 }
 
 fn command_on(alloc: Global, text: &Text, on: &[u8]) -> Result<Command, Memory>
-    ensures { IfOk result (λ command. Some command ≡ script (Some text.now) (on.now ∷ [])) }
+    ensures { IfOk result (λ command. Some command ≡ script_command (Some text.now) (on.now ∷ [])) }
 {
     let mut words = shell_words(alloc, text)?;
     push_text(alloc, &mut words, on)?;
@@ -40,7 +40,7 @@ fn command_on(alloc: Global, text: &Text, on: &[u8]) -> Result<Command, Memory>
 }
 
 fn command_on_both(alloc: Global, text: &Text, on: &[u8], to: &[u8]) -> Result<Command, Memory>
-    ensures { IfOk result (λ command. Some command ≡ script (Some text.now) (on.now ∷ to.now ∷ [])) }
+    ensures { IfOk result (λ command. Some command ≡ script_command (Some text.now) (on.now ∷ to.now ∷ [])) }
 {
     let mut words = shell_words(alloc, text)?;
     push_text(alloc, &mut words, on)?;
@@ -55,7 +55,7 @@ pub fn script_on(
     text: &Option<Text>,
     on: &[u8],
 ) -> Result<Option<Command>, Memory>
-    ensures { IfOk result (λ command. command ≡ where_so asked (script text.now (on.now ∷ []))) }
+    ensures { IfOk result (λ command. command ≡ where_so asked (script_command text.now (on.now ∷ []))) }
 {
     if !asked {
         return Ok(None);
@@ -74,7 +74,7 @@ pub fn script_on_both(
     on: &[u8],
     to: &[u8],
 ) -> Result<Option<Command>, Memory>
-    ensures { IfOk result (λ command. command ≡ where_so asked (script text.now (on.now ∷ to.now ∷ []))) }
+    ensures { IfOk result (λ command. command ≡ where_so asked (script_command text.now (on.now ∷ to.now ∷ []))) }
 {
     if !asked {
         return Ok(None);

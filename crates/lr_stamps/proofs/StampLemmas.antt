@@ -16,7 +16,7 @@ use Rattle.lr_rules.specs.Limits.{is_format}
 use Rattle.lr_rules.specs.Path.{joined}
 use Rattle.lr_rules.specs.StampParts.{part}
 use Rattle.lr_rules.specs.Stamps.{stamp_text, is_in}
-use Rattle.lr_rules.specs.Moments.{AreOfMoment, civil_seconds, seconds_by, IsStamp}
+use Rattle.lr_rules.specs.Moments.{AreOfMoment, parts_seconds, seconds_by, IsStamp}
 use Rattle.lr_rules.specs.Dated.{serial_text, IsNumberedStamp, IsDatedAt}
 use Rattle.lr_stamps.proofs.Fields.{parts_same}
 use Rattle.lr_stamps.proofs.Formats.{epoch_alone}
@@ -65,7 +65,7 @@ time_same a b s t i j e = record { days = omega (arith, ints, e); rest = omega (
 
 -- ---- parts
 
-civil_same : (q r : StampParts) → AreOfMoment q → AreOfMoment r → civil_seconds q ≡ civil_seconds r → (f : Field) → (f ≡ field.Epoch → ⊥) → part q f ≡ part r f
+civil_same : (q r : StampParts) → AreOfMoment q → AreOfMoment r → parts_seconds q ≡ parts_seconds r → (f : Field) → (f ≡ field.Epoch → ⊥) → part q f ≡ part r f
 civil_same q r a b e f n = by f n
   where
     early : (p : StampParts) → AreOfMoment p → p.hour * 3600 + p.minute * 60 + p.second < 86400
@@ -102,8 +102,8 @@ parts_of_one f e t w v a b = go (is_in field.Epoch f.pieces) refl
     lacks : (g : Field) → is_in g f.pieces ≡ false → part a.parts g ≡ part b.parts g
     lacks g o = a.reading.rest g o ∙ sym (b.reading.rest g o)
 
-    civil : is_in field.Epoch f.pieces ≡ false → civil_seconds a.parts ≡ civil_seconds b.parts
-    civil o = subst (λ (k : Bool). cond k (pos a.parts.epoch) (civil_seconds a.parts) ≡ cond k (pos b.parts.epoch) (civil_seconds b.parts)) o same
+    civil : is_in field.Epoch f.pieces ≡ false → parts_seconds a.parts ≡ parts_seconds b.parts
+    civil o = subst (λ (k : Bool). cond k (pos a.parts.epoch) (parts_seconds a.parts) ≡ cond k (pos b.parts.epoch) (parts_seconds b.parts)) o same
 
     date : is_in field.Epoch f.pieces ≡ false → (g : Field) → part a.parts g ≡ part b.parts g
     date o field.Epoch = lacks field.Epoch o
@@ -115,7 +115,7 @@ parts_of_one f e t w v a b = go (is_in field.Epoch f.pieces) refl
     date o field.Second = civil_same a.parts b.parts a.moment b.moment (civil o) field.Second (λ i. cc)
 
     count : is_in field.Epoch f.pieces ≡ true → (g : Field) → part a.parts g ≡ part b.parts g
-    count o field.Epoch = pos_same a.parts.epoch b.parts.epoch (subst (λ (k : Bool). cond k (pos a.parts.epoch) (civil_seconds a.parts) ≡ cond k (pos b.parts.epoch) (civil_seconds b.parts)) o same)
+    count o field.Epoch = pos_same a.parts.epoch b.parts.epoch (subst (λ (k : Bool). cond k (pos a.parts.epoch) (parts_seconds a.parts) ≡ cond k (pos b.parts.epoch) (parts_seconds b.parts)) o same)
     count o field.Year = lacks field.Year (epoch_alone f e o field.Year (λ i. cc))
     count o field.Month = lacks field.Month (epoch_alone f e o field.Month (λ i. cc))
     count o field.Day = lacks field.Day (epoch_alone f e o field.Day (λ i. cc))

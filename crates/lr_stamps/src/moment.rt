@@ -4,7 +4,7 @@ ghost use Rattle.lr_rules.specs.declared.rule.Field.TheVariants as field;
 ghost use Rattle.lr_rules.specs.Civil.{moment_seconds};
 ghost use Rattle.lr_rules.specs.Stamps.{is_in};
 ghost use Rattle.lr_stamps.specs.Asked.{FieldsDiffer};
-ghost use Rattle.lr_rules.specs.Moments.{AreOfMoment, civil_seconds, seconds_by, IsStamp};
+ghost use Rattle.lr_rules.specs.Moments.{AreOfMoment, parts_seconds, seconds_by, IsStamp};
 
 use crate::front::first_piece;
 use crate::reading::read;
@@ -60,7 +60,7 @@ fn has_epoch(pieces: &[Piece]) -> bool
 
 // The seconds that these parts tell.
 fn seconds_by(pieces: &[Piece], parts: &StampParts, civil: &Civil) -> i64
-    requires civil { civil_seconds parts.now ≡ moment_seconds civil.now.year civil.now.month civil.now.day civil.now.hour
+    requires civil { parts_seconds parts.now ≡ moment_seconds civil.now.year civil.now.month civil.now.day civil.now.hour
         civil.now.minute civil.now.second }
     requires small { is_in field.Epoch pieces.now ≡ true → parts.now.epoch < 1000000000000 }
     ensures { result ≡ seconds_by pieces.now parts.now }

@@ -13,7 +13,7 @@ use Rattle.lr_state.specs.Table.{Entry, moment_of, is_name, is_table}
 use Rattle.lr_state.specs.Written.{escaped, decimal, moment_text, line_text, entry_line, table_text}
 use Rattle.lr_state.proofs.Views.{bytes_swapped}
 use Rattle.lr_state.specs.After.{is_among}
-use Rattle.lr_state.specs.Measured.{longer, widest, measured_text}
+use Rattle.lr_state.specs.Measured.{longer_moment, widest, measured_text}
 use Rattle.lr_state.proofs.After.{found_first}
 
 -- ---- moments
@@ -33,7 +33,7 @@ moment_length at =
     let e = length-append (decimal at.minute) (58 ∷ seconds) in
     omega (arith, a, b, c, d, e)
 
-pub longer_length : (was now : Civil) → length (moment_text (longer was now)) ≡ length (moment_text was) + (length (moment_text now) - length (moment_text was))
+pub longer_length : (was now : Civil) → length (moment_text (longer_moment was now)) ≡ length (moment_text was) + (length (moment_text now) - length (moment_text was))
 longer_length was now = go (nat_lt (length (moment_text now)) (length (moment_text was))) refl
   where
     go : (b : Bool) → nat_lt (length (moment_text now)) (length (moment_text was)) ≡ b → length (moment_text (cond b was now)) ≡ length (moment_text was) + (length (moment_text now) - length (moment_text was))
@@ -58,8 +58,8 @@ line_grows name was now more grown =
 line_widens : (due : List Path) (now : Civil) (e : Entry) → length (entry_line e) ≤ length (entry_line (widest due now e))
 line_widens due now e = go (is_among due e.0)
   where
-    go : (b : Bool) → length (entry_line e) ≤ length (entry_line (cond b (e.0, longer e.1 now) e))
-    go true = let grown = line_grows e.0 e.1 (longer e.1 now) (length (moment_text now) - length (moment_text e.1)) (longer_length e.1 now) in omega (arith, grown)
+    go : (b : Bool) → length (entry_line e) ≤ length (entry_line (cond b (e.0, longer_moment e.1 now) e))
+    go true = let grown = line_grows e.0 e.1 (longer_moment e.1 now) (length (moment_text now) - length (moment_text e.1)) (longer_length e.1 now) in omega (arith, grown)
     go false = omega arith
 
 -- ---- texts
@@ -95,7 +95,7 @@ among_more due log name = list_any-append (bytes_eq name) due (log ∷ []) ∙ a
 
 -- an entry of another name
 other_same : (due : List Path) (log : Path) (now : Civil) (e : Entry) → bytes_eq log e.0 ≡ false → widest (due ++ log ∷ []) now e ≡ widest due now e
-other_same due log now e other = ap (λ b. cond b (e.0, longer e.1 now) e) (among_more due log e.0 ∙ (ap (λ b. is_among due e.0 || b) (bytes_swapped log e.0 other) ∙ or-false (is_among due e.0)))
+other_same due log now e other = ap (λ b. cond b (e.0, longer_moment e.1 now) e) (among_more due log e.0 ∙ (ap (λ b. is_among due e.0 || b) (bytes_swapped log e.0 other) ∙ or-false (is_among due e.0)))
 
 -- a log that the table lacks
 pub lacked_same : (due : List Path) (log : Path) (now : Civil) (es : List Entry) → is_some (moment_of es log) ≡ false → map (widest (due ++ log ∷ []) now) es ≡ map (widest due now) es
@@ -107,14 +107,14 @@ lacked_same due log now (e ∷ es) lacks =
 -- a log that is due already
 pub due_same : (due : List Path) (log : Path) (now : Civil) (es : List Entry) → is_among due log ≡ true → map (widest (due ++ log ∷ []) now) es ≡ map (widest due now) es
 due_same due log now [] is = refl
-due_same due log now (e ∷ es) is = ap (λ x. x ∷ map (widest (due ++ log ∷ []) now) es) (ap (λ b. cond b (e.0, longer e.1 now) e) (among_more due log e.0 ∙ go (bytes_eq e.0 log) refl)) ∙ ap (λ xs. widest due now e ∷ xs) (due_same due log now es is)
+due_same due log now (e ∷ es) is = ap (λ x. x ∷ map (widest (due ++ log ∷ []) now) es) (ap (λ b. cond b (e.0, longer_moment e.1 now) e) (among_more due log e.0 ∙ go (bytes_eq e.0 log) refl)) ∙ ap (λ xs. widest due now e ∷ xs) (due_same due log now es is)
   where
     go : (b : Bool) → bytes_eq e.0 log ≡ b → (is_among due e.0 || b) ≡ is_among due e.0
     go true same = let named : is_among due e.0 ≡ true = ap (is_among due) ((bytes_eq-Decides e.0 log).0 same) ∙ is in ap (λ b. b || true) named ∙ sym named
     go false same = or-false (is_among due e.0)
 
 -- a new one that the table has
-found_grows : (due : List Path) (log : Path) (now was : Civil) (more : ℕ) → is_among due log ≡ false → length (moment_text (longer was now)) ≡ length (moment_text was) + more
+found_grows : (due : List Path) (log : Path) (now was : Civil) (more : ℕ) → is_among due log ≡ false → length (moment_text (longer_moment was now)) ≡ length (moment_text was) + more
     → (es : List Entry) → is_table es ≡ true → moment_of es log ≡ Some was → length (flat_map entry_line (map (widest (due ++ log ∷ []) now) es)) ≡ length (flat_map entry_line (map (widest due now) es)) + more
 unfolding moment_of is_table
 found_grows due log now was more new grown [] table is = absurd (cc is)
@@ -135,10 +135,10 @@ found_grows due log now was more new grown (e ∷ es) table is = go (bytes_eq lo
     go true same at next =
         let named : log ≡ e.0 = (bytes_eq-Decides log e.0).0 same in
         let moment : e.1 ≡ was = cc at in
-        let wide : widest later now e ≡ (e.0, longer e.1 now) = ap (λ b. cond b (e.0, longer e.1 now) e) (among_more due log e.0 ∙ (ap (λ b. is_among due e.0 || b) ((bytes_eq-Decides e.0 log).1 (sym named)) ∙ or-true (is_among due e.0))) in
-        let narrow : widest due now e ≡ e = ap (λ b. cond b (e.0, longer e.1 now) e) (sym (ap (is_among due) named) ∙ new) in
+        let wide : widest later now e ≡ (e.0, longer_moment e.1 now) = ap (λ b. cond b (e.0, longer_moment e.1 now) e) (among_more due log e.0 ∙ (ap (λ b. is_among due e.0 || b) ((bytes_eq-Decides e.0 log).1 (sym named)) ∙ or-true (is_among due e.0))) in
+        let narrow : widest due now e ≡ e = ap (λ b. cond b (e.0, longer_moment e.1 now) e) (sym (ap (is_among due) named) ∙ new) in
         let first : length (entry_line (widest later now e)) ≡ length (entry_line (widest due now e)) + more =
-        ap (λ (x : Entry). length (entry_line x)) wide ∙ (line_grows e.0 e.1 (longer e.1 now) more (subst (λ (x : Civil). length (moment_text (longer x now)) ≡ length (moment_text x) + more) (sym moment) grown) ∙ ap (λ (x : Entry). length (entry_line x) + more) (sym narrow)) in
+        ap (λ (x : Entry). length (entry_line x)) wide ∙ (line_grows e.0 e.1 (longer_moment e.1 now) more (subst (λ (x : Civil). length (moment_text (longer_moment x now)) ≡ length (moment_text x) + more) (sym moment) grown) ∙ ap (λ (x : Entry). length (entry_line x) + more) (sym narrow)) in
         let rest : length (flat_map entry_line (map (widest later now) es)) ≡ length (flat_map entry_line (map (widest due now) es)) = ap (λ (xs : List Entry). length (flat_map entry_line xs)) (lacked_same due log now es (ap (λ n. is_some (moment_of es n)) named ∙ alone)) in
         let old_sum = lines_length (widest due now e) (map (widest due now) es) in
         let new_sum = lines_length (widest later now e) (map (widest later now) es) in
@@ -150,6 +150,6 @@ found_grows due log now was more new grown (e ∷ es) table is = go (bytes_eq lo
         let new_sum = lines_length (widest later now e) (map (widest later now) es) in
         omega (arith, first, rest, old_sum, new_sum)
 
-pub text_grows : (due : List Path) (log : Path) (now was : Civil) (more : ℕ) (es : List Entry) → is_among due log ≡ false → length (moment_text (longer was now)) ≡ length (moment_text was) + more → is_table es ≡ true → moment_of es log ≡ Some was
+pub text_grows : (due : List Path) (log : Path) (now was : Civil) (more : ℕ) (es : List Entry) → is_among due log ≡ false → length (moment_text (longer_moment was now)) ≡ length (moment_text was) + more → is_table es ≡ true → moment_of es log ≡ Some was
     → length (measured_text (due ++ log ∷ []) now es) ≡ length (measured_text due now es) + more
 text_grows due log now was more es new grown table is = let lines = found_grows due log now was more new grown es table is in omega (arith, lines)

@@ -7,12 +7,12 @@ use Rattle.lr_state.specs.Written.{moment_text, table_text}
 use Rattle.lr_state.specs.After.{is_among}
 
 -- the longer of the two as a text
-abbrev pub longer : Civil → Civil → Civil
-longer was now = if nat_lt (length (moment_text now)) (length (moment_text was)) then was else now
+abbrev pub longer_moment : Civil → Civil → Civil
+longer_moment was now = if nat_lt (length (moment_text now)) (length (moment_text was)) then was else now
 
 -- the entry with the longer of its moment and now, where its log is due
 abbrev pub widest : List Path → Civil → Entry → Entry
-widest due now e = if is_among due e.0 then (e.0, longer e.1 now) else e
+widest due now e = if is_among due e.0 then (e.0, longer_moment e.1 now) else e
 
 -- The text is measured before any log is rotated: each log that is due has the longer of its old moment and that of the run.
 abbrev pub measured_text : List Path → Civil → List Entry → List ℕ

@@ -4,7 +4,7 @@ ghost use Rattle.lr_rules.specs.declared.path.Path.{Path};
 ghost use Rattle.lr_state.specs.Table.{is_table, moment_of};
 ghost use Rattle.lr_state.specs.Written.{decimal, moment_text};
 ghost use Rattle.lr_state.specs.After.{is_among};
-ghost use Rattle.lr_state.specs.Measured.{longer, measured_text};
+ghost use Rattle.lr_state.specs.Measured.{longer_moment, measured_text};
 
 use crate::state::{State, written_text_is_read};
 use lr_rules::{Civil, Memory, Path};
@@ -53,7 +53,7 @@ fn moment_len(moment: &Civil) -> u64
 
 // By how many bytes the longer of both is longer than the first.
 fn growth(was: &Civil, now: &Civil) -> u64
-    ensures { length (moment_text (longer was.now now.now)) ≡ length (moment_text was.now) + result }
+    ensures { length (moment_text (longer_moment was.now now.now)) ≡ length (moment_text was.now) + result }
 {
     moment_len(now).saturating_sub(moment_len(was))
 }

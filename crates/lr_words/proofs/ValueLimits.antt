@@ -10,7 +10,7 @@ use Rattle.lr_rules.specs.declared.fault.ConfKind.TheVariants as kind
 use Rattle.lr_rules.specs.declared.rule.Count.{Count}
 use Rattle.lr_rules.specs.declared.rule.Count.TheVariants as count
 use Rattle.lr_rules.specs.Limits.{is_small, is_size, is_mode, is_count}
-use Rattle.lr_words.specs.Numbers.{is_number, number_of, number_value, is_minus_one, kept, count_value, weekday_value, size_digits, size_bytes, size_value, is_octal, is_mode_text, mode_value}
+use Rattle.lr_words.specs.Numbers.{is_number, number_of, number_value, is_minus_one, keep_value, count_value, weekday_value, size_digits, size_bytes, size_value, is_octal, is_mode_text, mode_value}
 use Rattle.lr_words.proofs.Numbers.{octal_of}
 
 -- a value behind two tests, the second of which is its limit
@@ -40,7 +40,7 @@ pub count_meets : (word : List ℕ) (c : Count) → count_value word ≡ Ok c �
 unfolding count_value
 count_meets word c h = by (is_minus_one word) (number_value word) refl h
   where
-    by : (all : Bool) (r : Result ℕ ConfKind) → number_value word ≡ r → cond all (Ok count.Always) (kept r) ≡ Ok c → is_count c ≡ true
+    by : (all : Bool) (r : Result ℕ ConfKind) → number_value word ≡ r → cond all (Ok count.Always) (keep_value r) ≡ Ok c → is_count c ≡ true
     by true r at h = let same : count.Always ≡ c = cc in ap is_count (sym same)
     by false (Ok n) at h = let same : count.Keep n ≡ c = cc in ap is_count (sym same) ∙ number_meets word n at
     by false (Err k) at h = absurd (cc)

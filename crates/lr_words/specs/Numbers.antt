@@ -37,13 +37,13 @@ weekday_value word = if is_number word && nat_le (number_of word) 7 then Ok (num
 abbrev pub is_minus_one : List ℕ → Bool
 is_minus_one word = bytes_eq word (codes "-1")
 
-abbrev pub kept : Result ℕ ConfKind → Result Count ConfKind
-kept (Ok n) = Ok (count.Keep n)
-kept (Err k) = Err k
+abbrev pub keep_value : Result ℕ ConfKind → Result Count ConfKind
+keep_value (Ok n) = Ok (count.Keep n)
+keep_value (Err k) = Err k
 
 -- how many members are kept; by -1 all are
 unfoldable pub count_value : List ℕ → Result Count ConfKind
-count_value word = if is_minus_one word then Ok count.Always else kept (number_value word)
+count_value word = if is_minus_one word then Ok count.Always else keep_value (number_value word)
 
 -- ---- sizes
 

@@ -21,14 +21,15 @@ use Rattle.lr_words.specs.declared.taboo.TabooItems.{TabooItems}
 use Rattle.lr_match.specs.declared.taboo.Taboo.{Taboo}
 use Rattle.lr_match.specs.Taboos.{taboo_after}
 use Rattle.lr_conf.specs.declared.draft.Draft.{Draft}
-use Rattle.lr_forms.specs.Says.{line_of, closes, said}
+use Rattle.lr_forms.specs.Says.{line_of, closes_definition, item_says}
 use Rattle.lr_conf.specs.Fields.{last_or}
 use Rattle.lr_conf.specs.Rules.{rule_of}
 use Rattle.lr_conf.specs.Scripts.{script_fault}
 use Rattle.lr_conf.specs.Meaning.{Line, line_file, Read, Spoiled, End, Cut, OutsideLine, stands, spoiled}
 use Rattle.lr_conf.specs.Meaning.{file_ends, breaks_off, Meaning}
-use Rattle.lr_conf.specs.Meaning.{◌and◌, nothing, told, conf, of_line, of_spoilt, opened, or_line, past, ends, notice_of}
-use Rattle.lr_conf.specs.Meaning.{notice_past, line_faults, line_fault, said_behind, asks, asked, bans, after_bans, banned}
+use Rattle.lr_conf.specs.Meaning.{◌and◌, nothing, only_faults, conf, of_line, of_spoilt, opened_at, or_line, outside_line, ends}
+use Rattle.lr_conf.specs.Meaning.{notice_of, notice_past, line_faults, line_fault, said_behind}
+use Rattle.lr_conf.specs.Meaning.{asks, asked, bans, after_bans, banned}
 use Rattle.lr_conf.specs.Stops.{layer_faults, include_of}
 use Rattle.lr_conf.specs.Setting.{default_fields, with_set}
 
@@ -70,7 +71,7 @@ turned true (Some at) s = record s { place = Good; fields = s.defaults; scripts 
 turned true None s = record s { place = Dropped; words = []; first = None }
 
 abbrev pub outside : State → OutsideLine → State
-outside s (stands at brace v) = turned brace (opened s.first (stands at brace v)) (spoken s at v)
+outside s (stands at brace v) = turned brace (opened_at s.first (stands at brace v)) (spoken s at v)
 outside s (spoiled f) = s
 outside s file_ends = without_names s
 outside s breaks_off = without_names s
@@ -92,8 +93,9 @@ with_said s (says.Bad k) = record s { place = Dropped }
 with_said s v = s
 
 abbrev pub good : State → Line → State
-good s (Read file i) = if closes i then record s { place = Outside; words = []; first = None; fields = default_fields } else
-    with_said s (said true i)
+good s (Read file i) =
+    if closes_definition i then record s { place = Outside; words = []; first = None; fields = default_fields }
+    else with_said s (item_says true i)
 good s (Spoiled f) = record s { place = Dropped }
 good s (End file) = left s
 good s Cut = left s
@@ -102,7 +104,7 @@ abbrev pub dropped : State → Line → State
 dropped s e = if ends e then left s else s
 
 abbrev pub step : Place → State → Line → State
-step Outside s e = outside s (past e)
+step Outside s e = outside s (outside_line e)
 step Good s e = good s e
 step Dropped s e = dropped s e
 
@@ -117,14 +119,14 @@ first_of s = or_line s.first 0
 
 abbrev pub gives_good : State → Line → Meaning
 gives_good s (Read file i) =
-    if closes i then record { rules = rule_of file (first_of s) s.words s.fields ∷ []; notices = []; faults = [] }
-    else said_inside file (line_of i) (said_behind s.scripts (said true i))
-gives_good s (Spoiled f) = told (f ∷ [])
-gives_good s (End file) = told (conf file kind.NoBrace (first_of s) ∷ [])
+    if closes_definition i then record { rules = rule_of file (first_of s) s.words s.fields ∷ []; notices = []; faults = [] }
+    else said_inside file (line_of i) (said_behind s.scripts (item_says true i))
+gives_good s (Spoiled f) = only_faults (f ∷ [])
+gives_good s (End file) = only_faults (conf file kind.NoBrace (first_of s) ∷ [])
 gives_good s Cut = nothing
 
 abbrev pub gives_outside : State → Line → Meaning
-gives_outside s e = of_line (line_file e) s.first (past e)
+gives_outside s e = of_line (line_file e) s.first (outside_line e)
 
 abbrev pub gives : Place → State → Line → Meaning
 gives Outside s e = gives_outside s e
@@ -145,11 +147,11 @@ is_inside p = true
 
 -- the file that a line asks for, and what it makes taboo
 abbrev pub asks_at : Place → Line → Option Include
-asks_at Outside e = asks (past e)
+asks_at Outside e = asks (outside_line e)
 asks_at p e = None
 
 abbrev pub bans_at : Place → Line → Option (Bool × TabooItems)
-bans_at Outside e = bans (past e)
+bans_at Outside e = bans (outside_line e)
 bans_at p e = None
 
 -- ---- drafts
@@ -212,7 +214,7 @@ abbrev pub TookIn : Draft → Draft → Path → Line → Result (Option Include
 TookIn old new file e (Ok include) = (lines : List Line) → coming_from old (e ∷ lines) ≡ coming_from new lines
 TookIn old new file e (Err stop.Memory) = (lines : List Line) → coming_from new lines ≡ coming_from old lines
 TookIn old new file e (Err fault) = (lines : List Line) → coming_from old (e ∷ lines)
-    ≡ (told (layer_faults file fault) and coming_from new lines)
+    ≡ (only_faults (layer_faults file fault) and coming_from new lines)
 
 -- the file for which the answer asks is that of the line
 abbrev pub AsksIn : Draft → Draft → Line → Result (Option Include) LayerStop → Type 0
