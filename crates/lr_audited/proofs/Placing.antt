@@ -9,7 +9,7 @@ use Rattle.std.proofs.lemmas.List.Elements.{Contains-append_cases}
 use Rattle.lr_rules.specs.declared.path.Path.{Path}
 use Rattle.lr_kept.specs.Begun.{Found, place_in}
 use Rattle.lr_audited.specs.declared.line.Line.{Line}
-use Rattle.lr_audited.specs.Known.{ArePlaces}
+use Rattle.lr_audited.specs.InternalKnown.{ArePlaces}
 use Rattle.lr_audited.specs.Lines.{stranger, IsLine, is_known, is_stranger, AreLines}
 use Rattle.lr_kept.proofs.Elements.{contains_from}
 

@@ -1,6 +1,6 @@
 pub mod Audits
 pub mod Gaps
-pub mod Known
+pub mod InternalKnown
 pub mod Lines
 pub mod Removed
 pub mod Unlinked

@@ -1,7 +1,7 @@
 // The line of each file, found by its path.
 ghost use Rattle.std.specs.Prelude.{◌≡◌, ◌<◌, ◌++◌, ◌∷◌, [], length, slice_index_or, IfOk, OnOk};
 ghost use Rattle.lr_kept.specs.Begun.{place_in};
-ghost use Rattle.lr_audited.specs.Known.{IsIndexed};
+ghost use Rattle.lr_audited.specs.InternalKnown.{IsIndexed};
 ghost use Rattle.lr_audited.specs.Lines.{stranger, IsLine, AreLines};
 
 use crate::known::Known;

@@ -3,7 +3,7 @@ use Rattle.std.specs.Str.{bytes_eq}
 use Rattle.lr_kept.specs.Begun.{Found, place_in}
 use Rattle.lr_kept.proofs.Places.{place_inserted}
 use Rattle.lr_audited.specs.declared.line.Line.{Line}
-use Rattle.lr_audited.specs.Known.{ArePlaces}
+use Rattle.lr_audited.specs.InternalKnown.{ArePlaces}
 use Rattle.lr_audited.proofs.Placing.{places_more}
 use Rattle.lr_audited.proofs.knowing.add_known.Goals as goal
 

@@ -1,6 +1,6 @@
 use Rattle.std.proofs.Common.{◌≡◌, ◌++◌, length}
 use Rattle.std.specs.Vec.Iter.{into_iter_items, into_iter_len}
-use Rattle.lr_audited.specs.Known.{IsIndexed}
+use Rattle.lr_audited.specs.InternalKnown.{IsIndexed}
 use Rattle.lr_audited.proofs.knowing.known_of.Given as goal
 
 abbrev pub invariant-loop-line : goal.invariant-loop-line
