@@ -1,7 +1,7 @@
 //! The acts of a run: the steps of its plan, made on a host.
 //!
 //! The contract above it: what the acts add to what came before, the marks, the faults and the entries, is by one
-//! definition, `SetsDone` of `lr_plan`; each fault has its cause. Begin with `act`, over the steps of `lr_planning::steps_of`:
+//! definition, `SetsDone` of `lr_plan`; each fault has its cause. Begin with `act`, over the steps of `lr_plan::steps_of`:
 //!
 //! ```text
 //! let mut progress = Progress { marks, faults, buffer: Vec::new(alloc) };

@@ -1,4 +1,3 @@
-pub mod Adding
 pub mod Hindrances
 mod Making
 mod Short

@@ -1,7 +1,7 @@
 use Rattle.std.proofs.Common.{map}
 use Rattle.lr_plan.specs.Steps.{removals, directory, move}
-use Rattle.lr_planning.proofs.Adding.{added_to_three}
-use Rattle.lr_planning.proofs.steps.add_rotation.Goals as goal
+use Rattle.lr_plan.proofs.Adding.{added_to_three}
+use Rattle.lr_plan.proofs.steps.add_rotation.Goals as goal
 
 pub returns : goal.returns
 returns c =

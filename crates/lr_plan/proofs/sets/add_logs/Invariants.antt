@@ -1,7 +1,7 @@
 use Rattle.std.proofs.Common.{◌≡◌, ◌++◌, take}
 use Rattle.std.specs.List.{flat_map}
 use Rattle.lr_plan.specs.Steps.{rotation_of, retirement_of}
-use Rattle.lr_planning.proofs.sets.add_logs.Given as goal
+use Rattle.lr_plan.proofs.sets.add_logs.Given as goal
 
 abbrev pub invariant-loop-log : goal.invariant-loop-log
 invariant-loop-log l = record {

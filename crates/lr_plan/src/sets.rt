@@ -4,8 +4,9 @@ ghost use Rattle.std.specs.List.{flat_map};
 ghost use Rattle.lr_rules.specs.declared.fault.Phase.TheVariants as phase;
 ghost use Rattle.lr_plan.specs.Steps.{program, retirement_of, rotation_of, steps_of_log, single_steps, shared_steps, steps_of_set};
 
+use crate::plan::{LogPlan, SetPlan};
+use crate::step::{SetSteps, Step};
 use crate::steps::{add_all, add_program, add_retirement, add_rotation};
-use lr_plan::{LogPlan, SetPlan, SetSteps, Step};
 use lr_rules::{Listed, Memory, Phase};
 use lr_scripts::Command;
 use std::alloc::Global;

@@ -1,7 +1,7 @@
 use Rattle.std.proofs.Common.{[], ◌∷◌, ◌++◌, ap, ◌∙◌}
 use Rattle.lr_plan.specs.declared.step.Step.TheVariants as step
-use Rattle.lr_planning.proofs.Adding.{added_one_by_one}
-use Rattle.lr_planning.proofs.steps.add_final_name.Goals as goal
+use Rattle.lr_plan.proofs.Adding.{added_one_by_one}
+use Rattle.lr_plan.proofs.steps.add_final_name.Goals as goal
 
 pub returns : goal.returns
 returns c =

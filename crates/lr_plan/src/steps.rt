@@ -6,9 +6,10 @@ ghost use Rattle.lr_plan.specs.Steps.{input_of, on_of, program, removal, removal
 ghost use Rattle.lr_plan.specs.Steps.{anew, made_anew};
 ghost use Rattle.lr_plan.specs.Steps.{rotation_of, finishing, retirement_of, step_if};
 
+use crate::plan::LogPlan;
+use crate::step::Step;
 use lr_chain::{Move, Ready};
 use lr_copy::Job;
-use lr_plan::{LogPlan, Step};
 use lr_rules::{Make, Memory, Path, Phase, Text, text_of};
 use lr_scripts::{Command, Removal};
 use std::alloc::Global;
