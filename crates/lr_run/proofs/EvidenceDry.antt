@@ -1,5 +1,5 @@
 -- The evidence of what a dry run did in its entries, from the values that it came to.
-use Rattle.std.proofs.Common.{◌≡◌, ℕ, true, List, [], ◌++◌, Option, Some, None, Ok, refl, sym, subst}
+use Rattle.std.proofs.Common.{◌≡◌, ℕ, true, List, [], ◌++◌, Option, Ok, refl, sym, subst}
 use Rattle.lr_rules.specs.declared.clock.Clock.{Clock}
 use Rattle.lr_rules.specs.declared.fault.Fault.{Fault}
 use Rattle.lr_rules.specs.declared.path.Path.{Path}
@@ -13,20 +13,14 @@ use Rattle.lr_looks.specs.Found.{FoundLog, paths_of}
 use Rattle.lr_run.specs.InternalDry as old
 use Rattle.lr_run.specs.InternalDry.{PlanFollows, Plans, Tries}
 use Rattle.lr_run.specs.Saw.{Saw, ShowsStateFile, by_dir, by_none, ShowsSaw}
-use Rattle.lr_run.specs.InternalTrying.{PlanFollowsBy}
 use Rattle.lr_run.proofs.Knowing.{is_known}
 
 -- an empty text says an empty table
 none_said : (text : List ℕ) (table : List Row) → text ≡ [] → TextSaysOnly text (Ok table) → table ≡ []
 none_said text table none says = let e : Ok table ≡ Ok [] = (subst (λ (bytes : List ℕ). TextSaysOnly bytes (Ok table)) none says).0 in cc
 
--- what follows from what was seen, by its parts
-followed : (rules : List Rule) (saw : Saw) (clock : Clock) (asked : Asked) (plan : Option Plan) (own : List Fault) → PlanFollowsBy rules saw clock asked plan own → PlanFollows rules saw.sets (paths_of saw.kept) saw.table clock asked plan own
-followed rules saw clock asked (Some plan) own f = (f.0.small, f.0.is, f.1)
-followed rules saw clock asked None own f = f
-
 -- a dry run that saw this
-pub tries_seen : (state : Path) (rules : List Rule) (clock : Clock) (asked : Asked) (saw : Saw) (plan : Option Plan) (own : List Fault) (ts dir reads looks : List Entry) → ts ≡ dir ++ (reads ++ looks) → ShowsSaw true state rules saw dir reads looks → PlanFollowsBy rules saw clock asked plan own
+pub tries_seen : (state : Path) (rules : List Rule) (clock : Clock) (asked : Asked) (saw : Saw) (plan : Option Plan) (own : List Fault) (ts dir reads looks : List Entry) → ts ≡ dir ++ (reads ++ looks) → ShowsSaw true state rules saw dir reads looks → PlanFollows rules saw.sets (paths_of saw.kept) saw.table clock asked plan own
     → Tries state rules clock asked plan (saw.faults ++ own) ts
 tries_seen state rules clock asked saw plan own ts dir reads looks joined seen follows = go seen.file
   where
@@ -37,7 +31,7 @@ tries_seen state rules clock asked saw plan own ts dir reads looks joined seen f
       of_plan = own;
       faults_are = refl;
       shown = seen.sets.shown;
-      follows = subst (λ (kept : List FoundLog). PlanFollows rules saw.sets (paths_of kept) saw.table clock asked plan own) seen.sets.kept_are (followed rules saw clock asked plan own follows);
+      follows = subst (λ (kept : List FoundLog). PlanFollows rules saw.sets (paths_of kept) saw.table clock asked plan own) seen.sets.kept_are follows;
     }
 
     go : ShowsStateFile true state saw.text saw.stale dir reads → Tries state rules clock asked plan (saw.faults ++ own) ts

@@ -105,7 +105,7 @@ module _ (state : Path) (rules : Rules) (clock : Clock) (asked : Asked) where
   -- a dry one
   pub tried_left : (w : Work) → ShowsWork true state rules.sets clock asked w → DidNothing w → RunLeaves true state asked clock rules (Some w.plan) (faults_of w) (run_entries true state clock rules w)
   tried_left w shows out = subst (λ (fs : List Fault). Tries state rules.sets clock asked (Some w.plan) fs (run_entries true state clock rules w)) (sym own)
-      (tries_seen state rules.sets clock asked w.saw (Some w.plan) w.plan.faults (run_entries true state clock rules w) w.dir w.reads w.looks refl shows.seen (shows.plan, refl))
+      (tries_seen state rules.sets clock asked w.saw (Some w.plan) w.plan.faults (run_entries true state clock rules w) w.dir w.reads w.looks refl shows.seen (shows.plan.small, shows.plan.is, refl))
     where
       own : faults_of w ≡ w.saw.faults ++ w.plan.faults
       own = ap (λ acts. w.saw.faults ++ (w.plan.faults ++ act_faults acts)) out.acts ∙ ap (λ (fs : List Fault). w.saw.faults ++ fs) (append-nil w.plan.faults)

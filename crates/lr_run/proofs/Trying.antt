@@ -43,7 +43,7 @@ use Rattle.lr_run.specs.Internal.{plan_if, faults_if}
 use Rattle.lr_run.specs.Ran.{halted, came, RanSo}
 use Rattle.lr_run.specs.Paths.{measured_of}
 use Rattle.lr_run.specs.Saw.{Saw, ShowsStateFile, by_dir, by_none, ShowsSaw}
-use Rattle.lr_run.specs.InternalTrying.{PlanFollowsBy, PlansOn, PlansByOn, not_known, by_text, TriesOn}
+use Rattle.lr_run.specs.InternalTrying.{PlansOn, PlansByOn, not_known, by_text, TriesOn}
 use Rattle.lr_run.specs.Work.{Work, no_acts}
 use Rattle.lr_run.proofs.Knowing.{known_text}
 use Rattle.lr_run.proofs.Works.{plan_free, none_fell, some_of_whole, none_sights, none_shown}
@@ -76,11 +76,6 @@ follows_free rules sets kept table clock asked (Some plan) own x y k f e = adds_
 follows_free rules sets kept table clock asked None own x y k f e = adds_free x y own k k e
     (subst (λ fs. AreFree fs) (sym f.1) (record { calls = refl; scripts = refl; none_around = ((λ h. h), tt) })) (none_fell k)
 
--- so it is in what was seen
-follows_by : (rules : List Rule) (saw : Saw) (clock : Clock) (asked : Asked) (told : Option Plan) (own : List Fault) → PlanFollows rules saw.sets (paths_of saw.kept) saw.table clock asked told own → PlanFollowsBy rules saw clock asked told own
-follows_by rules saw clock asked (Some plan) own f = (record { is = f.1; small = f.0 }, f.2)
-follows_by rules saw clock asked None own f = f
-
 -- ---- the looks
 
 pub planned : {E : Type 0} (r : Result (Option Plan) E) (state : Path) (rules : List Rule) (looks : Looks) (table : List Row) (clock : Clock) (asked : Asked) (x y z : List Fault) {o n : Option Journal} → Left (LooksAtAll (reserved_by state) rules looks x y) o n
@@ -94,7 +89,7 @@ planned (Ok told) state rules looks table clock asked x y z l h = left_as l (λ 
       sets = record { shown = g.shown; words_are = refl; kept_are = refl };
       own = h.0;
       faults_are = h.1 ∙ (ap (λ fs. fs ++ h.0) g.faults_are ∙ append_assoc x g.own h.0);
-      follows = follows_by rules saw clock asked told h.0 (subst (λ (ks : List Path). PlanFollows rules looks.sets ks table clock asked told h.0) g.kept_are h.2);
+      follows = subst (λ (ks : List Path). PlanFollows rules looks.sets ks table clock asked told h.0) g.kept_are h.2;
     })
 
 pub planned_went : {E : Type 0} (r : Result (Option Plan) E) (rules : List Rule) (sets : List SetLooks) (kept : List Path) (table : List Row) (clock : Clock) (asked : Asked) (x y z : List Fault) (k l : Counts) → Went x y k l
@@ -150,12 +145,12 @@ planned_so state rules clock asked told a later text table stale dir reads looks
       sets = record { shown = p.sets.shown; words_are = p.sets.words_are; kept_are = p.sets.kept_are };
     }
 
-    go : (told : Option Plan) → PlanFollowsBy rules.sets p.saw clock asked told p.own → TriesOn state rules clock asked a (Ok (record { plan = told; faults = later })) (dir ++ (reads ++ looks))
+    go : (told : Option Plan) → PlanFollows rules.sets p.saw.sets (paths_of p.saw.kept) p.saw.table clock asked told p.own → TriesOn state rules clock asked a (Ok (record { plan = told; faults = later })) (dir ++ (reads ++ looks))
     go (Some plan) f =
         let w : Work = record { saw = saw; plan = plan; acts = no_acts; dir = dir; reads = reads; looks = looks; did = [] } in (
           Some w,
-          came w refl (record { seen = seen; plan = record { is = f.0.is; small = f.0.small } })
-              (record { plan = refl; faults = p.faults_are ∙ ap (λ (fs : List Fault). a ++ (p.saw.faults ++ fs)) (f.1 ∙ sym (append-nil plan.faults)) }, record { acts = refl; did = refl }) refl,
+          came w refl (record { seen = seen; plan = record { is = f.1; small = f.0 } })
+              (record { plan = refl; faults = p.faults_are ∙ ap (λ (fs : List Fault). a ++ (p.saw.faults ++ fs)) (f.2 ∙ sym (append-nil plan.faults)) }, record { acts = refl; did = refl }) refl,
         )
     go None f = (
       None,
