@@ -17,6 +17,6 @@ mod stop;
 mod zone;
 
 pub use asked::{Asked, asked_of};
-pub use given::{given_text, here_given, is_alone, path_of, seconds, words_given};
-pub use said::put_version;
+pub use given::{given_text, here_given, path_of, seconds, words_given};
+pub use said::{ended, tells_itself};
 pub use stop::{GivenStop, outcome_of};

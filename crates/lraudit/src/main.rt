@@ -13,9 +13,9 @@ mod said;
 use crate::said::USAGE;
 use lr_adapt::{RealHost, RealSink};
 use lr_audit::lraudit;
-use lr_given::{asked_of, is_alone, outcome_of, put_version, seconds, words_given};
+use lr_given::{asked_of, ended, outcome_of, seconds, tells_itself, words_given};
 use lr_host::Sink;
-use lr_report::{Outcome, printed, status};
+use lr_report::{Outcome, printed};
 use lr_rules::Text;
 use std::process::ExitCode;
 
@@ -39,27 +39,17 @@ fn run<K: Sink>(rt: &HostRuntime, words: &[Text], out: &mut K) -> Outcome {
     )
 }
 
-// The status of a call. Behind bad words the usage is told, on standard error.
-fn ended(rt: &HostRuntime, outcome: &Outcome) -> ExitCode {
-    if let Outcome::BadWords = outcome {
-        let _ = eprint!(rt; "{USAGE}");
+fn answered<K: Sink>(rt: &HostRuntime, words: &[Text], out: &mut K) -> u8 {
+    if tells_itself(rt, words, "lraudit", USAGE) {
+        return 0;
     }
-    ExitCode::from(status(outcome))
+    ended(rt, &run(rt, words, out), USAGE)
 }
 
 fn main(rt: HostRuntime) -> ExitCode {
     let mut out = RealSink::new(rt.stdout());
-    let words = match words_given(&rt, rt.alloc()) {
-        Ok(words) => words,
-        Err(stop) => return ended(&rt, &printed(outcome_of(stop), &mut out)),
-    };
-    if is_alone(&words, b"--help".as_slice()) {
-        let _ = print!(rt; "{USAGE}");
-        return ExitCode::from(0);
-    }
-    if is_alone(&words, b"--version".as_slice()) {
-        put_version(&rt, "lraudit");
-        return ExitCode::from(0);
-    }
-    ended(&rt, &run(&rt, &words, &mut out))
+    ExitCode::from(match words_given(&rt, rt.alloc()) {
+        Ok(words) => answered(&rt, &words, &mut out),
+        Err(stop) => ended(&rt, &printed(outcome_of(stop), &mut out), USAGE),
+    })
 }

@@ -14,7 +14,7 @@ mod said;
 use crate::said::USAGE;
 use lr_adapt::{RealHost, RealSink};
 use lr_cat::{CatOutcome, cat_status, lrcat};
-use lr_given::{here_given, is_alone, outcome_of, put_version, seconds, words_given};
+use lr_given::{here_given, outcome_of, seconds, tells_itself, words_given};
 use lr_host::Sink;
 use lr_report::{Outcome, printed, status};
 use lr_rules::Text;
@@ -55,19 +55,17 @@ fn run<N: Sink>(rt: &HostRuntime, words: &[Text], notes: &mut N) -> u8 {
     ended(rt, &outcome)
 }
 
+fn answered<N: Sink>(rt: &HostRuntime, words: &[Text], notes: &mut N) -> u8 {
+    if tells_itself(rt, words, "lrcat", USAGE) {
+        return 0;
+    }
+    run(rt, words, notes)
+}
+
 fn main(rt: HostRuntime) -> ExitCode {
     let mut notes = RealSink::new(rt.stderr());
-    let words = match words_given(&rt, rt.alloc()) {
-        Ok(words) => words,
-        Err(stop) => return ExitCode::from(nothing(outcome_of(stop), &mut notes)),
-    };
-    if is_alone(&words, b"--help".as_slice()) {
-        let _ = print!(rt; "{USAGE}");
-        return ExitCode::from(0);
-    }
-    if is_alone(&words, b"--version".as_slice()) {
-        put_version(&rt, "lrcat");
-        return ExitCode::from(0);
-    }
-    ExitCode::from(run(&rt, &words, &mut notes))
+    ExitCode::from(match words_given(&rt, rt.alloc()) {
+        Ok(words) => answered(&rt, &words, &mut notes),
+        Err(stop) => nothing(outcome_of(stop), &mut notes),
+    })
 }
