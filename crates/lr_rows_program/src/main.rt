@@ -51,7 +51,7 @@ fn tell_word(rt: &HostRuntime, host: &mut Machine, words: Words, word: &str) -> 
     }
 }
 
-fn tell_all(rt: &HostRuntime, host: &mut Machine) -> Result<bool> {
+fn tell_all(rt: &HostRuntime, host: &mut Machine) -> Result<ExitCode> {
     let mut all = true;
     let mut words = Words::Files(Verdict::Good);
     for word in env::args(rt)?.skip(1) {
@@ -64,14 +64,10 @@ fn tell_all(rt: &HostRuntime, host: &mut Machine) -> Result<bool> {
             None => all = tell_word(rt, host, words, word.as_str())? && all,
         }
     }
-    Ok(all)
+    Ok(ExitCode::from(if all { 0 } else { 1 }))
 }
 
 fn main(rt: HostRuntime) -> Result<ExitCode> {
     let mut host = RealHost::new(rt.clone()?);
-    Ok(if tell_all(&rt, &mut host)? {
-        ExitCode::SUCCESS
-    } else {
-        ExitCode::from(1)
-    })
+    tell_all(&rt, &mut host)
 }
