@@ -25,7 +25,7 @@ use Rattle.lr_host.proofs.Lists.{in_front, in_back, to_flat, of_flat}
 use Rattle.lr_due.specs.declared.answer.Due.{Due}
 use Rattle.lr_due.specs.declared.answer.Due.TheVariants as due
 use Rattle.lr_due.specs.Due.{due_of}
-use Rattle.lr_state.specs.Table.{Entry as Row, moment_of}
+use Rattle.lr_state.specs.Table.{StateEntry as Row, moment_of}
 use Rattle.lr_family.specs.declared.stand.Member.{Member}
 use Rattle.lr_family.specs.declared.stand.Stand.{Stand}
 use Rattle.lr_family.specs.Parts.{IsMember}

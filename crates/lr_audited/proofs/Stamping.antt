@@ -12,7 +12,7 @@ use Rattle.lr_rules.specs.Dated.{IsDatedAt}
 use Rattle.lr_stamps.specs.Dated.{clock_seconds}
 use Rattle.lr_due.specs.declared.answer.Due.{Due}
 use Rattle.lr_due.specs.declared.answer.Due.TheVariants as due
-use Rattle.lr_state.specs.Table.{Entry as Row}
+use Rattle.lr_state.specs.Table.{StateEntry as Row}
 use Rattle.lr_family.specs.declared.stand.Member.{Member}
 use Rattle.lr_family.specs.declared.stand.Stand.{Stand}
 use Rattle.lr_family.specs.Places.{IsPlaceOf, AreNamed}

@@ -6,7 +6,7 @@ ghost use Rattle.lr_rules.specs.declared.path.Path.{Path};
 ghost use Rattle.lr_rules.specs.declared.rules.Rules.{Rules};
 ghost use Rattle.lr_host.specs.declared.entry.Entry.{Entry};
 ghost use Rattle.lr_host.specs.Lists.{AreDistinct};
-ghost use Rattle.lr_state.specs.Table.{Entry as Row};
+ghost use Rattle.lr_state.specs.Table.{StateEntry as Row};
 ghost use Rattle.lr_plan.specs.Asked.{asking};
 ghost use Rattle.lr_plan.specs.declared.looks.Looks.{Looks};
 ghost use Rattle.lr_plan.specs.declared.looks.SetLooks.{SetLooks};

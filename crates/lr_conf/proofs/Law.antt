@@ -20,7 +20,7 @@ use Rattle.lr_forms.specs.Says.{item_says}
 use Rattle.lr_conf.specs.Fields.{fields_of}
 use Rattle.lr_conf.specs.Rules.{rule_of}
 use Rattle.lr_conf.specs.Scripts.{script_fault}
-use Rattle.lr_conf.specs.Meaning.{Line, Read, Spoiled, End, Cut, OutsideLine, stands, spoiled, file_ends, breaks_off, Meaning, ◌and◌, only_faults, conf, before, through, behind as behind_first, set_of, set_past, settings, names_past, settles, pending, first_line, first_pending, words_pending, outside_line, notice_of, line_fault, script_of, line_script, scripts_in, script_sets, said_behind, within, body_of, drops, is_bad_line, set_in, notice_in, fault_in, broken_fault, spoilt_fault, ends, opens_definition, of_end, of_definition, of_body, of_opening, of_line, of_spoilt, meaning, line_file, or_line}
+use Rattle.lr_conf.specs.Meaning.{ConfLine, Read, Spoiled, End, Cut, OutsideLine, stands, spoiled, file_ends, breaks_off, Meaning, ◌and◌, only_faults, conf, before, through, behind as behind_first, set_of, set_past, settings, names_past, settles, pending, first_line, first_pending, words_pending, outside_line, notice_of, line_fault, script_of, line_script, scripts_in, script_sets, said_behind, within, body_of, drops, is_bad_line, set_in, notice_in, fault_in, broken_fault, spoilt_fault, ends, opens_definition, of_end, of_definition, of_body, of_opening, of_line, of_spoilt, meaning, line_file, or_line}
 use Rattle.lr_conf.specs.Setting.{with_set, default_fields}
 use Rattle.lr_conf.specs.Internal.Draft.{State, run, with_said, scripted, said_inside, outside, turned}
 use Rattle.lr_conf.proofs.Settings.{fields-push}
@@ -101,11 +101,11 @@ st place d ws first f ps = record { place = place; defaults = d; words = ws; fir
 abbrev behind : List OutsideLine → Fields → List Phase → State
 behind out f ps = st Outside (fields_of (settings out)) (words_pending out) (first_pending out) f ps
 
-abbrev pub OutsideLaw : List Line → Type 0
+abbrev pub OutsideLaw : List ConfLine → Type 0
 OutsideLaw es = (out : List OutsideLine) (f : Fields) (ps : List Phase) → run (behind out f ps) es ≡ meaning false out es
 
 -- the meaning of a definition from its lines on that stand behind these
-abbrev rest_of : List Line → ℕ → List (List ℕ) → List Set → List Line → Meaning
+abbrev rest_of : List ConfLine → ℕ → List (List ℕ) → List Set → List ConfLine → Meaning
 rest_of earlier at ws vs es =
     record {
       rules = [];
@@ -114,20 +114,20 @@ rest_of earlier at ws vs es =
     }
     and (cond (list_any drops (body_of earlier (before ends es))) (only_faults (filter_map broken_fault (behind_first drops (body_of earlier (before ends es))))) (of_end at ws (fields_of (vs ++ filter_map set_in (body_of earlier (before ends es)))) (find ends es)))
 
-abbrev pub GoodLaw : List Line → Type 0
-GoodLaw es = (out : List OutsideLine) (vs : List Set) (at : ℕ) (ws : List (List ℕ)) (earlier : List Line)
+abbrev pub GoodLaw : List ConfLine → Type 0
+GoodLaw es = (out : List OutsideLine) (vs : List Set) (at : ℕ) (ws : List (List ℕ)) (earlier : List ConfLine)
     → run (st Good (fields_of (settings out)) ws (Some at) (fields_of vs) (scripts_in earlier)) es ≡ (rest_of earlier at ws vs es and meaning true out es)
 
-abbrev pub DroppedLaw : List Line → Type 0
+abbrev pub DroppedLaw : List ConfLine → Type 0
 DroppedLaw es = (out : List OutsideLine) (ws : List (List ℕ)) (first : Option ℕ) (f : Fields) (ps : List Phase) → run (st Dropped (fields_of (settings out)) ws first f ps) es ≡ (of_spoilt (before ends es) and meaning true out es)
 
-pub record Laws (es : List Line) : Type 0 where
+pub record Laws (es : List ConfLine) : Type 0 where
   pub out : OutsideLaw es
   pub good : GoodLaw es
   pub drop : DroppedLaw es
 
 -- outside, behind one more line
-next : (es : List Line) (out : List OutsideLine) (p : OutsideLine) (d : Fields) (ws : List (List ℕ)) (first : Option ℕ) (f : Fields) (ps : List Phase) → OutsideLaw es
+next : (es : List ConfLine) (out : List OutsideLine) (p : OutsideLine) (d : Fields) (ws : List (List ℕ)) (first : Option ℕ) (f : Fields) (ps : List Phase) → OutsideLaw es
     → with_option (set_past p) (fields_of (settings out)) ≡ d
     → cond (settles p) [] (words_pending out ++ words_in (names_past p)) ≡ ws
     → cond (settles p) None (first_with (first_pending out) (names_past p)) ≡ first
@@ -139,14 +139,14 @@ next es out p d ws first f ps law de we fe =
     ∙ law (out ++ p ∷ []) f ps
 
 -- in a definition that this line drops
-next_dropped : (es : List Line) (out : List OutsideLine) (p : OutsideLine) (d : Fields) (f : Fields) (ps : List Phase) → DroppedLaw es
+next_dropped : (es : List ConfLine) (out : List OutsideLine) (p : OutsideLine) (d : Fields) (f : Fields) (ps : List Phase) → DroppedLaw es
     → with_option (set_past p) (fields_of (settings out)) ≡ d
     → run (st Dropped d [] None f ps) es ≡ (of_spoilt (before ends es) and meaning true (out ++ p ∷ []) es)
 next_dropped es out p d f ps law de =
     ap (λ x. run (st Dropped x [] None f ps) es) (sym de ∙ sym (defaults-push out p)) ∙ law (out ++ p ∷ []) [] None f ps
 
 -- in a definition that this line opens
-next_good : (es : List Line) (out : List OutsideLine) (p : OutsideLine) (d : Fields) (ws : List (List ℕ)) (at : ℕ) → GoodLaw es
+next_good : (es : List ConfLine) (out : List OutsideLine) (p : OutsideLine) (d : Fields) (ws : List (List ℕ)) (at : ℕ) → GoodLaw es
     → with_option (set_past p) (fields_of (settings out)) ≡ d
     → run (st Good d ws (Some at) d []) es ≡ (of_definition at ws (settings (out ++ p ∷ [])) es and meaning true (out ++ p ∷ []) es)
 next_good es out p d ws at law de =
@@ -155,11 +155,11 @@ next_good es out p d ws at law de =
 -- ---- outside definitions
 
 -- what follows a line
-abbrev follows : List OutsideLine → OutsideLine → List Line → Meaning
+abbrev follows : List OutsideLine → OutsideLine → List ConfLine → Meaning
 follows out p es = of_opening out p es and meaning (opens_definition p) (out ++ p ∷ []) es
 
 -- a line that leaves pending names, without a brace
-stays : (p : OutsideLine) (es : List Line) → Laws es → (out : List OutsideLine) (f : Fields) (ps : List Phase) → settles p ≡ false → names_past p ≡ None → set_past p ≡ None
+stays : (p : OutsideLine) (es : List ConfLine) → Laws es → (out : List OutsideLine) (f : Fields) (ps : List Phase) → settles p ≡ false → names_past p ≡ None → set_past p ≡ None
     → run (behind out f ps) es ≡ meaning false (out ++ p ∷ []) es
 stays p es l out f ps no_end no_names no_set =
     next es out p (fields_of (settings out)) (words_pending out) (first_pending out) f ps l.out
@@ -168,7 +168,7 @@ stays p es l out f ps no_end no_names no_set =
     (ap (λ b. cond b None (first_with (first_pending out) (names_past p))) no_end ∙ ap (first_with (first_pending out)) no_names ∙ first_none (first_pending out))
 
 -- a line that ends with no brace
-plain-law : (at : ℕ) (v : Said) (es : List Line) → Laws es → (out : List OutsideLine) (f : Fields) (ps : List Phase)
+plain-law : (at : ℕ) (v : Said) (es : List ConfLine) → Laws es → (out : List OutsideLine) (f : Fields) (ps : List Phase)
     → run (outside (behind out f ps) (stands at false v)) es ≡ meaning false (out ++ stands at false v ∷ []) es
 plain-law at (says.Sets v) es l out f ps = next es out (stands at false (says.Sets v)) _ [] None f ps l.out refl refl refl
 plain-law at says.Quiet es l out f ps = next es out (stands at false says.Quiet) _ [] None f ps l.out refl refl refl
@@ -186,7 +186,7 @@ plain-law at (says.Bad k) es l out f ps = next es out (stands at false (says.Bad
 plain-law at (says.BadNames k) es l out f ps = stays (stands at false (says.BadNames k)) es l out f ps refl refl refl
 
 -- a line that ends with a brace
-brace-law : (at : ℕ) (v : Said) (es : List Line) → Laws es → (out : List OutsideLine) (f : Fields) (ps : List Phase)
+brace-law : (at : ℕ) (v : Said) (es : List ConfLine) → Laws es → (out : List OutsideLine) (f : Fields) (ps : List Phase)
     → run (outside (behind out f ps) (stands at true v)) es ≡ follows out (stands at true v) es
 brace-law at (says.Sets v) es l out f ps = next_dropped es out (stands at true (says.Sets v)) _ f ps l.drop refl
 brace-law at says.Quiet es l out f ps = next_dropped es out (stands at true says.Quiet) _ f ps l.drop refl
@@ -207,19 +207,19 @@ brace-law at says.Unknown es l out f ps = next_dropped es out (stands at true sa
 brace-law at (says.Bad k) es l out f ps = next_dropped es out (stands at true (says.Bad k)) _ f ps l.drop refl
 brace-law at (says.BadNames k) es l out f ps = next_dropped es out (stands at true (says.BadNames k)) _ f ps l.drop refl
 
-step-law : (p : OutsideLine) (es : List Line) → Laws es → (out : List OutsideLine) (f : Fields) (ps : List Phase) → run (outside (behind out f ps) p) es ≡ follows out p es
+step-law : (p : OutsideLine) (es : List ConfLine) → Laws es → (out : List OutsideLine) (f : Fields) (ps : List Phase) → run (outside (behind out f ps) p) es ≡ follows out p es
 step-law (stands at false v) es l out f ps = plain-law at v es l out f ps
 step-law (stands at true v) es l out f ps = brace-law at v es l out f ps
 step-law (spoiled e) es l out f ps = stays (spoiled e) es l out f ps refl refl refl
 step-law file_ends es l out f ps = next es out file_ends _ [] None f ps l.out refl refl refl
 step-law breaks_off es l out f ps = next es out breaks_off _ [] None f ps l.out refl refl refl
 
-outside-law : (e : Line) (es : List Line) → Laws es → OutsideLaw (e ∷ es)
+outside-law : (e : ConfLine) (es : List ConfLine) → Laws es → OutsideLaw (e ∷ es)
 outside-law e es l out f ps = ap (λ m. of_line (line_file e) (first_pending out) (outside_line e) and m) (step-law (outside_line e) es l out f ps)
 
 -- ---- dropped definitions
 
-dropped-law : (e : Line) (es : List Line) → Laws es → DroppedLaw (e ∷ es)
+dropped-law : (e : ConfLine) (es : List ConfLine) → Laws es → DroppedLaw (e ∷ es)
 dropped-law (Read file (item.Close line)) es l out ws first f ps = next es out (stands line false says.Close) _ [] None f ps l.out refl refl refl
 dropped-law (Read file (item.Line words names brace stray line)) es l out ws first f ps = l.drop out ws first f ps
 dropped-law (Read file (item.Script word text brace stray line)) es l out ws first f ps = l.drop out ws first f ps
@@ -230,13 +230,13 @@ dropped-law Cut es l out ws first f ps = next es out breaks_off _ [] None f ps l
 -- ---- definitions that no line dropped so far
 
 -- the lines of a body whose reading told a fault
-broken-one : (earlier : List Line) (e : Line) → broken_fault (within earlier e) ≡ spoilt_fault e
+broken-one : (earlier : List ConfLine) (e : ConfLine) → broken_fault (within earlier e) ≡ spoilt_fault e
 broken-one earlier (Read file i) = refl
 broken-one earlier (Spoiled f) = refl
 broken-one earlier (End file) = refl
 broken-one earlier Cut = refl
 
-broken-are : (earlier es : List Line) → filter_map broken_fault (body_of earlier es) ≡ filter_map spoilt_fault es
+broken-are : (earlier es : List ConfLine) → filter_map broken_fault (body_of earlier es) ≡ filter_map spoilt_fault es
 broken-are earlier [] = refl
 broken-are earlier (e ∷ es) =
     ap (λ o. cons_option o (filter_map broken_fault (body_of (earlier ++ e ∷ []) es))) (broken-one earlier e)
@@ -247,7 +247,7 @@ abbrev with_phase : Option Phase → List Phase → List Phase
 with_phase None ps = ps
 with_phase (Some p) ps = ps ++ p ∷ []
 
-scripts-push : (earlier : List Line) (e : Line) → scripts_in (earlier ++ e ∷ []) ≡ with_phase (line_script e) (scripts_in earlier)
+scripts-push : (earlier : List ConfLine) (e : ConfLine) → scripts_in (earlier ++ e ∷ []) ≡ with_phase (line_script e) (scripts_in earlier)
 scripts-push earlier e = filter_map-append (line_script) earlier (e ∷ []) ∙ by (line_script e)
   where
     by : (o : Option Phase) → scripts_in earlier ++ cons_option o [] ≡ with_phase o (scripts_in earlier)
@@ -255,7 +255,7 @@ scripts-push earlier e = filter_map-append (line_script) earlier (e ∷ []) ∙ 
     by (Some p) = refl
 
 -- the meaning of a definition from a line on that says v
-abbrev from_line : List Line → Path → ℕ → Said → ℕ → List (List ℕ) → List Set → List Line → Meaning
+abbrev from_line : List ConfLine → Path → ℕ → Said → ℕ → List (List ℕ) → List Set → List ConfLine → Meaning
 from_line more file line v at ws vs es =
     record {
       rules = [];
@@ -267,7 +267,7 @@ from_line more file line v at ws vs es =
     (of_end at ws (fields_of (vs ++ cons_option (set_of v) (filter_map set_in (body_of more (before ends es))))) (find ends es)))
 
 -- the same, with the fields told
-abbrev ended : List Line → ℕ → List (List ℕ) → List Line → Fields → Meaning
+abbrev ended : List ConfLine → ℕ → List (List ℕ) → List ConfLine → Fields → Meaning
 ended more at ws es f =
     record {
       rules = [];
@@ -280,12 +280,12 @@ abbrev good_state : List OutsideLine → List Set → ℕ → List (List ℕ) �
 good_state out vs at ws ps = st Good (fields_of (settings out)) ws (Some at) (fields_of vs) ps
 
 -- behind a line that says nothing here
-plain_on : (es : List Line) → Laws es → (out : List OutsideLine) (vs : List Set) (at : ℕ) (ws : List (List ℕ)) (more : List Line) (ps : List Phase) → scripts_in more ≡ ps
+plain_on : (es : List ConfLine) → Laws es → (out : List OutsideLine) (vs : List Set) (at : ℕ) (ws : List (List ℕ)) (more : List ConfLine) (ps : List Phase) → scripts_in more ≡ ps
     → run (good_state out vs at ws ps) es ≡ (rest_of more at ws vs es and meaning true out es)
 plain_on es l out vs at ws more ps is = ap (λ x. run (good_state out vs at ws x) es) (sym is) ∙ l.good out vs at ws more
 
 -- behind one that sets a field
-set_on : (es : List Line) → Laws es → (out : List OutsideLine) (vs : List Set) (at : ℕ) (ws : List (List ℕ)) (v : Set) (more : List Line) (ps : List Phase) → scripts_in more ≡ ps
+set_on : (es : List ConfLine) → Laws es → (out : List OutsideLine) (vs : List Set) (at : ℕ) (ws : List (List ℕ)) (v : Set) (more : List ConfLine) (ps : List Phase) → scripts_in more ≡ ps
     → run (st Good (fields_of (settings out)) ws (Some at) (with_set (fields_of vs) v) ps) es
     ≡ (ended more at ws es (fields_of (vs ++ v ∷ filter_map set_in (body_of more (before ends es)))) and meaning true out es)
 set_on es l out vs at ws v more ps is =
@@ -294,13 +294,13 @@ set_on es l out vs at ws v more ps is =
     ∙ ap (λ x. ended more at ws es (fields_of x) and meaning true out es) (append_assoc vs (v ∷ []) (filter_map set_in (body_of more (before ends es))))
 
 -- behind one that drops the definition
-drop_on : (es : List Line) → Laws es → (out : List OutsideLine) (vs : List Set) (at : ℕ) (ws : List (List ℕ)) (more : List Line) (ps : List Phase)
+drop_on : (es : List ConfLine) → Laws es → (out : List OutsideLine) (vs : List Set) (at : ℕ) (ws : List (List ℕ)) (more : List ConfLine) (ps : List Phase)
     → run (st Dropped (fields_of (settings out)) ws (Some at) (fields_of vs) ps) es
     ≡ (only_faults (filter_map broken_fault (body_of more (before ends es))) and meaning true out es)
 drop_on es l out vs at ws more ps =
     l.drop out ws (Some at) (fields_of vs) ps ∙ ap (λ fs. only_faults fs and meaning true out es) (sym (broken-are more (before ends es)))
 
-inside-law : (file : Path) (line : ℕ) (v : Said) (es : List Line) → Laws es → (out : List OutsideLine) (vs : List Set) (at : ℕ) (ws : List (List ℕ)) (ps : List Phase) (more : List Line)
+inside-law : (file : Path) (line : ℕ) (v : Said) (es : List ConfLine) → Laws es → (out : List OutsideLine) (vs : List Set) (at : ℕ) (ws : List (List ℕ)) (ps : List Phase) (more : List ConfLine)
     → scripts_in more ≡ with_phase (script_of v) ps
     → (said_inside file line (said_behind ps v) and run (with_said (good_state out vs at ws ps) v) es) ≡ (from_line more file line (said_behind ps v) at ws vs es and meaning true out es)
 inside-law file line (says.Sets v) es l out vs at ws ps more is = set_on es l out vs at ws v more ps is
@@ -323,7 +323,7 @@ inside-law file line says.Unknown es l out vs at ws ps more is = ap (λ m. only_
 inside-law file line (says.Bad k) es l out vs at ws ps more is = ap (λ m. only_faults (conf file k line ∷ []) and m) (drop_on es l out vs at ws more ps)
 inside-law file line (says.BadNames k) es l out vs at ws ps more is = plain_on es l out vs at ws more ps is
 
-good-law : (e : Line) (es : List Line) → Laws es → GoodLaw (e ∷ es)
+good-law : (e : ConfLine) (es : List ConfLine) → Laws es → GoodLaw (e ∷ es)
 good-law (Read file (item.Close line)) es l out vs at ws earlier =
     ap (λ m. record { rules = rule_of file at ws (fields_of vs) ∷ []; notices = []; faults = [] } and m) (next es out (stands line false says.Close) _ [] None default_fields (scripts_in earlier) l.out refl refl refl)
     ∙ ap (λ s. record { rules = rule_of file at ws (fields_of s) ∷ []; notices = []; faults = [] } and meaning false (out ++ stands line false says.Close ∷ []) es) (sym (append-nil vs))
@@ -338,10 +338,10 @@ good-law (End file) es l out vs at ws earlier =
     ap (λ m. only_faults (conf file kind.NoBrace at ∷ []) and m) (next es out file_ends _ [] None (fields_of vs) (scripts_in earlier) l.out refl refl refl)
 good-law Cut es l out vs at ws earlier = next es out breaks_off _ [] None (fields_of vs) (scripts_in earlier) l.out refl refl refl
 
-pub laws : (es : List Line) → Laws es
+pub laws : (es : List ConfLine) → Laws es
 laws [] = record { out = λ out f ps. refl; good = λ out vs at ws earlier. refl; drop = λ out ws first f ps. refl }
 laws (e ∷ es) = record { out = outside-law e es (laws es); good = good-law e es (laws es); drop = dropped-law e es (laws es) }
 
 -- what a layer that took no line gives
-pub from_start : (lines : List Line) → run (st Outside default_fields [] None default_fields []) lines ≡ meaning false [] lines
+pub from_start : (lines : List ConfLine) → run (st Outside default_fields [] None default_fields []) lines ≡ meaning false [] lines
 from_start lines = (laws lines).out [] default_fields []

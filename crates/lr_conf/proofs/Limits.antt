@@ -34,7 +34,7 @@ use Rattle.lr_conf.specs.declared.stop.LayerStop.TheVariants as stop
 use Rattle.lr_conf.specs.Fields.{fields_of, last_set, criterion_set, count_set, maxage_set, minage_set, minsize_set, maxsize_set, start_set, extension_set, addextension_set, olddir_set, createolddir_set, create_set, mail_set, pieces_set, dated_set, back_set, serial_set}
 use Rattle.lr_conf.specs.Rules.{pieces_of, rule_of}
 use Rattle.lr_conf.specs.Scripts.{script_fault}
-use Rattle.lr_conf.specs.Meaning.{Line, End, Meaning, ◌and◌, only_faults, conf, script_sets, meaning}
+use Rattle.lr_conf.specs.Meaning.{ConfLine, End, Meaning, ◌and◌, only_faults, conf, script_sets, meaning}
 use Rattle.lr_conf.specs.Stops.{layer_faults}
 use Rattle.lr_conf.specs.Internal.Draft.{coming_from, TookIn}
 use Rattle.lr_conf.proofs.Each.{Given}
@@ -199,31 +199,31 @@ all_true : (rs : List Rule) → Each (λ r. meets_limits r ≡ true) rs → list
 all_true [] a = refl
 all_true (r ∷ rs) a = and_from (meets_limits r) (list_all meets_limits rs) a.0 (all_true rs a.1)
 
-pub limits : (lines : List Line) → list_all meets_limits (meaning false [] lines).rules ≡ true
+pub limits : (lines : List ConfLine) → list_all meets_limits (meaning false [] lines).rules ≡ true
 limits lines = all_true (meaning false [] lines).rules (each_rule walk lines)
 
 -- ---- drafts
 
 -- whichever lines come, each rule meets its limits
 abbrev pub Limited : Draft → Type 0
-Limited d = (lines : List Line) → list_all meets_limits (coming_from d lines).rules ≡ true
+Limited d = (lines : List ConfLine) → list_all meets_limits (coming_from d lines).rules ≡ true
 
 abbrev all_meet : Meaning → Bool
 all_meet m = list_all meets_limits m.rules
 
-pub from_new : (d : Draft) → ((lines : List Line) → coming_from d lines ≡ meaning false [] lines) → Limited d
+pub from_new : (d : Draft) → ((lines : List ConfLine) → coming_from d lines ≡ meaning false [] lines) → Limited d
 from_new d e lines = ap all_meet (e lines) ∙ limits lines
 
-pub from_same : (old new : Draft) → ((lines : List Line) → coming_from new lines ≡ coming_from old lines) → Limited old → Limited new
+pub from_same : (old new : Draft) → ((lines : List ConfLine) → coming_from new lines ≡ coming_from old lines) → Limited old → Limited new
 from_same old new e h lines = ap all_meet (e lines) ∙ h lines
 
-pub behind_silent : (old new : Draft) (e : Line) → ((lines : List Line) → coming_from old (e ∷ lines) ≡ coming_from new lines) → Limited old → Limited new
+pub behind_silent : (old new : Draft) (e : ConfLine) → ((lines : List ConfLine) → coming_from old (e ∷ lines) ≡ coming_from new lines) → Limited old → Limited new
 behind_silent old new e is h lines = sym (ap all_meet (is lines)) ∙ h (e ∷ lines)
 
-pub behind_told : (old new : Draft) (e : Line) (faults : List Fault) → ((lines : List Line) → coming_from old (e ∷ lines) ≡ (only_faults faults and coming_from new lines)) → Limited old → Limited new
+pub behind_told : (old new : Draft) (e : ConfLine) (faults : List Fault) → ((lines : List ConfLine) → coming_from old (e ∷ lines) ≡ (only_faults faults and coming_from new lines)) → Limited old → Limited new
 behind_told old new e faults is h lines = sym (ap all_meet (is lines)) ∙ h (e ∷ lines)
 
-pub behind_line : (old new : Draft) (file : Path) (e : Line) (r : Result (Option Include) LayerStop) → TookIn old new file e r → Limited old → Limited new
+pub behind_line : (old new : Draft) (file : Path) (e : ConfLine) (r : Result (Option Include) LayerStop) → TookIn old new file e r → Limited old → Limited new
 behind_line old new file e (Ok i) is h = behind_silent old new e is h
 behind_line old new file e (Err stop.Memory) is h = from_same old new is h
 behind_line old new file e (Err (stop.Conf at k)) is h = behind_told old new e (layer_faults file (stop.Conf at k)) is h
@@ -232,7 +232,7 @@ behind_line old new file e (Err (stop.NoBraceThen first i)) is h = behind_told o
 
 -- what the end of a file answers
 pub behind_end : (old new : Draft) (file : Path) (r : Option (ℕ × ConfKind))
-    → MatchOption r ((lines : List Line) → coming_from old (End file ∷ lines) ≡ coming_from new lines) (λ t. (lines : List Line) → coming_from old (End file ∷ lines) ≡ (only_faults (conf file t.1 t.0 ∷ []) and coming_from new lines))
+    → MatchOption r ((lines : List ConfLine) → coming_from old (End file ∷ lines) ≡ coming_from new lines) (λ t. (lines : List ConfLine) → coming_from old (End file ∷ lines) ≡ (only_faults (conf file t.1 t.0 ∷ []) and coming_from new lines))
     → Limited old → Limited new
 behind_end old new file None is h = behind_silent old new (End file) is h
 behind_end old new file (Some t) is h = behind_told old new (End file) (conf file t.1 t.0 ∷ []) is h

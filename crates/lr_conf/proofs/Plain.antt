@@ -23,7 +23,7 @@ use Rattle.lr_forms.proofs.Naming.{said_some}
 use Rattle.lr_conf.specs.Fields.{fields_of, count_set}
 use Rattle.lr_conf.specs.Rules.{rule_of}
 use Rattle.lr_conf.specs.Scripts.{script_fault}
-use Rattle.lr_conf.specs.Meaning.{Line, script_sets, meaning}
+use Rattle.lr_conf.specs.Meaning.{ConfLine, script_sets, meaning}
 use Rattle.lr_conf.specs.Plain.{IsRuleWord, IsPlainRule}
 use Rattle.lr_conf.proofs.Each.{append, Given}
 use Rattle.lr_conf.proofs.Walk.{OkSaid, Walk, each_rule, last_given}
@@ -84,5 +84,5 @@ walk R rule = record {
   rule = rule;
 }
 
-pub all_plain : (lines : List Line) → All IsPlainRule (meaning false [] lines).rules
+pub all_plain : (lines : List ConfLine) → All IsPlainRule (meaning false [] lines).rules
 all_plain lines = All-from_recursion IsPlainRule (meaning false [] lines).rules (each_rule (walk IsPlainRule rule_ok) lines)

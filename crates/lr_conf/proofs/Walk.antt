@@ -12,7 +12,7 @@ use Rattle.lr_forms.specs.Says.{item_says}
 use Rattle.lr_conf.specs.Fields.{fields_of, last_set}
 use Rattle.lr_conf.specs.Rules.{rule_of}
 use Rattle.lr_conf.specs.Scripts.{script_fault}
-use Rattle.lr_conf.specs.Meaning.{Line, Read, Spoiled, End, Cut, OutsideLine, stands, spoiled, file_ends, breaks_off, Meaning, nothing, only_faults, set_of, set_past, settings, names_past, settles, pending, first_line, words_pending, first_pending, words_with, opened_at, opens_definition, outside_line, before, behind, ends, scripts_in, script_sets, said_behind, within, body_of, drops, set_in, broken_fault, of_end, of_body, of_opening, meaning}
+use Rattle.lr_conf.specs.Meaning.{ConfLine, Read, Spoiled, End, Cut, OutsideLine, stands, spoiled, file_ends, breaks_off, Meaning, nothing, only_faults, set_of, set_past, settings, names_past, settles, pending, first_line, words_pending, first_pending, words_with, opened_at, opens_definition, outside_line, before, behind, ends, scripts_in, script_sets, said_behind, within, body_of, drops, set_in, broken_fault, of_end, of_body, of_opening, meaning}
 use Rattle.lr_conf.proofs.Each.{append, backwards, front, Given, one_more, mapped, last}
 
 -- what a line sets, and the names that it has, are such
@@ -35,7 +35,7 @@ abbrev OkPast : (Set → Type 0) → (List (List ℕ) → Type 0) → OutsideLin
 OkPast S N (stands at brace v) = OkSaid S N v
 OkPast S N p = Unit {0}
 
-past_ok : {S : Set → Type 0} {N : List (List ℕ) → Type 0} {R : Rule → Type 0} (w : Walk S N R) (e : Line) → OkPast S N (outside_line e)
+past_ok : {S : Set → Type 0} {N : List (List ℕ) → Type 0} {R : Rule → Type 0} (w : Walk S N R) (e : ConfLine) → OkPast S N (outside_line e)
 past_ok w (Read file i) = w.line false i
 past_ok w (Spoiled f) = tt
 past_ok w (End file) = tt
@@ -56,13 +56,13 @@ behind_ok : {S : Set → Type 0} {N : List (List ℕ) → Type 0} {R : Rule → 
 behind_ok w earlier (says.Script p text stray) ok = w.script earlier p text stray
 behind_ok w earlier v ok = ok
 
-set_in_ok : {S : Set → Type 0} {N : List (List ℕ) → Type 0} {R : Rule → Type 0} (w : Walk S N R) (earlier : List Line) (e : Line) → Given S (set_in (within earlier e))
+set_in_ok : {S : Set → Type 0} {N : List (List ℕ) → Type 0} {R : Rule → Type 0} (w : Walk S N R) (earlier : List ConfLine) (e : ConfLine) → Given S (set_in (within earlier e))
 set_in_ok {S} {N} w earlier (Read file i) = set_ok S N (said_behind (scripts_in earlier) (item_says true i)) (behind_ok w (scripts_in earlier) (item_says true i) (w.line true i))
 set_in_ok w earlier (Spoiled f) = tt
 set_in_ok w earlier (End file) = tt
 set_in_ok w earlier Cut = tt
 
-body_ok : {S : Set → Type 0} {N : List (List ℕ) → Type 0} {R : Rule → Type 0} (w : Walk S N R) (earlier es : List Line) → Each S (filter_map set_in (body_of earlier es))
+body_ok : {S : Set → Type 0} {N : List (List ℕ) → Type 0} {R : Rule → Type 0} (w : Walk S N R) (earlier es : List ConfLine) → Each S (filter_map set_in (body_of earlier es))
 body_ok w earlier [] = tt
 body_ok {S} w earlier (e ∷ es) = one_more S (set_in (within earlier e)) (filter_map set_in (body_of (earlier ++ e ∷ []) es)) (set_in_ok w earlier e) (body_ok w (earlier ++ e ∷ []) es)
 
@@ -113,7 +113,7 @@ opened_ok w first words p h ok = tt
 abbrev Rules : (Rule → Type 0) → Meaning → Type 0
 Rules R m = Each R m.rules
 
-end_ok : {S : Set → Type 0} {N : List (List ℕ) → Type 0} {R : Rule → Type 0} (w : Walk S N R) (at : ℕ) (words : List (List ℕ)) (vs : List Set) (o : Option Line) → N words → Each S vs → Rules R (of_end at words (fields_of vs) o)
+end_ok : {S : Set → Type 0} {N : List (List ℕ) → Type 0} {R : Rule → Type 0} (w : Walk S N R) (at : ℕ) (words : List (List ℕ)) (vs : List Set) (o : Option ConfLine) → N words → Each S vs → Rules R (of_end at words (fields_of vs) o)
 end_ok w at words vs None n ok = tt
 end_ok w at words vs (Some (Read file i)) n ok = (w.rule file at words vs n ok, tt)
 end_ok w at words vs (Some (Spoiled e)) n ok = tt
@@ -124,7 +124,7 @@ either : (R : Rule → Type 0) (c : Bool) (m n : Meaning) → Rules R m → Rule
 either R true m n x y = x
 either R false m n x y = y
 
-body_means_ok : {S : Set → Type 0} {N : List (List ℕ) → Type 0} {R : Rule → Type 0} (w : Walk S N R) (o : Option ℕ) (words : List (List ℕ)) (vs : List Set) (es : List Line) → Opened N o words → Each S vs → Rules R (of_body o words vs es)
+body_means_ok : {S : Set → Type 0} {N : List (List ℕ) → Type 0} {R : Rule → Type 0} (w : Walk S N R) (o : Option ℕ) (words : List (List ℕ)) (vs : List Set) (es : List ConfLine) → Opened N o words → Each S vs → Rules R (of_body o words vs es)
 body_means_ok w None words vs es n ok = tt
 body_means_ok {S} {N} {R} w (Some at) words vs es n ok =
     let body = body_of [] (before ends es) in
@@ -132,7 +132,7 @@ body_means_ok {S} {N} {R} w (Some at) words vs es n ok =
     either R (list_any drops body) (only_faults (filter_map broken_fault (behind drops body))) (of_end at words (fields_of all) (find ends es)) tt
     (end_ok w at words all (find ends es) n (append S vs (filter_map set_in body) ok (body_ok w [] (before ends es))))
 
-opening_ok : {S : Set → Type 0} {N : List (List ℕ) → Type 0} {R : Rule → Type 0} (w : Walk S N R) (out : List OutsideLine) (p : OutsideLine) (es : List Line) → Each (OkPast S N) out → OkPast S N p → Rules R (of_opening out p es)
+opening_ok : {S : Set → Type 0} {N : List (List ℕ) → Type 0} {R : Rule → Type 0} (w : Walk S N R) (out : List OutsideLine) (p : OutsideLine) (es : List ConfLine) → Each (OkPast S N) out → OkPast S N p → Rules R (of_opening out p es)
 opening_ok {S} {N} {R} w out p es ok here =
     either R (opens_definition p) (of_body (opened_at (first_pending out) p) (words_with (words_pending out) p) (settings (out ++ p ∷ [])) es) nothing
     (body_means_ok w (opened_at (first_pending out) p) (words_with (words_pending out) p) (settings (out ++ p ∷ [])) es
@@ -140,7 +140,7 @@ opening_ok {S} {N} {R} w out p es ok here =
     (mapped (OkPast S N) S set_past (set_past_ok S N) (out ++ p ∷ []) (append (OkPast S N) out (p ∷ []) ok (here, tt))))
     tt
 
-meaning_ok : {S : Set → Type 0} {N : List (List ℕ) → Type 0} {R : Rule → Type 0} (w : Walk S N R) (es : List Line) (inside : Bool) (out : List OutsideLine) → Each (OkPast S N) out → Rules R (meaning inside out es)
+meaning_ok : {S : Set → Type 0} {N : List (List ℕ) → Type 0} {R : Rule → Type 0} (w : Walk S N R) (es : List ConfLine) (inside : Bool) (out : List OutsideLine) → Each (OkPast S N) out → Rules R (meaning inside out es)
 meaning_ok w [] true out ok = tt
 meaning_ok w [] false out ok = tt
 meaning_ok {S} {N} {R} w (e ∷ es) true out ok =
@@ -152,7 +152,7 @@ meaning_ok {S} {N} {R} w (e ∷ es) false out ok =
     (opening_ok w out (outside_line e) es ok (past_ok w e))
     (meaning_ok w es (opens_definition (outside_line e)) (out ++ outside_line e ∷ []) (append (OkPast S N) out (outside_line e ∷ []) ok (past_ok w e, tt)))
 
-pub each_rule : {S : Set → Type 0} {N : List (List ℕ) → Type 0} {R : Rule → Type 0} (w : Walk S N R) (lines : List Line) → Each R (meaning false [] lines).rules
+pub each_rule : {S : Set → Type 0} {N : List (List ℕ) → Type 0} {R : Rule → Type 0} (w : Walk S N R) (lines : List ConfLine) → Each R (meaning false [] lines).rules
 each_rule w lines = meaning_ok w lines false [] tt
 
 -- ---- fields

@@ -29,13 +29,13 @@ use Rattle.lr_conf.specs.Scripts.{script_fault}
 
 -- A line of a file, as an item; a line with the fault that its reading told; the end of a file; the place where the reading
 -- of a file breaks off, where what is pending gives nothing.
-pub data Line : Type 0 where
-  Read : Path → Item → Line
-  Spoiled : Fault → Line
-  End : Path → Line
-  Cut : Line
+pub data ConfLine : Type 0 where
+  Read : Path → Item → ConfLine
+  Spoiled : Fault → ConfLine
+  End : Path → ConfLine
+  Cut : ConfLine
 
-abbrev pub line_file : Line → Path
+abbrev pub line_file : ConfLine → Path
 line_file (Read file i) = file
 line_file (Spoiled f) = []
 line_file (End file) = file
@@ -135,7 +135,7 @@ opened_at first (stands at brace says.Open) = first
 opened_at first p = None
 
 -- how a line is read outside definitions
-abbrev pub outside_line : Line → OutsideLine
+abbrev pub outside_line : ConfLine → OutsideLine
 outside_line (Read file i) = stands (line_of i) (has_brace i) (item_says false i)
 outside_line (Spoiled f) = spoiled f
 outside_line (End file) = file_ends
@@ -188,7 +188,7 @@ words_with words (stands at brace (says.Names ws)) = words ++ ws
 words_with words p = words
 
 -- it ends the definition that it stands in
-abbrev pub ends : Line → Bool
+abbrev pub ends : ConfLine → Bool
 ends (Read file i) = closes_definition i
 ends (Spoiled f) = false
 ends (End file) = true
@@ -204,12 +204,12 @@ abbrev pub script_of : Said → Option Phase
 script_of (says.Script phase text stray) = Some phase
 script_of s = None
 
-abbrev pub line_script : Line → Option Phase
+abbrev pub line_script : ConfLine → Option Phase
 line_script (Read file i) = script_of (item_says true i)
 line_script e = None
 
 -- the scripts that stand among the lines of a definition
-abbrev pub scripts_in : List Line → List Phase
+abbrev pub scripts_in : List ConfLine → List Phase
 scripts_in lines = filter_map (line_script) lines
 
 abbrev pub script_sets : Option ConfKind → Phase → List ℕ → Said
@@ -222,14 +222,14 @@ said_behind earlier (says.Script p text stray) = script_sets (script_fault earli
 said_behind earlier s = s
 
 -- how a line is read in a definition, behind those of its lines that stand before it
-abbrev pub within : List Line → Line → InsideLine
+abbrev pub within : List ConfLine → ConfLine → InsideLine
 within earlier (Read file i) = states file (line_of i) (said_behind (scripts_in earlier) (item_says true i))
 within earlier (Spoiled f) = broken f
 within earlier (End file) = left_open
 within earlier Cut = left_open
 
 -- the lines of a definition, each as it is read behind those before it
-abbrev pub body_of : List Line → List Line → List InsideLine
+abbrev pub body_of : List ConfLine → List ConfLine → List InsideLine
 body_of earlier [] = []
 body_of earlier (e ∷ es) = within earlier e ∷ body_of (earlier ++ e ∷ []) es
 
@@ -266,7 +266,7 @@ abbrev pub broken_fault : InsideLine → Option Fault
 broken_fault (broken f) = Some f
 broken_fault w = None
 
-abbrev pub spoilt_fault : Line → Option Fault
+abbrev pub spoilt_fault : ConfLine → Option Fault
 spoilt_fault (Spoiled f) = Some f
 spoilt_fault e = None
 
@@ -289,18 +289,18 @@ abbrev pub only_faults : List Fault → Meaning
 only_faults faults = record { rules = []; notices = []; faults = faults }
 
 -- what ends a definition that no line drops: its rule, or no brace before the end of the file
-abbrev pub of_end : ℕ → List (List ℕ) → Fields → Option Line → Meaning
+abbrev pub of_end : ℕ → List (List ℕ) → Fields → Option ConfLine → Meaning
 of_end at words f (Some (Read file i)) = record { rules = rule_of file at words f ∷ []; notices = []; faults = [] }
 of_end at words f (Some (End file)) = only_faults (conf file kind.NoBrace at ∷ [])
 of_end at words f other = nothing
 
 -- of lines in a definition that is dropped, the faults that their reading told
-abbrev pub of_spoilt : List Line → Meaning
+abbrev pub of_spoilt : List ConfLine → Meaning
 of_spoilt es = only_faults (filter_map spoilt_fault es)
 
 -- A definition whose first name stands at this line: its words, what was set before its lines, and its lines with what
 -- follows. Behind the line that drops it only spoilt lines are told.
-abbrev pub of_definition : ℕ → List (List ℕ) → List Set → List Line → Meaning
+abbrev pub of_definition : ℕ → List (List ℕ) → List Set → List ConfLine → Meaning
 of_definition at words before_it es =
     let body = body_of [] (before ends es) in
     record {
@@ -312,12 +312,12 @@ of_definition at words before_it es =
     (fields_of (before_it ++ filter_map set_in body)) (find ends es))
 
 -- one that a fault of its first line drops says nothing, its spoilt lines aside
-abbrev pub of_body : Option ℕ → List (List ℕ) → List Set → List Line → Meaning
+abbrev pub of_body : Option ℕ → List (List ℕ) → List Set → List ConfLine → Meaning
 of_body None words before_it es = of_spoilt (before ends es)
 of_body (Some at) words before_it es = of_definition at words before_it es
 
 -- what begins at a line that opens a definition
-abbrev pub of_opening : List OutsideLine → OutsideLine → List Line → Meaning
+abbrev pub of_opening : List OutsideLine → OutsideLine → List ConfLine → Meaning
 of_opening out p es =
     if opens_definition p then
     of_body (opened_at (first_pending out) p) (words_with (words_pending out) p) (settings (out ++ p ∷ [])) es
@@ -329,7 +329,7 @@ of_line file first p = record { rules = []; notices = option_to_list (notice_pas
 
 -- What lines mean: in a definition or not, the lines before them that stand outside definitions, and
 -- the lines. Those of an included file stand in the place of the line that asks for it.
-abbrev pub meaning : Bool → List OutsideLine → List Line → Meaning
+abbrev pub meaning : Bool → List OutsideLine → List ConfLine → Meaning
 meaning inside out [] = nothing
 meaning true out (e ∷ es) = if ends e then meaning false (out ++ outside_line e ∷ []) es else meaning true out es
 meaning false out (e ∷ es) =
@@ -339,7 +339,7 @@ meaning false out (e ∷ es) =
 -- ---- other files
 
 -- the lines that stand outside definitions, as they are read there
-abbrev pub outsiders : Bool → List Line → List OutsideLine
+abbrev pub outsiders : Bool → List ConfLine → List OutsideLine
 outsiders inside [] = []
 outsiders true (e ∷ es) = outsiders (not (ends e)) es
 outsiders false (e ∷ es) = outside_line e ∷ outsiders (opens_definition (outside_line e)) es
@@ -350,7 +350,7 @@ asks (stands at brace (says.Include path)) = Some (record { path = path; line = 
 asks p = None
 
 -- the files that lines ask for, in order
-abbrev pub asked : Bool → List Line → List Include
+abbrev pub asked : Bool → List ConfLine → List Include
 asked inside lines = filter_map asks (outsiders inside lines)
 
 -- what a line makes taboo: items, and whether they are patterns
@@ -364,5 +364,5 @@ after_bans taboo [] = taboo
 after_bans taboo (c ∷ cs) = after_bans (taboo_after taboo c.1.items c.0 c.1.adding) cs
 
 -- the taboo list behind lines, where it is this one before them
-abbrev pub banned : Bool → Taboo → List Line → Taboo
+abbrev pub banned : Bool → Taboo → List ConfLine → Taboo
 banned inside taboo lines = after_bans taboo (filter_map bans (outsiders inside lines))

@@ -3,7 +3,7 @@ ghost use Rattle.std.specs.Prelude.{◌≡◌, ◌<◌, List, [], ◌∷◌, fal
 ghost use Rattle.lr_rules.specs.declared.fault.Fault.{Fault};
 ghost use Rattle.lr_match.specs.Taboos.{first_taboo};
 ghost use Rattle.lr_conf.specs.Setting.{default_fields};
-ghost use Rattle.lr_conf.specs.Meaning.{Line, Read, Spoiled, End, Cut, meaning, asked, banned, only_faults, conf, ◌and◌};
+ghost use Rattle.lr_conf.specs.Meaning.{ConfLine, Read, Spoiled, End, Cut, meaning, asked, banned, only_faults, conf, ◌and◌};
 ghost use Rattle.lr_conf.specs.Internal.Draft.{coming_from, asking_from, banning_from, TookIn, AsksIn, BansIn, PassesIn};
 ghost use Rattle.lr_conf.specs.Internal.Draft.{file_of_draft, files_of};
 
@@ -61,9 +61,9 @@ impl Draft {
     /// A draft of no line, with room for 8 entered files.
     pub fn new(alloc: Global) -> Result<Draft, Memory>
         ensures files { IfOk result (λ draft. files_of draft ≡ []) }
-        ensures means { IfOk result (λ draft. (lines : List Line) → coming_from draft lines ≡ meaning false [] lines) }
-        ensures asks { IfOk result (λ draft. (lines : List Line) → asking_from draft lines ≡ asked false lines) }
-        ensures bans { IfOk result (λ draft. (lines : List Line) → banning_from draft lines ≡ banned false first_taboo lines) }
+        ensures means { IfOk result (λ draft. (lines : List ConfLine) → coming_from draft lines ≡ meaning false [] lines) }
+        ensures asks { IfOk result (λ draft. (lines : List ConfLine) → asking_from draft lines ≡ asked false lines) }
+        ensures bans { IfOk result (λ draft. (lines : List ConfLine) → banning_from draft lines ≡ banned false first_taboo lines) }
     {
         let files = Files::new(alloc)?;
         let (taboo, defaults, fields) = first_parts(alloc)?;
@@ -98,7 +98,7 @@ impl Draft {
     /// are pending stay.
     pub fn spoil(&mut self, _line: u32)
         ensures files { files_of self.new ≡ files_of self.old }
-        ensures means { (f : Fault) (lines : List Line) → coming_from self.old (Spoiled f ∷ lines)
+        ensures means { (f : Fault) (lines : List ConfLine) → coming_from self.old (Spoiled f ∷ lines)
             ≡ (only_faults (f ∷ []) and coming_from self.new lines) }
         ensures passes { (f : Fault) → PassesIn self.old self.new (Spoiled f) }
     {
@@ -113,8 +113,8 @@ impl Draft {
         requires { 0 < length (files_of self.old) }
         ensures files { files_of self.new ≡ files_of self.old }
         ensures means { MatchOption result
-            ((lines : List Line) → coming_from self.old (End (file_of_draft self.old) ∷ lines) ≡ coming_from self.new lines)
-            (λ r. (lines : List Line) → coming_from self.old (End (file_of_draft self.old) ∷ lines)
+            ((lines : List ConfLine) → coming_from self.old (End (file_of_draft self.old) ∷ lines) ≡ coming_from self.new lines)
+            (λ r. (lines : List ConfLine) → coming_from self.old (End (file_of_draft self.old) ∷ lines)
             ≡ (only_faults (conf (file_of_draft self.old) r.1 r.0 ∷ []) and coming_from self.new lines)) }
         ensures passes { PassesIn self.old self.new (End (file_of_draft self.old)) }
     {
@@ -124,7 +124,7 @@ impl Draft {
     /// The reading of the file breaks off: what is pending gives nothing.
     pub fn cut_file(&mut self)
         ensures files { files_of self.new ≡ files_of self.old }
-        ensures means { (lines : List Line) → coming_from self.old (Cut ∷ lines) ≡ coming_from self.new lines }
+        ensures means { (lines : List ConfLine) → coming_from self.old (Cut ∷ lines) ≡ coming_from self.new lines }
         ensures passes { PassesIn self.old self.new Cut }
     {
         self.break_off();

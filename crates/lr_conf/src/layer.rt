@@ -2,7 +2,7 @@
 ghost use Rattle.std.specs.Prelude.{◌≡◌, List, true};
 ghost use Rattle.std.specs.List.{list_all};
 ghost use Rattle.lr_rules.specs.Limits.{meets_limits};
-ghost use Rattle.lr_conf.specs.Meaning.{Line};
+ghost use Rattle.lr_conf.specs.Meaning.{ConfLine};
 ghost use Rattle.lr_conf.specs.Internal.Draft.{coming_from};
 
 use crate::draft::Draft;
@@ -17,7 +17,7 @@ use std::mem;
 #[derive(Drop)]
 pub struct Layer {
     draft: Draft,
-    ghost limits: { (lines : List Line) → list_all meets_limits (coming_from draft lines).rules ≡ true },
+    ghost limits: { (lines : List ConfLine) → list_all meets_limits (coming_from draft lines).rules ≡ true },
 }
 
 impl Layer {
@@ -31,9 +31,9 @@ impl Layer {
     /// A layer that took no line, with room for 8 entered files.
     pub fn new(alloc: Global) -> Result<Layer, Memory>
         ensures files { IfOk result (λ layer. entered layer ≡ []) }
-        ensures means { IfOk result (λ layer. (lines : List Line) → coming layer lines ≡ meaning false [] lines) }
-        ensures asks { IfOk result (λ layer. (lines : List Line) → asking layer lines ≡ asked false lines) }
-        ensures bans { IfOk result (λ layer. (lines : List Line) → banning layer lines ≡ banned false first_taboo lines) }
+        ensures means { IfOk result (λ layer. (lines : List ConfLine) → coming layer lines ≡ meaning false [] lines) }
+        ensures asks { IfOk result (λ layer. (lines : List ConfLine) → asking layer lines ≡ asked false lines) }
+        ensures bans { IfOk result (λ layer. (lines : List ConfLine) → banning layer lines ≡ banned false first_taboo lines) }
     {
         Ok(Layer {
             draft: Draft::new(alloc)?,
@@ -44,7 +44,7 @@ impl Layer {
     pub fn enter(&mut self, file: Path)
         requires { length (entered self.old) < 8 }
         ensures files { entered self.new ≡ entered self.old ++ file ∷ [] }
-        ensures same { (lines : List Line) → coming self.new lines ≡ coming self.old lines }
+        ensures same { (lines : List ConfLine) → coming self.new lines ≡ coming self.old lines }
         ensures alike { Alike self.old self.new }
     {
         self.draft.files.enter(file);
@@ -54,7 +54,7 @@ impl Layer {
     pub fn leave(&mut self)
         requires { 0 < length (entered self.old) }
         ensures files { entered self.new ≡ take (length (entered self.old) - 1) (entered self.old) }
-        ensures same { (lines : List Line) → coming self.new lines ≡ coming self.old lines }
+        ensures same { (lines : List ConfLine) → coming self.new lines ≡ coming self.old lines }
         ensures alike { Alike self.old self.new }
     {
         self.draft.files.leave();
@@ -91,7 +91,7 @@ impl Layer {
     /// is. Names that are pending stay. The caller tells the fault, also in a definition that is dropped already.
     pub fn spoil(&mut self, line: u32)
         ensures files { entered self.new ≡ entered self.old }
-        ensures means { (f : Fault) (lines : List Line) → coming self.old (Spoiled f ∷ lines)
+        ensures means { (f : Fault) (lines : List ConfLine) → coming self.old (Spoiled f ∷ lines)
             ≡ (only_faults (f ∷ []) and coming self.new lines) }
         ensures passes { (f : Fault) → LayerPasses self.old self.new (Spoiled f) }
     {
@@ -104,8 +104,8 @@ impl Layer {
         requires { 0 < length (entered self.old) }
         ensures files { entered self.new ≡ entered self.old }
         ensures means { MatchOption result
-            ((lines : List Line) → coming self.old (End (file_of_layer self.old) ∷ lines) ≡ coming self.new lines)
-            (λ r. (lines : List Line) → coming self.old (End (file_of_layer self.old) ∷ lines)
+            ((lines : List ConfLine) → coming self.old (End (file_of_layer self.old) ∷ lines) ≡ coming self.new lines)
+            (λ r. (lines : List ConfLine) → coming self.old (End (file_of_layer self.old) ∷ lines)
             ≡ (only_faults (conf (file_of_layer self.old) r.1 r.0 ∷ []) and coming self.new lines)) }
         ensures passes { LayerPasses self.old self.new (End (file_of_layer self.old)) }
     {
@@ -115,7 +115,7 @@ impl Layer {
     /// The reading of the file breaks off, and the caller tells why: names, or a definition, that are pending give nothing.
     pub fn cut_file(&mut self)
         ensures files { entered self.new ≡ entered self.old }
-        ensures means { (lines : List Line) → coming self.old (Cut ∷ lines) ≡ coming self.new lines }
+        ensures means { (lines : List ConfLine) → coming self.old (Cut ∷ lines) ≡ coming self.new lines }
         ensures passes { LayerPasses self.old self.new Cut }
     {
         self.draft.cut_file();

@@ -9,7 +9,7 @@ use Rattle.lr_host.specs.Lists.{IsIn, IsNotIn, AreDistinct}
 use Rattle.lr_host.proofs.Lists.{in_map, in_append}
 use Rattle.lr_glob.specs.Gathers.{Gathers}
 use Rattle.lr_glob.specs.Parts.{JoinOf, PickOf}
-use Rattle.lr_glob.specs.Visits.{Visit, visit_names}
+use Rattle.lr_glob.specs.Visits.{WordVisit, visit_names}
 use Rattle.lr_glob.specs.Rounds.{Picks}
 use Rattle.lr_glob.proofs.Levels.{IsAt, level_of, joined_at, part_at, dirs_same, names_same, both_same}
 
@@ -107,31 +107,31 @@ names_once part dir _ _ (Gathers.more name names its paths p g) a = both_distinc
 
 -- ---- visits
 
-abbrev pub dir_of : Visit → Path
+abbrev pub dir_of : WordVisit → Path
 dir_of v = v.dir
 
-abbrev pub AreTrue : List Visit → Type 0
-AreTrue visits = (v : Visit) → IsIn v visits → AreNames (visit_names v)
+abbrev pub AreTrue : List WordVisit → Type 0
+AreTrue visits = (v : WordVisit) → IsIn v visits → AreNames (visit_names v)
 
-pub record VisitedIn (part : List ℕ) (visits : List Visit) (x : Path) : Type 0 where
-  pub visit : Visit
+pub record VisitedIn (part : List ℕ) (visits : List WordVisit) (x : Path) : Type 0 where
+  pub visit : WordVisit
   pub there : IsIn visit visits
   pub picked : PickedIn part visit.dir (visit_names visit) x
 
-pub visited_in : (part : List ℕ) (visits : List Visit) (paths : List Path) (x : Path) → Gathers (Picks part) visits paths → IsIn x paths → VisitedIn part visits x
+pub visited_in : (part : List ℕ) (visits : List WordVisit) (paths : List Path) (x : Path) → Gathers (Picks part) visits paths → IsIn x paths → VisitedIn part visits x
 visited_in part _ _ x Gathers.none i = absurd i
 visited_in part _ _ x (Gathers.more v visits its paths p g) i = ⊎_elim
     (λ (a : IsIn x its). record { visit = v; there = inl refl; picked = picked_in part v.dir (visit_names v) its x p a })
     (λ (b : IsIn x paths). let r = visited_in part visits paths x g b in record { visit = r.visit; there = inr r.there; picked = r.picked })
     (in_append x its paths i)
 
-pub picks_at : (k : ℕ) (part : List ℕ) (visits : List Visit) (paths : List Path) → Gathers (Picks part) visits paths → AreTrue visits → AllAt k (map dir_of visits) → AllAt (suc k) paths
+pub picks_at : (k : ℕ) (part : List ℕ) (visits : List WordVisit) (paths : List Path) → Gathers (Picks part) visits paths → AreTrue visits → AllAt k (map dir_of visits) → AllAt (suc k) paths
 picks_at k part visits paths g t all = λ x i.
     let r = visited_in part visits paths x g i in
     let c = r.picked in
     subst (IsAt (suc k)) (sym c.is) (part_at k r.visit.dir c.name ((t r.visit r.there).parts c.name c.there) (all r.visit.dir (in_map dir_of r.visit visits r.there)))
 
-pub picks_once : (k : ℕ) (part : List ℕ) (visits : List Visit) (paths : List Path) → Gathers (Picks part) visits paths → AreTrue visits → AllAt k (map dir_of visits) → AreDistinct (map dir_of visits) → AreDistinct paths
+pub picks_once : (k : ℕ) (part : List ℕ) (visits : List WordVisit) (paths : List Path) → Gathers (Picks part) visits paths → AreTrue visits → AllAt k (map dir_of visits) → AreDistinct (map dir_of visits) → AreDistinct paths
 picks_once k part _ _ Gathers.none t all d = tt
 picks_once k part _ _ (Gathers.more v visits its paths p g) t all d = both_distinct its paths (names_once part v.dir (visit_names v) its p (t v (inl refl))) (picks_once k part visits paths g (λ w i. t w (inr i)) (λ x i. all x (inr i)) d.1) (λ x y i e h.
     let r = visited_in part visits paths y g e in

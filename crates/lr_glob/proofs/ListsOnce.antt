@@ -26,7 +26,7 @@ use Rattle.lr_glob.specs.declared.visit.VisitStop.TheVariants as visit
 use Rattle.lr_glob.specs.Gathers.{Gathers}
 use Rattle.lr_glob.specs.Listings.{is_listing_of, listings_of}
 use Rattle.lr_glob.specs.Parts.{JoinOf, parts_in}
-use Rattle.lr_glob.specs.Visits.{Visit, visit_names, visit_entries}
+use Rattle.lr_glob.specs.Visits.{WordVisit, visit_names, visit_entries}
 use Rattle.lr_glob.specs.Rounds.{Picks, Round, Went, Asked, round_entries, FollowsBy, Leads, Led}
 use Rattle.lr_glob.specs.Stops.{NotVisited, RoundBroken, NotFollowed, NotLed}
 use Rattle.lr_glob.specs.Words.{WordGave, Comes, Stopped, WordBegun, WordCallFailed, SearchThen}
@@ -49,14 +49,14 @@ true_entries p _ _ at_first = tt
 true_entries p _ es (by_writer {q = q} m i f) = true_entries p q es m
 true_entries p _ _ (by_tool {es = es} {q = q} {e = e} m i f) = (true_entry (world q) e f, true_entries p q es m)
 
-visit_true : (v : Visit) → Each IsTrue (visit_entries v) → AreNames (visit_names v)
+visit_true : (v : WordVisit) → Each IsTrue (visit_entries v) → AreNames (visit_names v)
 visit_true v a = by (is_dir v.seen) a.1
   where
     by : (b : Bool) → Each IsTrue (cond b (entry.List v.dir v.listed ∷ []) []) → AreNames (cond b v.listed [])
     by true t = t.0
     by false t = record { once = tt; parts = λ name i. absurd i }
 
-pub visits_true : (visits : List Visit) → Each IsTrue (flat_map visit_entries visits) → AreTrue visits
+pub visits_true : (visits : List WordVisit) → Each IsTrue (flat_map visit_entries visits) → AreTrue visits
 visits_true [] a v i = absurd i
 visits_true (w ∷ visits) a v (inl e) = subst (λ x. AreNames (visit_names x)) e (visit_true w (each_first IsTrue (visit_entries w) (flat_map visit_entries visits) a))
 visits_true (w ∷ visits) a v (inr i) = visits_true visits (each_last IsTrue (visit_entries w) (flat_map visit_entries visits) a) v i
@@ -67,7 +67,7 @@ module _ (dir : Path) where
   count_both : (xs ys : List Entry) → listings_of dir (xs ++ ys) ≡ listings_of dir xs + listings_of dir ys
   count_both xs ys = ap (λ (es : List Entry). length es) (filter-append (is_listing_of dir) xs ys) ∙ length-append (filter (is_listing_of dir) xs) (filter (is_listing_of dir) ys)
 
-  count_visit : (v : Visit) → listings_of dir (visit_entries v) ≤ 1
+  count_visit : (v : WordVisit) → listings_of dir (visit_entries v) ≤ 1
   count_visit v = by (is_dir v.seen)
     where
       one : (b : Bool) → length (cond b (entry.List v.dir v.listed ∷ []) []) ≤ 1
@@ -78,7 +78,7 @@ module _ (dir : Path) where
       by true = one (bytes_eq v.dir dir)
       by false = omega arith
 
-  other_visit : (v : Visit) → bytes_eq v.dir dir ≡ false → listings_of dir (visit_entries v) ≡ 0
+  other_visit : (v : WordVisit) → bytes_eq v.dir dir ≡ false → listings_of dir (visit_entries v) ≡ 0
   other_visit v other = by (is_dir v.seen)
     where
       by : (b : Bool) → listings_of dir (entry.Look v.dir v.seen ∷ cond b (entry.List v.dir v.listed ∷ []) []) ≡ 0
@@ -90,7 +90,7 @@ module _ (dir : Path) where
     once : listings_of dir ts ≤ 1
     where_any : (listings_of dir ts ≡ 0) ⊎ IsIn dir dirs
 
-  visits_once : (visits : List Visit) → AreDistinct (map dir_of visits) → OnceOf (map dir_of visits) (flat_map visit_entries visits)
+  visits_once : (visits : List WordVisit) → AreDistinct (map dir_of visits) → OnceOf (map dir_of visits) (flat_map visit_entries visits)
   visits_once [] d = record { once = omega arith; where_any = inl refl }
   visits_once (v ∷ visits) d = by (bytes_eq v.dir dir) refl (visits_once visits d.1)
     where
@@ -132,7 +132,7 @@ module _ (dir : Path) where
     once : listings_of dir ts ≤ 1
     above : (j : ℕ) → suc k ≤ j → IsAt j dir → listings_of dir ts ≡ 0
 
-  turned : (k : ℕ) (dirs after : List Path) (ts : List Entry) (visits : List Visit) → dirs ≡ map dir_of visits ++ after → Stage k dirs ts → Turn k (ts ++ flat_map visit_entries visits)
+  turned : (k : ℕ) (dirs after : List Path) (ts : List Entry) (visits : List WordVisit) → dirs ≡ map dir_of visits ++ after → Stage k dirs ts → Turn k (ts ++ flat_map visit_entries visits)
   turned k dirs after ts visits e s = record {
     once = ⊎_elim (λ (z : listings_of dir us ≡ 0). let a = s.once in omega (arith, sum, z, a)) (λ (i : IsIn dir (map dir_of visits)). let a = s.above k (omega arith) (at i) in let b = o.once in omega (arith, sum, a, b)) o.where_any;
     above = λ j le is. ⊎_elim (λ (z : listings_of dir us ≡ 0). let a = s.above j (omega (arith, le)) is in omega (arith, sum, z, a)) (λ (i : IsIn dir (map dir_of visits)). let f = at_one k j dir (at i) is in absurd (omega (arith, f, le))) o.where_any;
@@ -155,7 +155,7 @@ module _ (dir : Path) where
     k : ℕ
     stage : Stage k dirs ts
 
-  asked : (k : ℕ) (part : List ℕ) (dirs paths : List Path) (ts : List Entry) (visits : List Visit) → map dir_of visits ≡ dirs → Gathers (Picks part) visits paths → Each IsTrue (flat_map visit_entries visits) → Stage k dirs ts → Staged paths (ts ++ flat_map visit_entries visits)
+  asked : (k : ℕ) (part : List ℕ) (dirs paths : List Path) (ts : List Entry) (visits : List WordVisit) → map dir_of visits ≡ dirs → Gathers (Picks part) visits paths → Each IsTrue (flat_map visit_entries visits) → Stage k dirs ts → Staged paths (ts ++ flat_map visit_entries visits)
   asked k part dirs paths ts visits e g t s = record {
     k = suc k;
     stage = record {

@@ -15,7 +15,7 @@ use Rattle.lr_glob.specs.declared.visit.VisitStop.{VisitStop}
 use Rattle.lr_glob.specs.declared.visit.VisitStop.TheVariants as visit
 use Rattle.lr_host.specs.Looking.{IsLooking, AreLooking}
 use Rattle.lr_host.proofs.Looking.{looking_both, looking_none, looking_sees}
-use Rattle.lr_glob.specs.Visits.{Visit, visit_entries}
+use Rattle.lr_glob.specs.Visits.{WordVisit, visit_entries}
 use Rattle.lr_glob.specs.Rounds.{Round, Went, Asked, round_entries, Led}
 use Rattle.lr_glob.specs.Stops.{NotVisited, RoundBroken, NotFollowed, NotLed}
 use Rattle.lr_glob.specs.Words.{WordGave, Comes, Stopped, WordBegun, WordCallFailed, SearchThen}
@@ -27,14 +27,14 @@ flat : {X : Type 0} (f : X → List Entry) (xs : List X) → ((x : X) → AreLoo
 flat f [] all = tt
 flat f (x ∷ xs) all = each_append IsLooking (f x) (flat_map f xs) (all x) (flat f xs all)
 
-a_visit : (v : Visit) → AreLooking (visit_entries v)
+a_visit : (v : WordVisit) → AreLooking (visit_entries v)
 a_visit v = (tt, by (is_dir v.seen))
   where
     by : (b : Bool) → AreLooking (cond b (entry.List v.dir v.listed ∷ []) [])
     by true = (tt, tt)
     by false = tt
 
-visits_look : (visits : List Visit) → AreLooking (flat_map visit_entries visits)
+visits_look : (visits : List WordVisit) → AreLooking (flat_map visit_entries visits)
 visits_look visits = flat visit_entries visits a_visit
 
 round_looks : (r : Round) → AreLooking (round_entries r)

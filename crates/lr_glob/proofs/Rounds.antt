@@ -14,7 +14,7 @@ use Rattle.lr_glob.specs.declared.found.GlobStop.TheVariants as stop
 use Rattle.lr_glob.specs.declared.visit.VisitStop.{VisitStop}
 use Rattle.lr_glob.specs.Gathers.{Gathers, AddsPaths}
 use Rattle.lr_glob.specs.Parts.{PickOf, JoinOf}
-use Rattle.lr_glob.specs.Visits.{Visit, visit_names, visit_entries, Visited}
+use Rattle.lr_glob.specs.Visits.{WordVisit, visit_names, visit_entries, Visited}
 use Rattle.lr_glob.specs.Rounds.{Picks, Round, Went, Asked, FollowsBy, FollowsPart, Followed}
 use Rattle.lr_glob.specs.Stops.{NotVisited, glob_stop, RoundBroken, NotFollowed}
 use Rattle.lr_glob.specs.Turns.{VisitAdds, VisitsGive, VisitBroken}
@@ -38,16 +38,16 @@ visit_adds part dir names before now l a = left_as l (λ ts v. record {
 
 -- ---- one after another
 
-abbrev dir_of : Visit → Path
+abbrev dir_of : WordVisit → Path
 dir_of v = v.dir
 
 pub gives_none : (part : List ℕ) (paths : List Path) (o : Option Journal) → paths ≡ [] → Left (VisitsGive part [] paths) o o
 gives_none part paths o e = left_first (VisitsGive part [] paths) o (record { visits = []; each = refl; gave = subst (Gathers (Picks part) []) (sym e) Gathers.none; entries = refl })
 
-dirs_more : (visits : List Visit) (v : Visit) (done : List Path) (dir : Path) → map dir_of visits ≡ done → v.dir ≡ dir → map dir_of (visits ++ v ∷ []) ≡ done ++ dir ∷ []
+dirs_more : (visits : List WordVisit) (v : WordVisit) (done : List Path) (dir : Path) → map dir_of visits ≡ done → v.dir ≡ dir → map dir_of (visits ++ v ∷ []) ≡ done ++ dir ∷ []
 dirs_more visits v done dir e at = map-append dir_of visits (v ∷ []) ∙ (ap (λ ds. ds ++ v.dir ∷ []) e ∙ ap (λ d. done ++ d ∷ []) at)
 
-entries_more : (visits : List Visit) (v : Visit) (xs ys : List Entry) → xs ≡ flat_map visit_entries visits → ys ≡ visit_entries v → xs ++ ys ≡ flat_map visit_entries (visits ++ v ∷ [])
+entries_more : (visits : List WordVisit) (v : WordVisit) (xs ys : List Entry) → xs ≡ flat_map visit_entries visits → ys ≡ visit_entries v → xs ++ ys ≡ flat_map visit_entries (visits ++ v ∷ [])
 entries_more visits v xs ys ex ey = ap (λ us. us ++ ys) ex ∙ (ap (λ us. flat_map visit_entries visits ++ us) (ey ∙ sym (append-nil (visit_entries v))) ∙ sym (flat_map-append visit_entries visits (v ∷ [])))
 
 pub gives_more : (part : List ℕ) (done before now : List Path) (dir : Path) {o m n : Option Journal} → Left (VisitsGive part done before) o m → Left (VisitAdds part dir before now) m n → Left (VisitsGive part (done ++ dir ∷ []) now) o n

@@ -5,19 +5,19 @@ use Rattle.lr_rules.specs.Match.{is_wildcard, literal_path}
 use Rattle.lr_host.specs.declared.entry.Entry.{Entry}
 use Rattle.lr_glob.specs.Gathers.{Gathers}
 use Rattle.lr_glob.specs.Parts.{JoinOf, PickOf}
-use Rattle.lr_glob.specs.Visits.{Visit, visit_names, visit_entries}
+use Rattle.lr_glob.specs.Visits.{WordVisit, visit_names, visit_entries}
 
 -- What a part came to: nothing had to be asked for, or each directory was visited.
 pub data Round : Type 0 where
   Went : Round
-  Asked : List Visit → Round
+  Asked : List WordVisit → Round
 
 abbrev pub round_entries : Round → List Entry
 round_entries Went = []
 round_entries (Asked visits) = flat_map visit_entries visits
 
 -- what the names that were listed at a visit give
-abbrev pub Picks : List ℕ → Visit → List Path → Type 0
+abbrev pub Picks : List ℕ → WordVisit → List Path → Type 0
 Picks part v paths = Gathers (PickOf part v.dir) (visit_names v) paths
 
 -- The part leads from these paths to those, by what the round gave: a wildcard to the names that it matches in each of them,

@@ -10,7 +10,7 @@ use Rattle.lr_glob.specs.declared.found.GlobStop.{GlobStop}
 use Rattle.lr_glob.specs.declared.found.GlobStop.TheVariants as stop
 use Rattle.lr_glob.specs.declared.visit.VisitStop.{VisitStop}
 use Rattle.lr_glob.specs.declared.visit.VisitStop.TheVariants as visit
-use Rattle.lr_glob.specs.Visits.{Visit, visit_entries}
+use Rattle.lr_glob.specs.Visits.{WordVisit, visit_entries}
 use Rattle.lr_glob.specs.Rounds.{Led}
 
 -- A visit that ended before its names were there: the look failed; the listing did behind it, which saw a directory; or there was
@@ -32,7 +32,7 @@ IsFailedGlob _ = ⊥
 
 -- The first of these directories were visited, and the visit of the next ended so.
 pub record BrokenAt (dirs : List Path) (why : GlobStop) (ts : List Entry) : Type 0 where
-  pub visits : List Visit
+  pub visits : List WordVisit
   pub dir : Path
   pub after : List Path
   pub each : dirs ≡ map (λ v. v.dir) visits ++ dir ∷ after
@@ -42,7 +42,7 @@ pub record BrokenAt (dirs : List Path) (why : GlobStop) (ts : List Entry) : Type
 
 -- The first of these directories were visited, and there was no memory for what they gave.
 pub record BrokenBehind (dirs : List Path) (why : GlobStop) (ts : List Entry) : Type 0 where
-  pub visits : List Visit
+  pub visits : List WordVisit
   pub after : List Path
   pub each : dirs ≡ map (λ v. v.dir) visits ++ after
   pub told : why ≡ stop.Memory

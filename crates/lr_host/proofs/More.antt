@@ -8,7 +8,7 @@ use Rattle.lr_host.specs.declared.thing.Thing.TheVariants as thing
 use Rattle.lr_host.specs.declared.entry.Entry.{Entry}
 use Rattle.lr_host.specs.declared.entry.Entry.TheVariants as entry
 use Rattle.lr_host.specs.declared.entry.Entry.TheVariants.{Attach, Feed, Flush, Detach, Renames, Makes, MakesDir, Appends, Truncates, Unlinks}
-use Rattle.lr_host.specs.World.{Names, put, World, names, names_after, Step, durable_after, pending_after, effect, making, Past, ◌▸◌, world, Puts, Moves, Drops, changed}
+use Rattle.lr_host.specs.World.{Names, put, World, names, names_after, NameStep, durable_after, pending_after, effect, making, Past, ◌▸◌, world, Puts, Moves, Drops, changed}
 use Rattle.lr_host.specs.Fits.{IsFileAt, MaybeFileAt, IsDirectoryAt}
 use Rattle.lr_host.specs.Told.{IsWriters, CanCall}
 use Rattle.lr_host.proofs.Names.{put_here, put_other}
@@ -116,7 +116,7 @@ can_more n n' (entry.Runs program args input ended) more fit = maybe input fit
 can_more n n' _ more fit = fit
 
 -- the names after a step
-abbrev pub names_by : World → Step → Names
+abbrev pub names_by : World → NameStep → Names
 names_by w st = names_after (durable_after w st) (pending_after w st)
 
 -- an attach makes one file at most

@@ -19,7 +19,7 @@ use Rattle.lr_forms.specs.declared.said.Said.{Said}
 use Rattle.lr_forms.specs.declared.said.Said.TheVariants as says
 use Rattle.lr_conf.specs.Fields.{fields_of, last_or}
 use Rattle.lr_conf.specs.declared.stop.Include.{Include}
-use Rattle.lr_conf.specs.Meaning.{Line, Read, Spoiled, End, Cut, OutsideLine, stands, spoiled, Meaning, conf, nothing, line_file, first_pending, words_pending, words_with, settings, opened_at, opens_definition, outside_line, before, through, behind, ends, InsideLine, states, broken, left_open, within, body_of, drops, set_in, line_fault, fault_in, broken_fault, spoilt_fault, only_faults, at_line, left_names, stray_at, own_fault, line_faults, of_end, of_body, of_opening, meaning}
+use Rattle.lr_conf.specs.Meaning.{ConfLine, Read, Spoiled, End, Cut, OutsideLine, stands, spoiled, Meaning, conf, nothing, line_file, first_pending, words_pending, words_with, settings, opened_at, opens_definition, outside_line, before, through, behind, ends, InsideLine, states, broken, left_open, within, body_of, drops, set_in, line_fault, fault_in, broken_fault, spoilt_fault, only_faults, at_line, left_names, stray_at, own_fault, line_faults, of_end, of_body, of_opening, meaning}
 use Rattle.lr_conf.proofs.Each.{append, front, Given, one_more, mapped}
 use Rattle.lr_include.specs.declared.part.TextEnd.{TextEnd}
 use Rattle.lr_include.specs.declared.part.TextEnd.TheVariants as end
@@ -50,7 +50,7 @@ behind_each P p (x ∷ xs) a = by (p x) (behind_each P p xs a.1)
     by true h = a.1
     by false h = h
 
-abbrev pub IsFine : Bool → Line → Type 0
+abbrev pub IsFine : Bool → ConfLine → Type 0
 IsFine calls (Spoiled f) = (IsAllowed calls) f
 IsFine calls e = Unit {0}
 
@@ -58,7 +58,7 @@ abbrev pub IsFinePast : Bool → OutsideLine → Type 0
 IsFinePast calls (spoiled f) = (IsAllowed calls) f
 IsFinePast calls p = Unit {0}
 
-past_fine : (calls : Bool) (e : Line) → (IsFine calls) e → (IsFinePast calls) (outside_line e)
+past_fine : (calls : Bool) (e : ConfLine) → (IsFine calls) e → (IsFinePast calls) (outside_line e)
 past_fine calls (Read file i) ok = tt
 past_fine calls (Spoiled f) ok = ok
 past_fine calls (End file) ok = tt
@@ -79,13 +79,13 @@ abbrev pub IsFineWithin : Bool → InsideLine → Type 0
 IsFineWithin calls (broken f) = (IsAllowed calls) f
 IsFineWithin calls w = Unit {0}
 
-within_fine : (calls : Bool) (earlier : List Line) (e : Line) → (IsFine calls) e → (IsFineWithin calls) (within earlier e)
+within_fine : (calls : Bool) (earlier : List ConfLine) (e : ConfLine) → (IsFine calls) e → (IsFineWithin calls) (within earlier e)
 within_fine calls earlier (Read file i) ok = tt
 within_fine calls earlier (Spoiled f) ok = ok
 within_fine calls earlier (End file) ok = tt
 within_fine calls earlier Cut ok = tt
 
-lines_fine : (calls : Bool) (earlier es : List Line) → Each (IsFine calls) es → Each (IsFineWithin calls) (body_of earlier es)
+lines_fine : (calls : Bool) (earlier es : List ConfLine) → Each (IsFine calls) es → Each (IsFineWithin calls) (body_of earlier es)
 lines_fine calls earlier [] ok = tt
 lines_fine calls earlier (e ∷ es) ok = ((within_fine calls) earlier e ok.0, (lines_fine calls) (earlier ++ e ∷ []) es ok.1)
 
@@ -99,7 +99,7 @@ broken_fine calls (states file at v) ok = tt
 broken_fine calls (broken f) ok = ok
 broken_fine calls left_open ok = tt
 
-spoilt_fine : (calls : Bool) (e : Line) → (IsFine calls) e → Given (IsAllowed calls) (spoilt_fault e)
+spoilt_fine : (calls : Bool) (e : ConfLine) → (IsFine calls) e → Given (IsAllowed calls) (spoilt_fault e)
 spoilt_fine calls (Read file i) ok = tt
 spoilt_fine calls (Spoiled f) ok = ok
 spoilt_fine calls (End file) ok = tt
@@ -131,14 +131,14 @@ either : (calls : Bool) (b : Bool) (m n : Meaning) → Faults calls m → Faults
 either calls true m n a c = a
 either calls false m n a c = c
 
-end_fine : (calls : Bool) (at : ℕ) (words : List (List ℕ)) (f : Fields) (o : Option Line) → Faults calls (of_end at words f o)
+end_fine : (calls : Bool) (at : ℕ) (words : List (List ℕ)) (f : Fields) (o : Option ConfLine) → Faults calls (of_end at words f o)
 end_fine calls at words f None = tt
 end_fine calls at words f (Some (Read file i)) = tt
 end_fine calls at words f (Some (Spoiled e)) = tt
 end_fine calls at words f (Some (End file)) = (tt, tt)
 end_fine calls at words f (Some Cut) = tt
 
-body_fine : (calls : Bool) (o : Option ℕ) (words : List (List ℕ)) (vs : List Set) (es : List Line) → Each (IsFine calls) es → Faults calls (of_body o words vs es)
+body_fine : (calls : Bool) (o : Option ℕ) (words : List (List ℕ)) (vs : List Set) (es : List ConfLine) → Each (IsFine calls) es → Faults calls (of_body o words vs es)
 body_fine calls None words vs es ok = mapped (IsFine calls) (IsAllowed calls) spoilt_fault (spoilt_fine calls) (before ends es) (front (IsFine calls) ends es ok)
 body_fine calls (Some at) words vs es ok =
     let body = body_of [] (before ends es) in
@@ -150,12 +150,12 @@ body_fine calls (Some at) words vs es ok =
     ((either calls) (list_any drops body) rest (of_end at words f (find ends es))
     (mapped (IsFineWithin calls) (IsAllowed calls) broken_fault (broken_fine calls) (behind drops body) (behind_each (IsFineWithin calls) drops body fine)) ((end_fine calls) at words f (find ends es)))
 
-opening_fine : (calls : Bool) (out : List OutsideLine) (p : OutsideLine) (es : List Line) → Each (IsFine calls) es → Faults calls (of_opening out p es)
+opening_fine : (calls : Bool) (out : List OutsideLine) (p : OutsideLine) (es : List ConfLine) → Each (IsFine calls) es → Faults calls (of_opening out p es)
 opening_fine calls out p es ok =
     (either calls) (opens_definition p) (of_body (opened_at (first_pending out) p) (words_with (words_pending out) p) (settings (out ++ p ∷ [])) es) nothing
     ((body_fine calls) (opened_at (first_pending out) p) (words_with (words_pending out) p) (settings (out ++ p ∷ [])) es ok) tt
 
-pub meaning_fine : (calls : Bool) (es : List Line) (inside : Bool) (out : List OutsideLine) → Each (IsFine calls) es → Faults calls (meaning inside out es)
+pub meaning_fine : (calls : Bool) (es : List ConfLine) (inside : Bool) (out : List OutsideLine) → Each (IsFine calls) es → Faults calls (meaning inside out es)
 meaning_fine calls [] true out ok = tt
 meaning_fine calls [] false out ok = tt
 meaning_fine calls (e ∷ es) true out ok =
@@ -195,13 +195,13 @@ asks_fine : (calls : Bool) (file : Path) (is : List Include) → Each (FineTask 
 asks_fine calls file [] = tt
 asks_fine calls file (i ∷ is) = (tt, asks_fine calls file is)
 
-asks_in_fine : (calls : Bool) (file : Path) (lines : List Line) (p : Piece) → Each (FineTask calls) (asks_in file lines p)
+asks_in_fine : (calls : Bool) (file : Path) (lines : List ConfLine) (p : Piece) → Each (FineTask calls) (asks_in file lines p)
 asks_in_fine calls file lines (piece.Item i) = asks_fine calls file (asked_at lines (Read file i))
 asks_in_fine calls file lines (piece.Fault at k) = tt
 asks_in_fine calls file lines piece.End = tt
 asks_in_fine calls file lines (piece.Break f) = tt
 
-asks_now_fine : (calls : Bool) (inside : List Path) (lines : List Line) (p : Piece) → Each (FineTask calls) (asks_now inside lines p)
+asks_now_fine : (calls : Bool) (inside : List Path) (lines : List ConfLine) (p : Piece) → Each (FineTask calls) (asks_now inside lines p)
 asks_now_fine calls [] lines p = tt
 asks_now_fine calls (file ∷ files) lines p = asks_in_fine calls (last_or [] (file ∷ files)) lines p
 

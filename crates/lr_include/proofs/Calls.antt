@@ -18,7 +18,7 @@ use Rattle.lr_forms.specs.declared.set.Set.{Set}
 use Rattle.lr_conf.specs.declared.fields.Fields.{Fields}
 use Rattle.lr_conf.specs.Fields.{fields_of, last_or}
 use Rattle.lr_conf.specs.declared.stop.Include.{Include}
-use Rattle.lr_conf.specs.Meaning.{Line, Read, Spoiled, End, Cut, OutsideLine, stands, spoiled, Meaning, conf, nothing, line_file, first_pending, words_pending, words_with, settings, opened_at, opens_definition, outside_line, before, through, behind, ends, InsideLine, states, broken, left_open, within, body_of, drops, set_in, line_fault, fault_in, broken_fault, spoilt_fault, only_faults, at_line, left_names, stray_at, own_fault, line_faults, of_end, of_body, of_opening, meaning}
+use Rattle.lr_conf.specs.Meaning.{ConfLine, Read, Spoiled, End, Cut, OutsideLine, stands, spoiled, Meaning, conf, nothing, line_file, first_pending, words_pending, words_with, settings, opened_at, opens_definition, outside_line, before, through, behind, ends, InsideLine, states, broken, left_open, within, body_of, drops, set_in, line_fault, fault_in, broken_fault, spoilt_fault, only_faults, at_line, left_names, stray_at, own_fault, line_faults, of_end, of_body, of_opening, meaning}
 use Rattle.lr_host.specs.declared.entry.Entry.{Entry}
 use Rattle.lr_include.specs.declared.part.TextEnd.{TextEnd}
 use Rattle.lr_include.specs.declared.part.TextEnd.TheVariants as end
@@ -64,7 +64,7 @@ calls_total (f ∷ fs) = ap (λ n. call_in f + n) (calls_total fs)
 
 -- ---- lines
 
-abbrev calls_line : Line → ℕ
+abbrev calls_line : ConfLine → ℕ
 calls_line (Spoiled f) = call_in f
 calls_line e = 0
 
@@ -76,19 +76,19 @@ abbrev calls_within : InsideLine → ℕ
 calls_within (broken f) = call_in f
 calls_within w = 0
 
-past_calls : (e : Line) → calls_past (outside_line e) ≡ calls_line e
+past_calls : (e : ConfLine) → calls_past (outside_line e) ≡ calls_line e
 past_calls (Read file i) = refl
 past_calls (Spoiled f) = refl
 past_calls (End file) = refl
 past_calls Cut = refl
 
-within_calls : (earlier : List Line) (e : Line) → calls_within (within earlier e) ≡ calls_line e
+within_calls : (earlier : List ConfLine) (e : ConfLine) → calls_within (within earlier e) ≡ calls_line e
 within_calls earlier (Read file i) = refl
 within_calls earlier (Spoiled f) = refl
 within_calls earlier (End file) = refl
 within_calls earlier Cut = refl
 
-body_total : (earlier es : List Line) → total calls_within (body_of earlier es) ≡ total calls_line es
+body_total : (earlier es : List ConfLine) → total calls_within (body_of earlier es) ≡ total calls_line es
 body_total earlier [] = refl
 body_total earlier (e ∷ es) = let a = within_calls earlier e in let more = body_total (earlier ++ e ∷ []) es in omega (arith, a, more)
 
@@ -107,7 +107,7 @@ broken_calls (states file at v) = refl
 broken_calls (broken f) = refl
 broken_calls left_open = refl
 
-spoilt_calls : (e : Line) → given call_in (spoilt_fault e) ≡ calls_line e
+spoilt_calls : (e : ConfLine) → given call_in (spoilt_fault e) ≡ calls_line e
 spoilt_calls (Read file i) = refl
 spoilt_calls (Spoiled f) = refl
 spoilt_calls (End file) = refl
@@ -130,7 +130,7 @@ own_calls file first (stands at brace (says.BadNames k)) = refl
 own_calls file first (spoiled f) = omega arith
 own_calls file first p = refl
 
-line_calls : (file : Path) (first : Option ℕ) (e : Line) → calls_in (line_faults file first (outside_line e)) ≡ calls_line e
+line_calls : (file : Path) (first : Option ℕ) (e : ConfLine) → calls_in (line_faults file first (outside_line e)) ≡ calls_line e
 line_calls file first e =
     let p = outside_line e in
     let a = calls_on (at_line file kind.NoBrace (left_names first p)) (own_fault file first p) in
@@ -157,7 +157,7 @@ none_behind p (x ∷ xs) h = by (p x) h (none_behind p xs)
     by true h f = absurd (cc)
     by false h f = f h
 
-end_calls : (at : ℕ) (words : List (List ℕ)) (f : Fields) (o : Option Line) → calls_in (of_end at words f o).faults ≡ 0
+end_calls : (at : ℕ) (words : List (List ℕ)) (f : Fields) (o : Option ConfLine) → calls_in (of_end at words f o).faults ≡ 0
 end_calls at words f None = refl
 end_calls at words f (Some (Read file i)) = refl
 end_calls at words f (Some (Spoiled e)) = refl
@@ -170,11 +170,11 @@ mapped_calls v f h xs = calls_total (filter_map f xs) ∙ total_mapped v call_in
 abbrev rest_of : List InsideLine → Meaning
 rest_of body = only_faults (filter_map broken_fault (behind drops body))
 
-closed_calls : (at : ℕ) (words : List (List ℕ)) (f : Fields) (o : Option Line) (body : List InsideLine) (b : Bool) → list_any drops body ≡ b → calls_in (cond b (rest_of body) (of_end at words f o)).faults ≡ total calls_within (behind drops body)
+closed_calls : (at : ℕ) (words : List (List ℕ)) (f : Fields) (o : Option ConfLine) (body : List InsideLine) (b : Bool) → list_any drops body ≡ b → calls_in (cond b (rest_of body) (of_end at words f o)).faults ≡ total calls_within (behind drops body)
 closed_calls at words f o body true e = mapped_calls calls_within broken_fault broken_calls (behind drops body)
 closed_calls at words f o body false e = end_calls at words f o ∙ sym (ap (total calls_within) (none_behind drops body e))
 
-body_calls : (o : Option ℕ) (words : List (List ℕ)) (vs : List Set) (es : List Line) → calls_in (of_body o words vs es).faults ≡ total calls_line (before ends es)
+body_calls : (o : Option ℕ) (words : List (List ℕ)) (vs : List Set) (es : List ConfLine) → calls_in (of_body o words vs es).faults ≡ total calls_line (before ends es)
 body_calls None words vs es = mapped_calls calls_line spoilt_fault spoilt_calls (before ends es)
 body_calls (Some at) words vs es =
     let body = body_of [] (before ends es) in
@@ -188,25 +188,25 @@ body_calls (Some at) words vs es =
 
 -- ---- meanings
 
-ends_none : (e : Line) → ends e ≡ true → calls_line e ≡ 0
+ends_none : (e : ConfLine) → ends e ≡ true → calls_line e ≡ 0
 ends_none (Read file i) h = refl
 ends_none (Spoiled f) h = absurd (cc)
 ends_none (End file) h = refl
 ends_none Cut h = refl
 
 -- Of lines outside definitions all are told; in one, those up to its end are told where it begins.
-abbrev Outside : List OutsideLine → List Line → Type 0
+abbrev Outside : List OutsideLine → List ConfLine → Type 0
 Outside out es = calls_in (meaning false out es).faults ≡ total calls_line es
 
-abbrev Inside : List OutsideLine → List Line → Type 0
+abbrev Inside : List OutsideLine → List ConfLine → Type 0
 Inside out es = total calls_line (before ends es) + calls_in (meaning true out es).faults ≡ total calls_line es
 
-opened_calls : (p : OutsideLine) (es : List Line) (out : List OutsideLine) → Outside (out ++ p ∷ []) es → Inside (out ++ p ∷ []) es → (b : Bool)
+opened_calls : (p : OutsideLine) (es : List ConfLine) (out : List OutsideLine) → Outside (out ++ p ∷ []) es → Inside (out ++ p ∷ []) es → (b : Bool)
     → calls_in (cond b (of_body (opened_at (first_pending out) p) (words_with (words_pending out) p) (settings (out ++ p ∷ [])) es) nothing).faults + calls_in (meaning b (out ++ p ∷ []) es).faults ≡ total calls_line es
 opened_calls p es out f g true = let k = body_calls (opened_at (first_pending out) p) (words_with (words_pending out) p) (settings (out ++ p ∷ [])) es in omega (arith, k, g)
 opened_calls p es out f g false = omega (arith, f)
 
-outside_on : (e : Line) (es : List Line) (out : List OutsideLine) → Outside (out ++ outside_line e ∷ []) es → Inside (out ++ outside_line e ∷ []) es → Outside out (e ∷ es)
+outside_on : (e : ConfLine) (es : List ConfLine) (out : List OutsideLine) → Outside (out ++ outside_line e ∷ []) es → Inside (out ++ outside_line e ∷ []) es → Outside out (e ∷ es)
 outside_on e es out f g =
     let p = outside_line e in
     let a = calls_on (line_faults (line_file e) (first_pending out) p) ((of_opening out p es).faults ++ (meaning (opens_definition p) (out ++ p ∷ []) es).faults) in
@@ -215,21 +215,21 @@ outside_on e es out f g =
     let d = opened_calls p es out f g (opens_definition p) in
     omega (arith, a, b, c, d)
 
-inside_on : (e : Line) (es : List Line) (out : List OutsideLine) → Outside (out ++ outside_line e ∷ []) es → Inside out es → Inside out (e ∷ es)
+inside_on : (e : ConfLine) (es : List ConfLine) (out : List OutsideLine) → Outside (out ++ outside_line e ∷ []) es → Inside out es → Inside out (e ∷ es)
 inside_on e es out f g = by (ends e) refl
   where
     by : (b : Bool) → ends e ≡ b → total calls_line (cond b [] (e ∷ before ends es)) + calls_in (cond b (meaning false (out ++ outside_line e ∷ []) es) (meaning true out es)).faults ≡ calls_line e + total calls_line es
     by true h = let z = ends_none e h in omega (arith, z, f)
     by false h = omega (arith, g)
 
-sides : (es : List Line) (out : List OutsideLine) → Outside out es × Inside out es
+sides : (es : List ConfLine) (out : List OutsideLine) → Outside out es × Inside out es
 sides [] out = (refl, refl)
 sides (e ∷ es) out =
     let here = sides es out in
     let later = sides es (out ++ outside_line e ∷ []) in
     (outside_on e es out later.0 later.1, inside_on e es out later.0 here.1)
 
-meaning_calls : (es : List Line) → calls_in (meaning false [] es).faults ≡ total calls_line es
+meaning_calls : (es : List ConfLine) → calls_in (meaning false [] es).faults ≡ total calls_line es
 meaning_calls es = (sides es []).0
 
 -- ---- stages
@@ -280,7 +280,7 @@ map_none : (w : Task → ℕ) → ((a : Ask) → w (task.Ask a) ≡ 0) → (file
 map_none w h file [] = refl
 map_none w h file (i ∷ is) = let a = h (record { file = file; line = i.line; path = i.path }) in let more = map_none w h file is in omega (arith, a, more)
 
-asks_none : (w : Task → ℕ) → ((a : Ask) → w (task.Ask a) ≡ 0) → (inside : List Path) (lines : List Line) (p : Piece) → total w (asks_now inside lines p) ≡ 0
+asks_none : (w : Task → ℕ) → ((a : Ask) → w (task.Ask a) ≡ 0) → (inside : List Path) (lines : List ConfLine) (p : Piece) → total w (asks_now inside lines p) ≡ 0
 asks_none w h [] lines p = refl
 asks_none w h (file ∷ files) lines (piece.Item i) = map_none w h (last_or [] (file ∷ files)) (asked_at lines (Read (last_or [] (file ∷ files)) i))
 asks_none w h (file ∷ files) lines (piece.Fault at k) = refl

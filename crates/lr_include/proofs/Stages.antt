@@ -21,7 +21,7 @@ use Rattle.lr_conf.specs.declared.stop.LayerStop.TheVariants as stop
 use Rattle.lr_conf.specs.Stops.{layer_faults}
 use Rattle.lr_lex.specs.declared.item.Item.{Item}
 use Rattle.lr_lex.specs.Items.{Told}
-use Rattle.lr_conf.specs.Meaning.{Line, Read, Spoiled, End, Cut, Meaning, meaning, ◌and◌, only_faults, conf, asked, banned}
+use Rattle.lr_conf.specs.Meaning.{ConfLine, Read, Spoiled, End, Cut, Meaning, meaning, ◌and◌, only_faults, conf, asked, banned}
 use Rattle.lr_conf.specs.Fold.{coming, asking, banning, entered, file_of_layer, LayerTook, Asks, Bans, Alike, LayerPasses}
 use Rattle.lr_conf.specs.Fields.{last_or}
 use Rattle.lr_host.specs.declared.entry.Entry.{Entry}
@@ -45,13 +45,13 @@ use Rattle.lr_include.specs.Course.{Knows, StandsAt, SameRest, SameButTodo, Cour
 
 -- ---- one more line
 
-abbrev SameLines : Layer → Layer → List Fault → List Include → Line → Type 0
+abbrev SameLines : Layer → Layer → List Fault → List Include → ConfLine → Type 0
 SameLines old new faults includes e =
-    ((more : List Line) → coming old (e ∷ more) ≡ (only_faults faults and coming new more))
-    × ((more : List Line) → asking old (e ∷ more) ≡ includes ++ asking new more)
-    × ((more : List Line) → banning old (e ∷ more) ≡ banning new more)
+    ((more : List ConfLine) → coming old (e ∷ more) ≡ (only_faults faults and coming new more))
+    × ((more : List ConfLine) → asking old (e ∷ more) ≡ includes ++ asking new more)
+    × ((more : List ConfLine) → banning old (e ∷ more) ≡ banning new more)
 
-one_line : (old new : Layer) (before after faults : List Fault) (includes : List Include) (lines : List Line) (inside : List Path) (e : Line)
+one_line : (old new : Layer) (before after faults : List Fault) (includes : List Include) (lines : List ConfLine) (inside : List Path) (e : ConfLine)
     → SameLines old new faults includes e → entered new ≡ entered old → after ≡ before ++ faults → Knows old before lines inside
     → Knows new after (lines ++ e ∷ []) inside × (asked_at lines e ≡ includes)
 one_line old new before after faults includes lines inside e same files_are is k = (
@@ -76,14 +76,14 @@ one_line old new before after faults includes lines inside e same files_are is k
     one : asked false (lines ++ e ∷ []) ≡ asked false lines ++ includes
     one = k.asks (e ∷ []) ∙ ap (λ (is : List Include). asked false lines ++ is) (same.1 [] ∙ append-nil includes)
 
-pub passed_line : (old new : Layer) (before after faults : List Fault) (lines : List Line) (inside : List Path) (e : Line)
-    → ((more : List Line) → coming old (e ∷ more) ≡ (only_faults faults and coming new more)) → ((more : List Line) → asking old (e ∷ more) ≡ asking new more) → ((more : List Line) → banning old (e ∷ more) ≡ banning new more)
+pub passed_line : (old new : Layer) (before after faults : List Fault) (lines : List ConfLine) (inside : List Path) (e : ConfLine)
+    → ((more : List ConfLine) → coming old (e ∷ more) ≡ (only_faults faults and coming new more)) → ((more : List ConfLine) → asking old (e ∷ more) ≡ asking new more) → ((more : List ConfLine) → banning old (e ∷ more) ≡ banning new more)
     → entered new ≡ entered old → after ≡ before ++ faults → Knows old before lines inside → Knows new after (lines ++ e ∷ []) inside
 passed_line old new before after faults lines inside e c a b files is k = (one_line old new before after faults [] lines inside e (c, a, b) files is k).0
 
 -- a layer that is alike
-pub alike_layer : (old new : Layer) (faults : List Fault) (lines : List Line) (inside files : List Path)
-    → ((more : List Line) → coming new more ≡ coming old more) → ((more : List Line) → asking new more ≡ asking old more) → ((more : List Line) → banning new more ≡ banning old more)
+pub alike_layer : (old new : Layer) (faults : List Fault) (lines : List ConfLine) (inside files : List Path)
+    → ((more : List ConfLine) → coming new more ≡ coming old more) → ((more : List ConfLine) → asking new more ≡ asking old more) → ((more : List ConfLine) → banning new more ≡ banning old more)
     → entered new ≡ files → Knows old faults lines inside → Knows new faults lines files
 alike_layer old new faults lines inside files c a b is k = record {
   means = λ more. ap (λ (m : Meaning). only_faults faults and m) (c more) ∙ k.means more;
@@ -94,7 +94,7 @@ alike_layer old new faults lines inside files c a b is k = record {
 
 -- ---- items
 
-of_answer : (a b : Course) (old new : Layer) (file : Path) (e : Line) (r : Result (Option Include) LayerStop) → LayerTook old new file e r → Asks old new e r → Bans old new e r → TellsAnswer a b file r
+of_answer : (a b : Course) (old new : Layer) (file : Path) (e : ConfLine) (r : Result (Option Include) LayerStop) → LayerTook old new file e r → Asks old new e r → Bans old new e r → TellsAnswer a b file r
     → (faults : List Fault) × (includes : List Include) × SameLines old new faults includes e × CourseTells a b file faults includes × (o : Option Include) × (includes ≡ option_to_list o)
 of_answer a b old new file e (Ok o) t q n s = ([], option_to_list o, (t, q, n), s, o, refl)
 of_answer a b old new file e (Err stop.Memory) t q n s = absurd s
@@ -115,7 +115,7 @@ lines_of_open : (inside : List Path) (p : Piece) → ((inside ≡ []) → ⊥) �
 lines_of_open [] p some = absurd (some refl)
 lines_of_open (f ∷ fs) p some = refl
 
-asks_of_open : (inside : List Path) (lines : List Line) (p : Piece) → ((inside ≡ []) → ⊥) → asks_now inside lines p ≡ asks_in (last_or [] inside) lines p
+asks_of_open : (inside : List Path) (lines : List ConfLine) (p : Piece) → ((inside ≡ []) → ⊥) → asks_now inside lines p ≡ asks_in (last_or [] inside) lines p
 asks_of_open [] lines p some = absurd (some refl)
 asks_of_open (f ∷ fs) lines p some = refl
 
@@ -129,7 +129,7 @@ some_file : (L : Layer) → 0 < length (entered L) → (entered L ≡ []) → �
 some_file L pos e = let none : length (entered L) ≡ 0 = ap length e in absurd (omega (arith, none, pos))
 
 -- it is enough to know it of the files that are entered
-by_entered : (old new : Course) (p : Piece) → ((lines : List Line) → Knows old.layer old.faults.items lines (entered old.layer) → TookPiece old new p lines (entered old.layer)) → TakesPiece old new p
+by_entered : (old new : Course) (p : Piece) → ((lines : List ConfLine) → Knows old.layer old.faults.items lines (entered old.layer) → TookPiece old new p lines (entered old.layer)) → TakesPiece old new p
 by_entered old new p f lines inside k =
     subst (λ (files : List Path). TookPiece old new p lines files) k.files (f lines (subst (λ (files : List Path). Knows old.layer old.faults.items lines files) (sym k.files) k))
 
@@ -144,7 +144,7 @@ took_item old mid new item r same files pos took asks bans tells = by_entered ol
     let one = one_line old.layer mid.layer old.faults.items new.faults.items a.0 a.1 lines (entered old.layer) (Read file item) a.2 files
     (t.faults_are ∙ ap (λ (fs : List Fault). fs ++ a.0) same.0) k in
     record {
-      knows = subst (λ (ls : List Line). Knows new.layer new.faults.items (lines ++ ls) (entered old.layer)) (sym (lines_of_open (entered old.layer) (piece.Item item) (some_file old.layer pos)))
+      knows = subst (λ (ls : List ConfLine). Knows new.layer new.faults.items (lines ++ ls) (entered old.layer)) (sym (lines_of_open (entered old.layer) (piece.Item item) (some_file old.layer pos)))
           (subst (λ (x : Layer). Knows x new.faults.items (lines ++ Read file item ∷ []) (entered old.layer)) (sym t.layer) one.0);
       files = t.files ∙ same.1;
       bytes = t.bytes ∙ same.2;
@@ -154,7 +154,7 @@ took_item old mid new item r same files pos took asks bans tells = by_entered ol
           ∙ ap (λ (ts : List Task). ts ++ reverse old.todo.items) (sym (asks_of_open (entered old.layer) lines (piece.Item item) (some_file old.layer pos) ∙ ap (map (ask_of file)) one.1)));
     })
 
-pub told_fault : (old mid new : Course) (f : Fault) → Beside old mid → ((g : Fault) (more : List Line) → coming old.layer (Spoiled g ∷ more) ≡ (only_faults (g ∷ []) and coming mid.layer more)) → ((g : Fault) → LayerPasses old.layer mid.layer (Spoiled g))
+pub told_fault : (old mid new : Course) (f : Fault) → Beside old mid → ((g : Fault) (more : List ConfLine) → coming old.layer (Spoiled g ∷ more) ≡ (only_faults (g ∷ []) and coming mid.layer more)) → ((g : Fault) → LayerPasses old.layer mid.layer (Spoiled g))
     → entered mid.layer ≡ entered old.layer → new.layer ≡ mid.layer → new.faults.items ≡ mid.faults.items ++ f ∷ [] → SameRest mid new → ToldFault old new f
 told_fault old mid new f same means passes files layer told_it rest = record {
   knows = λ lines inside k. subst (λ (x : Layer). Knows x new.faults.items (lines ++ Spoiled f ∷ []) inside) (sym layer)
@@ -165,28 +165,28 @@ told_fault old mid new f same means passes files layer told_it rest = record {
 
 took_fault : (old new : Course) (line : ℕ) (kind : ConfKind) → ToldFault old new (conf (file_of_layer old.layer) kind line) → 0 < length (entered old.layer) → TakesPiece old new (piece.Fault line kind)
 took_fault old new line kind t pos = by_entered old new (piece.Fault line kind) (λ lines k. record {
-  knows = subst (λ (ls : List Line). Knows new.layer new.faults.items (lines ++ ls) (entered old.layer)) (sym (lines_of_open (entered old.layer) (piece.Fault line kind) (some_file old.layer pos))) (t.knows lines (entered old.layer) k);
+  knows = subst (λ (ls : List ConfLine). Knows new.layer new.faults.items (lines ++ ls) (entered old.layer)) (sym (lines_of_open (entered old.layer) (piece.Fault line kind) (some_file old.layer pos))) (t.knows lines (entered old.layer) k);
   files = t.rest.files;
   bytes = t.rest.bytes;
   exposed = t.rest.exposed;
   todo = ap reverse t.rest.todo ∙ ap (λ (ts : List Task). ts ++ reverse old.todo.items) (sym (asks_of_open (entered old.layer) lines (piece.Fault line kind) (some_file old.layer pos)));
 })
 
-pub took_spoilt : (old mid new : Course) (line : ℕ) (kind : ConfKind) → Beside old mid → ((g : Fault) (more : List Line) → coming old.layer (Spoiled g ∷ more) ≡ (only_faults (g ∷ []) and coming mid.layer more)) → ((g : Fault) → LayerPasses old.layer mid.layer (Spoiled g))
+pub took_spoilt : (old mid new : Course) (line : ℕ) (kind : ConfKind) → Beside old mid → ((g : Fault) (more : List ConfLine) → coming old.layer (Spoiled g ∷ more) ≡ (only_faults (g ∷ []) and coming mid.layer more)) → ((g : Fault) → LayerPasses old.layer mid.layer (Spoiled g))
     → entered mid.layer ≡ entered old.layer → 0 < length (entered old.layer) → new.layer ≡ mid.layer → new.faults.items ≡ mid.faults.items ++ conf (file_of_layer mid.layer) kind line ∷ [] → SameRest mid new → TakesPiece old new (piece.Fault line kind)
 took_spoilt old mid new line kind same means passes files pos layer told_it rest = took_fault old new line kind
     (told_fault old mid new (conf (file_of_layer old.layer) kind line) same means passes files layer (told_it ∙ ap (λ (x : Path). mid.faults.items ++ conf x kind line ∷ []) (ap (last_or []) files)) rest) pos
 
 -- the file is left
-left_layer : (mid new : Layer) (faults : List Fault) (lines : List Line) (inside : List Path) → ((more : List Line) → coming new more ≡ coming mid more) → Alike mid new → entered new ≡ take (length (entered mid) - 1) (entered mid) → Knows mid faults lines inside
+left_layer : (mid new : Layer) (faults : List Fault) (lines : List ConfLine) (inside : List Path) → ((more : List ConfLine) → coming new more ≡ coming mid more) → Alike mid new → entered new ≡ take (length (entered mid) - 1) (entered mid) → Knows mid faults lines inside
     → Knows new faults lines (take (length inside - 1) inside)
 left_layer mid new faults lines inside c a e k = alike_layer mid new faults lines inside (take (length inside - 1) inside) c a.asks a.bans (e ∙ ap (λ (files : List Path). take (length files - 1) files) k.files) k
 
-pub took_end : (old mid new : Course) → ClosesFile old mid → Beside mid new → ((more : List Line) → coming new.layer more ≡ coming mid.layer more) → Alike mid.layer new.layer → entered new.layer ≡ take (length (entered mid.layer) - 1) (entered mid.layer)
+pub took_end : (old mid new : Course) → ClosesFile old mid → Beside mid new → ((more : List ConfLine) → coming new.layer more ≡ coming mid.layer more) → Alike mid.layer new.layer → entered new.layer ≡ take (length (entered mid.layer) - 1) (entered mid.layer)
     → 0 < length (entered old.layer) → TakesPiece old new piece.End
 took_end old mid new t same c a e pos = by_entered old new piece.End (λ lines k. record {
   knows = subst (λ (fs : List Fault). Knows new.layer fs (lines ++ lines_now (entered old.layer) piece.End) (open_behind (entered old.layer) piece.End)) (sym same.0)
-      (subst (λ (ls : List Line). Knows new.layer mid.faults.items (lines ++ ls) (open_behind (entered old.layer) piece.End)) (sym (lines_of_open (entered old.layer) piece.End (some_file old.layer pos)))
+      (subst (λ (ls : List ConfLine). Knows new.layer mid.faults.items (lines ++ ls) (open_behind (entered old.layer) piece.End)) (sym (lines_of_open (entered old.layer) piece.End (some_file old.layer pos)))
       (left_layer mid.layer new.layer mid.faults.items (lines ++ End (file_of_layer old.layer) ∷ []) (entered old.layer) c a e (t.knows lines (entered old.layer) k)));
   files = same.1 ∙ t.rest.files;
   bytes = same.2 ∙ t.rest.bytes;
@@ -194,15 +194,15 @@ took_end old mid new t same c a e pos = by_entered old new piece.End (λ lines k
   todo = ap reverse (same.3 ∙ t.rest.todo) ∙ ap (λ (ts : List Task). ts ++ reverse old.todo.items) (sym (asks_of_open (entered old.layer) lines piece.End (some_file old.layer pos)));
 })
 
-pub took_break : (old mid new : Course) (cut : Layer) (f : Fault) → ToldFault old mid f → ((more : List Line) → coming mid.layer (Cut ∷ more) ≡ coming cut more) → LayerPasses mid.layer cut Cut → entered cut ≡ entered mid.layer
-    → Beside mid new → ((more : List Line) → coming new.layer more ≡ coming cut more) → Alike cut new.layer → entered new.layer ≡ take (length (entered cut) - 1) (entered cut)
+pub took_break : (old mid new : Course) (cut : Layer) (f : Fault) → ToldFault old mid f → ((more : List ConfLine) → coming mid.layer (Cut ∷ more) ≡ coming cut more) → LayerPasses mid.layer cut Cut → entered cut ≡ entered mid.layer
+    → Beside mid new → ((more : List ConfLine) → coming new.layer more ≡ coming cut more) → Alike cut new.layer → entered new.layer ≡ take (length (entered cut) - 1) (entered cut)
     → 0 < length (entered old.layer) → TakesPiece old new (piece.Break f)
 took_break old mid new cut f t means passes files same c a e pos = by_entered old new (piece.Break f) (λ lines k.
     let behind = passed_line mid.layer cut mid.faults.items mid.faults.items [] (lines ++ Spoiled f ∷ []) (entered old.layer) Cut means passes.asks passes.bans files (sym (append-nil mid.faults.items)) (t.knows lines (entered old.layer) k) in
     record {
       knows = subst (λ (fs : List Fault). Knows new.layer fs (lines ++ lines_now (entered old.layer) (piece.Break f)) (open_behind (entered old.layer) (piece.Break f))) (sym same.0)
-          (subst (λ (ls : List Line). Knows new.layer mid.faults.items (lines ++ ls) (open_behind (entered old.layer) (piece.Break f))) (sym (lines_of_open (entered old.layer) (piece.Break f) (some_file old.layer pos)))
-          (subst (λ (ls : List Line). Knows new.layer mid.faults.items ls (open_behind (entered old.layer) (piece.Break f))) (append_assoc lines (Spoiled f ∷ []) (Cut ∷ []))
+          (subst (λ (ls : List ConfLine). Knows new.layer mid.faults.items (lines ++ ls) (open_behind (entered old.layer) (piece.Break f))) (sym (lines_of_open (entered old.layer) (piece.Break f) (some_file old.layer pos)))
+          (subst (λ (ls : List ConfLine). Knows new.layer mid.faults.items ls (open_behind (entered old.layer) (piece.Break f))) (append_assoc lines (Spoiled f ∷ []) (Cut ∷ []))
           (left_layer cut new.layer mid.faults.items ((lines ++ Spoiled f ∷ []) ++ Cut ∷ []) (entered old.layer) c a e behind)));
       files = same.1 ∙ t.rest.files;
       bytes = same.2 ∙ t.rest.bytes;
@@ -266,7 +266,7 @@ are_asks : (file : Path) (includes : List Include) → (map (ask_of file) includ
 are_asks file [] = inl refl
 are_asks file (i ∷ is) = inr (record { file = file; line = i.line; path = i.path }, map (ask_of file) is, refl)
 
-asks_are : (inside : List Path) (lines : List Line) (p : Piece) → (asks_now inside lines p ≡ []) ⊎ ((a : Ask) × (rest : List Task) × (asks_now inside lines p ≡ task.Ask a ∷ rest))
+asks_are : (inside : List Path) (lines : List ConfLine) (p : Piece) → (asks_now inside lines p ≡ []) ⊎ ((a : Ask) × (rest : List Task) × (asks_now inside lines p ≡ task.Ask a ∷ rest))
 asks_are [] lines p = inl refl
 asks_are (f ∷ fs) lines (piece.Item i) = are_asks (last_or [] (f ∷ fs)) (asked_at lines (Read (last_or [] (f ∷ fs)) i))
 asks_are (f ∷ fs) lines (piece.Fault at kind) = inl refl

@@ -8,7 +8,7 @@ use Rattle.lr_conf.specs.declared.stop.Include.{Include}
 use Rattle.lr_conf.specs.declared.stop.LayerStop.{LayerStop}
 use Rattle.lr_conf.specs.declared.stop.LayerStop.TheVariants as stop
 use Rattle.lr_conf.specs.Stops.{layer_faults, include_of}
-use Rattle.lr_conf.specs.Meaning.{Line, Spoiled, End, meaning, ◌and◌, only_faults, asked, banned}
+use Rattle.lr_conf.specs.Meaning.{ConfLine, Spoiled, End, meaning, ◌and◌, only_faults, asked, banned}
 use Rattle.lr_conf.specs.Fold.{coming, asking, banning, entered, file_of_layer}
 use Rattle.lr_host.specs.declared.entry.Entry.{Entry}
 use Rattle.lr_host.specs.declared.journal.Journal.{Journal}
@@ -21,10 +21,10 @@ use Rattle.lr_include.specs.Allowed.{failed_in}
 use Rattle.lr_include.specs.Stages.{Stage, ask_of, lines_now, open_behind, asks_now, at_visits, ShowsVisits}
 
 -- The layer took these lines, with these faults, and these files are entered.
-pub record Knows (layer : Layer) (faults : List Fault) (lines : List Line) (inside : List Path) : Type 0 where
-  pub means : (more : List Line) → (only_faults faults and coming layer more) ≡ meaning false [] (lines ++ more)
-  pub asks : (more : List Line) → asked false (lines ++ more) ≡ asked false lines ++ asking layer more
-  pub bans : (more : List Line) → banned false first_taboo (lines ++ more) ≡ banning layer more
+pub record Knows (layer : Layer) (faults : List Fault) (lines : List ConfLine) (inside : List Path) : Type 0 where
+  pub means : (more : List ConfLine) → (only_faults faults and coming layer more) ≡ meaning false [] (lines ++ more)
+  pub asks : (more : List ConfLine) → asked false (lines ++ more) ≡ asked false lines ++ asking layer more
+  pub bans : (more : List ConfLine) → banned false first_taboo (lines ++ more) ≡ banning layer more
   pub files : entered layer ≡ inside
 
 -- The course stands at this stage.
@@ -36,7 +36,7 @@ pub record StandsAt (c : Course) (s : Stage) : Type 0 where
   pub todo : reverse c.todo.items ≡ s.todo
 
 -- A piece was taken in behind these lines.
-pub record TookPiece (old new : Course) (p : Piece) (lines : List Line) (inside : List Path) : Type 0 where
+pub record TookPiece (old new : Course) (p : Piece) (lines : List ConfLine) (inside : List Path) : Type 0 where
   pub knows : Knows new.layer new.faults.items (lines ++ lines_now inside p) (open_behind inside p)
   pub files : new.files ≡ old.files
   pub bytes : new.bytes ≡ old.bytes
@@ -44,7 +44,7 @@ pub record TookPiece (old new : Course) (p : Piece) (lines : List Line) (inside 
   pub todo : reverse new.todo.items ≡ asks_now inside lines p ++ reverse old.todo.items
 
 abbrev pub TakesPiece : Course → Course → Piece → Type 0
-TakesPiece old new p = (lines : List Line) (inside : List Path) → Knows old.layer old.faults.items lines inside
+TakesPiece old new p = (lines : List ConfLine) (inside : List Path) → Knows old.layer old.faults.items lines inside
     → TookPiece old new p lines inside
 
 -- The reading went on from one stage to another, by visits that the entries show, of which no more have a failed call than
@@ -88,14 +88,14 @@ TellsAnswer old new file (Err s) = CourseTells old new file (layer_faults file s
 
 -- a fault was told behind these lines
 pub record ToldFault (old new : Course) (f : Fault) : Type 0 where
-  pub knows : (lines : List Line) (inside : List Path) → Knows old.layer old.faults.items lines inside
+  pub knows : (lines : List ConfLine) (inside : List Path) → Knows old.layer old.faults.items lines inside
       → Knows new.layer new.faults.items (lines ++ Spoiled f ∷ []) inside
   pub entered_are : entered new.layer ≡ entered old.layer
   pub rest : SameRest old new
 
 -- the end of the file was taken in, and it is entered still
 pub record ClosesFile (old new : Course) : Type 0 where
-  pub knows : (lines : List Line) (inside : List Path) → Knows old.layer old.faults.items lines inside
+  pub knows : (lines : List ConfLine) (inside : List Path) → Knows old.layer old.faults.items lines inside
       → Knows new.layer new.faults.items (lines ++ End (file_of_layer old.layer) ∷ []) inside
   pub entered_are : entered new.layer ≡ entered old.layer
   pub rest : SameRest old new

@@ -14,7 +14,7 @@ use Rattle.lr_lex.specs.Items.{Told}
 use Rattle.lr_conf.specs.Fields.{last_or}
 use Rattle.lr_match.specs.Taboos.{Bars, first_taboo}
 use Rattle.lr_conf.specs.declared.stop.Include.{Include}
-use Rattle.lr_conf.specs.Meaning.{Line, Read, Spoiled, End, Cut, Meaning, meaning, conf, asked, banned}
+use Rattle.lr_conf.specs.Meaning.{ConfLine, Read, Spoiled, End, Cut, Meaning, meaning, conf, asked, banned}
 use Rattle.lr_host.specs.declared.entry.Entry.{Entry}
 use Rattle.lr_host.specs.Told.{Then}
 use Rattle.lr_include.specs.declared.part.TextEnd.{TextEnd}
@@ -32,7 +32,7 @@ use Rattle.lr_include.specs.Lines.{conf_kind}
 -- A stage of a reading: the lines so far; the files that are being read, the last of them now; those of which it was told
 -- that others may write them; how many files, and how many bytes, may still be read; and what is still to be read, in order.
 pub record Stage : Type 0 where
-  pub lines : List Line
+  pub lines : List ConfLine
   pub inside : List Path
   pub exposed : List Path
   pub files : ℕ
@@ -42,14 +42,14 @@ pub record Stage : Type 0 where
 -- ---- lines
 
 -- the lines that a piece of a file gives
-abbrev pub lines_in : Path → Piece → List Line
+abbrev pub lines_in : Path → Piece → List ConfLine
 lines_in file (piece.Item i) = Read file i ∷ []
 lines_in file (piece.Fault at k) = Spoiled (conf file k at) ∷ []
 lines_in file piece.End = End file ∷ []
 lines_in file (piece.Break f) = Spoiled f ∷ Cut ∷ []
 
 -- those of the file that is read now; none where there is none, which doesn't come
-abbrev pub lines_now : List Path → Piece → List Line
+abbrev pub lines_now : List Path → Piece → List ConfLine
 lines_now [] p = []
 lines_now (file ∷ files) p = lines_in (last_or [] (file ∷ files)) p
 
@@ -60,18 +60,18 @@ open_behind inside (piece.Fault at k) = inside
 open_behind inside p = take (length inside - 1) inside
 
 -- the files for which the line asks behind these lines
-abbrev pub asked_at : List Line → Line → List Include
+abbrev pub asked_at : List ConfLine → ConfLine → List Include
 asked_at lines e = drop (length (asked false lines)) (asked false (lines ++ e ∷ []))
 
 abbrev pub ask_of : Path → Include → Task
 ask_of file i = task.Ask (record { file = file; line = i.line; path = i.path })
 
-abbrev pub asks_in : Path → List Line → Piece → List Task
+abbrev pub asks_in : Path → List ConfLine → Piece → List Task
 asks_in file lines (piece.Item i) = map (ask_of file) (asked_at lines (Read file i))
 asks_in file lines p = []
 
 -- what is read in the place of the piece
-abbrev pub asks_now : List Path → List Line → Piece → List Task
+abbrev pub asks_now : List Path → List ConfLine → Piece → List Task
 asks_now [] lines p = []
 asks_now (file ∷ files) lines p = asks_in (last_or [] (file ∷ files)) lines p
 
@@ -195,7 +195,7 @@ after_name s a v todo = record s { todo = todo }
 -- ---- visits
 
 -- The taboo list as it is then bars the last part of the path.
-abbrev pub IsTaboo : List Line → Path → Type 0
+abbrev pub IsTaboo : List ConfLine → Path → Type 0
 IsTaboo lines path = Bars (banned false first_taboo lines) (last_of path)
 
 -- Behind the next visit; none is made of a name that is barred.

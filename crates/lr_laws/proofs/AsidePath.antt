@@ -6,7 +6,7 @@ use Rattle.lr_host.specs.declared.entry.Entry.TheVariants.{Attach, Feed, Flush, 
 use Rattle.lr_host.specs.declared.entry.Entry.TheVariants as entry
 use Rattle.lr_host.specs.declared.thing.Thing.{Thing}
 use Rattle.lr_host.specs.declared.thing.Thing.TheVariants as thing
-use Rattle.lr_host.specs.World.{Names, put, names, names_after, Past, ◌▸◌, world, Puts, Moves, Adds, Step, step, changed}
+use Rattle.lr_host.specs.World.{Names, put, names, names_after, Past, ◌▸◌, world, Puts, Moves, Adds, NameStep, step, changed}
 use Rattle.lr_host.specs.Fits.{Fits, IsFileAt}
 use Rattle.lr_host.specs.Later.{IsGeneration}
 use Rattle.lr_host.specs.Opening.{IsJournal}
@@ -54,7 +54,7 @@ module _ (s : LogSet) (q : Past) (e : Entry) (x : Path) (apart : x ≡ s.log →
   old_at g gen is = ⊎_elim (λ old. old) (λ new. absurd (apart ((sound_on s q e cl h nl).unique (names (world (q ▸ e))) [] (leaves_now (world (q ▸ e))) x s.log g is (named new.0)))) (split s q e cl h nl g gen)
     where
       named : step (world q) e ≡ Adds (Puts s.log (thing.File g)) → names (world (q ▸ e)) s.log ≡ thing.File g
-      named st = ap (λ (t : Step). names_by (world q) t s.log) st ∙ put_here (names (world q)) s.log s.log (thing.File g) refl
+      named st = ap (λ (t : NameStep). names_by (world q) t s.log) st ∙ put_here (names (world q)) s.log s.log (thing.File g) refl
 
   none_kept : names (world (q ▸ e)) x ≡ names (world q) x → NamesNone s q x → NamesNone s (q ▸ e) x
   none_kept same none g gen is = none g (old_at g gen is) (sym same ∙ is)

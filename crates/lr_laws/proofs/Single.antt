@@ -2,7 +2,7 @@
 use Rattle.std.proofs.Common.{◌≡◌, ℕ, ◌<◌, List, length, sym, ◌∙◌, ap, subst, arith}
 use Rattle.lr_rules.specs.declared.path.Path.{Path}
 use Rattle.lr_host.specs.declared.entry.Entry.{Entry}
-use Rattle.lr_host.specs.World.{Names, Change, Puts, changed, World, Step, Adds, step, Past, Opens, ◌▸◌, world, opening_names}
+use Rattle.lr_host.specs.World.{Names, Change, Puts, changed, World, NameStep, Adds, step, Past, Opens, ◌▸◌, world, opening_names}
 use Rattle.lr_host.specs.declared.thing.Thing.TheVariants as thing
 use Rattle.lr_host.specs.Kept.{Leaves}
 use Rattle.lr_host.specs.declared.journal.Opening.{Opening}
@@ -26,7 +26,7 @@ module _ (p : Past) (e : Entry) (cl : KeepsClosed (world p) e) (h : IsSingle p) 
   abbrev w : World
   w = world p
 
-  abbrev st : Step
+  abbrev st : NameStep
   st = step (world p) e
 
   fresh_on : (m : Names) (undone : List Change) → Leaves (p ▸ e) m undone → (x : Path) (g : ℕ) → m x ≡ thing.File g → g < (world (p ▸ e)).drawn

@@ -6,7 +6,7 @@ use Rattle.lr_host.specs.declared.thing.Thing.{Thing}
 use Rattle.lr_host.specs.declared.thing.Thing.TheVariants as thing
 use Rattle.lr_host.specs.declared.entry.Entry.{Entry}
 use Rattle.lr_host.specs.declared.entry.Entry.TheVariants.{Attach, Renames, Makes, MakesDir, Unlinks}
-use Rattle.lr_host.specs.World.{Names, names_after, put, Change, Puts, Moves, Drops, changed, kept_at, undone_at, settled, MayLeave, Step, Stays, Adds, Settles, Keeps, making, step, World, names, durable_after, pending_after, Past, Opens, ◌▸◌, world}
+use Rattle.lr_host.specs.World.{Names, names_after, put, Change, Puts, Moves, Drops, changed, kept_at, undone_at, settled, MayLeave, NameStep, Stays, Adds, Settles, Keeps, making, step, World, names, durable_after, pending_after, Past, Opens, ◌▸◌, world}
 use Rattle.lr_host.specs.Fits.{Fits, IsFileAt, IsDirectoryAt}
 use Rattle.lr_host.specs.Opening.{IsJournal}
 use Rattle.lr_host.specs.Kept.{Leaves}
@@ -127,7 +127,7 @@ module _ (p : Past) (e : Entry) (f : Fits (world p) e) (h : IsRooted p) where
       go (by_cut kept older q t same k) = h.stand n older k
       go (kept_too c m q same k ag) = adds c q
 
-  made_step : (st : Step) → step (world p) e ≡ st → (d : Path) → names_after (durable_after (world p) st) (pending_after (world p) st) d ≡ thing.Directory → LastMakes d (pending_after (world p) st)
+  made_step : (st : NameStep) → step (world p) e ≡ st → (d : Path) → names_after (durable_after (world p) st) (pending_after (world p) st) d ≡ thing.Directory → LastMakes d (pending_after (world p) st)
   made_step Stays q d is = h.made d is
   made_step (Adds c) q d is = go (directory_before (names (world p)) c d (fitted (world p) e c f q) is)
     where

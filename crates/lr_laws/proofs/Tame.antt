@@ -7,7 +7,7 @@ use Rattle.lr_host.specs.declared.entry.Entry.TheVariants.{Attach, Feed, Flush, 
 use Rattle.lr_host.specs.declared.entry.Entry.TheVariants as entry
 use Rattle.lr_host.specs.declared.thing.Thing.{Thing}
 use Rattle.lr_host.specs.declared.thing.Thing.TheVariants as thing
-use Rattle.lr_host.specs.World.{World, Names, names, making, Past, ◌▸◌, world, Change, Puts, Moves, Drops, Step, Stays, Adds, Settles, Keeps, step}
+use Rattle.lr_host.specs.World.{World, Names, names, making, Past, ◌▸◌, world, Change, Puts, Moves, Drops, NameStep, Stays, Adds, Settles, Keeps, step}
 use Rattle.lr_host.specs.Forward.{IsForward}
 use Rattle.lr_host.specs.Kept.{Leaves}
 use Rattle.lr_host.specs.Later.{IsGeneration}
@@ -31,7 +31,7 @@ pub record GivesNone (s : LogSet) (c : Change) : Type 0 where
   pub moved : (x y : Path) → c ≡ Moves x y → s.key y ≡ None
 
 -- a step by which no member gets a file, and which is no cut
-pub record IsTame (s : LogSet) (st : Step) : Type 0 where
+pub record IsTame (s : LogSet) (st : NameStep) : Type 0 where
   pub adds : (c : Change) → st ≡ Adds c → GivesNone s c
   pub keeps : (kept : List ℕ) → st ≡ Keeps kept → ⊥
 

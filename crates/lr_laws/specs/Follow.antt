@@ -4,7 +4,7 @@ use Rattle.lr_rules.specs.declared.path.Path.{Path}
 use Rattle.lr_host.specs.declared.thing.Thing.TheVariants as thing
 use Rattle.lr_host.specs.declared.entry.Entry.{Entry}
 use Rattle.lr_host.specs.declared.entry.Entry.TheVariants as entry
-use Rattle.lr_host.specs.World.{Names, Change, Moves, changed, Step, Adds, step, Past, ◌▸◌, world, names}
+use Rattle.lr_host.specs.World.{Names, Change, Moves, changed, NameStep, Adds, step, Past, ◌▸◌, world, names}
 use Rattle.lr_host.specs.Sets.{Order, Numbered, Dated, LogSet, order, IsWithin, IsAsideOf, in_reach}
 use Rattle.lr_host.specs.Later.{IsGeneration, later}
 use Rattle.lr_host.specs.Released.{Releases}
@@ -22,7 +22,7 @@ abbrev pub KeepsAllPlaces : LogSet → Past → Entry → Change → Type 0
 KeepsAllPlaces s p e c = (n : Names) (undone : List Change) → Leaves p n undone → KeepsPlaces (order s) s p e n (changed c n)
 
 -- so of a step that changes a name
-abbrev pub MakesPlaces : LogSet → Past → Entry → Step → Type 0
+abbrev pub MakesPlaces : LogSet → Past → Entry → NameStep → Type 0
 MakesPlaces s p e (Adds c) = KeepsAllPlaces s p e c
 MakesPlaces s p e _ = Unit {0}
 

@@ -14,7 +14,7 @@ use Rattle.lr_rules.specs.Path.{path_fault, is_absolute, has_bad_byte, has_empty
 use Rattle.lr_host.specs.Lists.{IsIn}
 use Rattle.lr_host.proofs.Lists.{in_unmap, in_append}
 use Rattle.lr_glob.proofs.Literals.{literal_utf8}
-use Rattle.lr_looks.specs.Asked.{Word, word_of, rule_words, words_from, asked_by, AreTexts}
+use Rattle.lr_looks.specs.Asked.{AskedWord, word_of, rule_words, words_from, asked_by, AreTexts}
 use Rattle.lr_laws_looks.proofs.Gives.{all_in, text_in}
 
 -- ---- a path
@@ -46,10 +46,10 @@ literal_valid word text h literal =
 -- ---- the words of rules
 
 -- the literal ones of these words are paths
-abbrev pub HavePaths : List Word → Type 0
-HavePaths words = (w : Word) → IsIn w words → is_wildcard w.text ≡ false → path_fault (literal_path w.text) ≡ None
+abbrev pub HavePaths : List AskedWord → Type 0
+HavePaths words = (w : AskedWord) → IsIn w words → is_wildcard w.text ≡ false → path_fault (literal_path w.text) ≡ None
 
-meets_from : (k : ℕ) (rules : List Rule) → list_all meets_limits rules ≡ true → (w : Word) → IsIn w (words_from k rules) → is_log_word w.text ≡ true
+meets_from : (k : ℕ) (rules : List Rule) → list_all meets_limits rules ≡ true → (w : AskedWord) → IsIn w (words_from k rules) → is_log_word w.text ≡ true
 meets_from k [] limits w i = absurd i
 meets_from k (rule ∷ rules) limits w i = ⊎_elim own (λ (j : IsIn w (words_from (k + 1) rules)). meets_from (k + 1) rules both.1 w j) (in_append w (rule_words k rule) (words_from (k + 1) rules) i)
   where
@@ -59,7 +59,7 @@ meets_from k (rule ∷ rules) limits w i = ⊎_elim own (λ (j : IsIn w (words_f
     own : IsIn w (rule_words k rule) → is_log_word w.text ≡ true
     own j =
         let r = in_unmap (word_of k rule) w rule.words j in
-        subst (λ (v : Word). is_log_word v.text ≡ true) r.2 (all_in is_log_word rule.words r.0 (and_parts (list_all is_log_word rule.words) _ both.0).0 r.1)
+        subst (λ (v : AskedWord). is_log_word v.text ≡ true) r.2 (all_in is_log_word rule.words r.0 (and_parts (list_all is_log_word rule.words) _ both.0).0 r.1)
 
 pub have_paths : (rules : List Rule) → list_all meets_limits rules ≡ true → AreTexts (asked_by rules) → HavePaths (asked_by rules)
 have_paths rules limits texts w i literal = literal_valid w.text (text_in (asked_by rules) w texts i) (meets_from 0 rules limits w i) literal

@@ -14,7 +14,7 @@ use Rattle.lr_host.proofs.Quiet.{quiet_both, quiet_still, still_in_order}
 use Rattle.lr_glob.specs.declared.found.Found.{Found as Match}
 use Rattle.lr_plan.specs.declared.looks.LogLook.{LogLook}
 use Rattle.lr_plan.specs.declared.looks.SetLooks.{SetLooks}
-use Rattle.lr_looks.specs.Asked.{Word, asked_by}
+use Rattle.lr_looks.specs.Asked.{AskedWord, asked_by}
 use Rattle.lr_looks.specs.Families.{LookedLog, looked_of, LooksAtFamilies}
 use Rattle.lr_looks.specs.Sets.{looked_in}
 use Rattle.lr_looks.specs.Shown.{ShowsLooks}
@@ -43,7 +43,7 @@ module _ {reserved : List Path} (rules : Rules) (sets : List SetLooks) (faults :
   in_families : (e : Entry) → IsIn e s.entries.back → IsIn e (reverse es)
   in_families e i = in_looks e (subst (IsIn e) (sym s.entries.joined) (in_back e s.entries.front s.entries.back i))
 
-  one_word : (place : ℕ) (w : Word) (matches : List Match) → slice_get (asked_by rules.sets) place ≡ Some w → slice_get s.entries.first.sights place ≡ Some (Ok matches) → IsTrueWord w matches p q
+  one_word : (place : ℕ) (w : AskedWord) (matches : List Match) → slice_get (asked_by rules.sets) place ≡ Some w → slice_get s.entries.first.sights place ≡ Some (Ok matches) → IsTrueWord w matches p q
   one_word place w matches at is = true_word w matches p q es made journal all_quiet (text_at (asked_by rules.sets) place w s.texts at) (record {
     room = shown.room;
     among = record {

@@ -24,7 +24,7 @@ use Rattle.lr_plan.specs.declared.looks.LogLook.{LogLook}
 use Rattle.lr_plan.specs.declared.looks.SetLooks.{SetLooks}
 use Rattle.lr_plan.specs.Planned.{hindrances, where_due}
 use Rattle.lr_looks.specs.declared.standing.Standing.{Standing}
-use Rattle.lr_looks.specs.Asked.{Word, word_of, rule_words, words_from, asked_by}
+use Rattle.lr_looks.specs.Asked.{AskedWord, word_of, rule_words, words_from, asked_by}
 use Rattle.lr_looks.specs.Choices.{kept_of, where_file}
 use Rattle.lr_looks.specs.Families.{FamilySight, Stood, Stopped, LookedLog, looked_at, looked_of}
 use Rattle.lr_looks.specs.Found.{FoundLog}
@@ -159,8 +159,8 @@ in_kept (f ∷ fs) (Meets k ∷ cs) g i = inr (in_kept fs cs g i)
 -- ---- a word that gives it
 
 -- The log was found by one of these words, whose looks and listings stand among these entries; all that the word gives was found with it.
-pub record IsFoundBy (words : List Word) (ts : List Entry) (all : List FoundLog) (f : FoundLog) : Type 0 where
-  pub word : Word
+pub record IsFoundBy (words : List AskedWord) (ts : List Entry) (all : List FoundLog) (f : FoundLog) : Type 0 where
+  pub word : AskedWord
   pub among : IsIn word words
   pub room : ℕ
   pub matches : List Match
@@ -170,7 +170,7 @@ pub record IsFoundBy (words : List Word) (ts : List Entry) (all : List FoundLog)
   pub shown : Among (WordComes word.text room (Ok matches)) ts
   pub others : (m : Match) → IsIn m matches → IsIn (found_at word m) all
 
-pub found_by_word : (n : ℕ) (words : List Word) (ss : List WordSight) (ts : List Entry) → ShowWords n words ss ts → (f : FoundLog) → IsIn f (found_of words ss) → IsFoundBy words ts (found_of words ss) f
+pub found_by_word : (n : ℕ) (words : List AskedWord) (ss : List WordSight) (ts : List Entry) → ShowWords n words ss ts → (f : FoundLog) → IsIn f (found_of words ss) → IsFoundBy words ts (found_of words ss) f
 found_by_word n [] [] ts h f i = absurd i
 found_by_word n [] (s ∷ ss) ts h f i = absurd i
 found_by_word n (w ∷ ws) [] ts h f i = absurd i
@@ -206,13 +206,13 @@ found_by_word n (w ∷ ws) (s ∷ ss) ts h f i = ⊎_elim (λ (a : IsIn f (found
     }
 
 -- The word is one of the rule at this place, where the first of the rules has place k.
-pub record IsAsked (k : ℕ) (rules : List Rule) (w : Word) : Type 0 where
+pub record IsAsked (k : ℕ) (rules : List Rule) (w : AskedWord) : Type 0 where
   pub place : ℕ
   pub at : slice_get rules place ≡ Some w.rule
   pub has : IsIn w.text w.rule.words
   pub set : w.set ≡ k + place
 
-pub was_asked : (k : ℕ) (rules : List Rule) (w : Word) → IsIn w (words_from k rules) → IsAsked k rules w
+pub was_asked : (k : ℕ) (rules : List Rule) (w : AskedWord) → IsIn w (words_from k rules) → IsAsked k rules w
 was_asked k [] w h = absurd h
 was_asked k (rule ∷ rules) w h = ⊎_elim own (λ b. further (was_asked (k + 1) rules w b)) (in_append w (rule_words k rule) (words_from (k + 1) rules) h)
   where
@@ -225,7 +225,7 @@ was_asked k (rule ∷ rules) w h = ⊎_elim own (λ b. further (was_asked (k + 1
     own : IsIn w (rule_words k rule) → IsAsked k (rule ∷ rules) w
     own a =
         let r = in_unmap (word_of k rule) w rule.words a in
-        subst (λ (v : Word). IsAsked k (rule ∷ rules) v) r.2 (record { place = 0; at = refl; has = r.1; set = plus_none k })
+        subst (λ (v : AskedWord). IsAsked k (rule ∷ rules) v) r.2 (record { place = 0; at = refl; has = r.1; set = plus_none k })
 
     further : IsAsked (k + 1) rules w → IsAsked k (rule ∷ rules) w
     further a = record { place = suc a.place; at = a.at; has = a.has; set = a.set ∙ moved k a.place }

@@ -34,7 +34,7 @@ use Rattle.lr_kept.specs.declared.choice.Choice.{Choice}
 use Rattle.lr_kept.specs.declared.choice.Choice.TheVariants.{Kept}
 use Rattle.lr_kept.specs.Chosen.{IsLogKept}
 use Rattle.lr_plan.specs.declared.looks.SetLooks.{SetLooks}
-use Rattle.lr_looks.specs.Asked.{Word, asked_by, AreTexts, CanAsk}
+use Rattle.lr_looks.specs.Asked.{AskedWord, asked_by, AreTexts, CanAsk}
 use Rattle.lr_looks.specs.Choices.{chosen_names, found_names, is_wild, IsChoiceAmong}
 use Rattle.lr_looks.specs.Found.{FoundLog}
 use Rattle.lr_looks.specs.Shown.{ShowsLooks}
@@ -63,9 +63,9 @@ full_pattern word h wild =
     let parts = (and_parts (is_absolute word) _ behind).1 in
     not-true (has_empty_part word) (and_parts (not (has_empty_part word)) (not (has_dot_part word)) parts).0
 
-pub text_in : (words : List Word) (w : Word) → AreTexts words → IsIn w words → IsUtf8 w.text
+pub text_in : (words : List AskedWord) (w : AskedWord) → AreTexts words → IsIn w words → IsUtf8 w.text
 text_in [] w h i = absurd i
-text_in (v ∷ ws) w h (inl e) = subst (λ (x : Word). IsUtf8 x.text) e h.0
+text_in (v ∷ ws) w h (inl e) = subst (λ (x : AskedWord). IsUtf8 x.text) e h.0
 text_in (v ∷ ws) w h (inr i) = text_in ws w h.1 i
 
 -- ---- the log that was found first with a path
@@ -148,16 +148,16 @@ module _ {reserved : List Path} (rules : Rules) (sets : List SetLooks) (faults :
   quiet = looks_quiet s.entries.front (looking_words 0 (asked_by rules.sets) s.entries.first.sights s.entries.front s.entries.first.shown)
 
   -- the word is one of its rule
-  asked : (w : Word) → IsIn w (asked_by rules.sets) → IsAsked 0 rules.sets w
+  asked : (w : AskedWord) → IsIn w (asked_by rules.sets) → IsAsked 0 rules.sets w
   asked w i = was_asked 0 rules.sets w i
 
-  rule_in : (w : Word) → (a : IsAsked 0 rules.sets w) → IsIn w.rule rules.sets
+  rule_in : (w : AskedWord) → (a : IsAsked 0 rules.sets w) → IsIn w.rule rules.sets
   rule_in w a = in_list rules.sets a.place w.rule a.at
 
-  can : (w : Word) → IsAsked 0 rules.sets w → CanAsk w.rule
+  can : (w : AskedWord) → IsAsked 0 rules.sets w → CanAsk w.rule
   can w a = all_in meets_limits rules.sets w.rule rules.limits (rule_in w a)
 
-  full : (w : Word) → IsIn w (asked_by rules.sets) → is_wildcard w.text ≡ true → has_empty_part w.text ≡ false
+  full : (w : AskedWord) → IsIn w (asked_by rules.sets) → is_wildcard w.text ≡ true → has_empty_part w.text ≡ false
   full w i wild =
       let a = asked w i in
       full_pattern w.text (all_in is_log_word w.rule.words w.text (first_true (list_all is_log_word w.rule.words) _ (all_in meets_limits rules.sets w.rule rules.limits (rule_in w a))) a.has) wild

@@ -15,7 +15,7 @@ use Rattle.lr_glob.specs.declared.found.Found.{Found}
 use Rattle.lr_glob.specs.declared.found.GlobStop.{GlobStop}
 use Rattle.lr_glob.specs.Gathers.{Gathers}
 use Rattle.lr_glob.specs.Parts.{JoinOf, PickOf, parts_in}
-use Rattle.lr_glob.specs.Visits.{Visit, visit_names, visit_entries}
+use Rattle.lr_glob.specs.Visits.{WordVisit, visit_names, visit_entries}
 use Rattle.lr_glob.specs.Rounds.{Round, Went, Asked, round_entries, Picks, FollowsBy, FollowsPart, Leads, there, on, Led}
 use Rattle.lr_glob.specs.Sights.{InOrder, found_file, seen_at, is_whole, judged, LookedAt}
 use Rattle.lr_glob.specs.Words.{SearchThen, WordGave, Comes}
@@ -97,7 +97,7 @@ one_listing true false s d f l m vs ws p e = absurd (true≢false s)
 one_listing false true s d f l m vs ws p e = absurd (true≢false (sym s))
 one_listing false false s d f l m vs ws p e = record { came = refl; left = refl; behind = e }
 
-one_visit : (v w : Visit) (vs ws : List Entry) → v.dir ≡ w.dir → visit_entries v ++ vs ≡ visit_entries w ++ ws → AreOne (List (List ℕ)) (visit_names v) (visit_names w) (visit_entries v) (visit_entries w) vs ws
+one_visit : (v w : WordVisit) (vs ws : List Entry) → v.dir ≡ w.dir → visit_entries v ++ vs ≡ visit_entries w ++ ws → AreOne (List (List ℕ)) (visit_names v) (visit_names w) (visit_entries v) (visit_entries w) vs ws
 one_visit v w vs ws d e =
     let one = heads (entry.Look v.dir v.seen) (entry.Look w.dir w.seen) (cond (is_dir v.seen) (entry.List v.dir v.listed ∷ []) [] ++ vs) (cond (is_dir w.seen) (entry.List w.dir w.listed ∷ []) [] ++ ws) e in
     let rest = tails (entry.Look v.dir v.seen) (entry.Look w.dir w.seen) (cond (is_dir v.seen) (entry.List v.dir v.listed ∷ []) [] ++ vs) (cond (is_dir w.seen) (entry.List w.dir w.listed ∷ []) [] ++ ws) e in
@@ -108,7 +108,7 @@ one_visit v w vs ws d e =
       behind = same.behind;
     }
 
-visits_one : (part : List ℕ) (xs ys : List Visit) (a b : List Path) (vs ws : List Entry) → map (λ v. v.dir) xs ≡ map (λ v. v.dir) ys → GathersBy (Picks part) xs a → GathersBy (Picks part) ys b → flat_map visit_entries xs ++ vs ≡ flat_map visit_entries ys ++ ws
+visits_one : (part : List ℕ) (xs ys : List WordVisit) (a b : List Path) (vs ws : List Entry) → map (λ v. v.dir) xs ≡ map (λ v. v.dir) ys → GathersBy (Picks part) xs a → GathersBy (Picks part) ys b → flat_map visit_entries xs ++ vs ≡ flat_map visit_entries ys ++ ws
     → AreOne (List Path) a b (flat_map visit_entries xs) (flat_map visit_entries ys) vs ws
 visits_one part [] [] a b vs ws m g h e = record { came = g ∙ sym h; left = refl; behind = e }
 visits_one part [] (y ∷ ys) a b vs ws m g h e = absurd (cc m)

@@ -7,7 +7,7 @@ use Rattle.lr_rules.specs.declared.path.Path.{Path}
 use Rattle.lr_rules.specs.declared.rule.Rule.{Rule}
 use Rattle.lr_due.specs.declared.answer.Due.{Due}
 use Rattle.lr_due.specs.declared.answer.Due.TheVariants as due
-use Rattle.lr_state.specs.Table.{Entry as Row}
+use Rattle.lr_state.specs.Table.{StateEntry as Row}
 use Rattle.lr_chain.specs.declared.ready.Ready.{Ready}
 use Rattle.lr_plan.specs.Asked.{Asked}
 use Rattle.lr_plan.specs.declared.looks.LogLook.{LogLook}

@@ -28,7 +28,7 @@ use Rattle.lr_host.specs.Looking.{AreLooking}
 use Rattle.lr_host.proofs.Looking.{looks_quiet, looking_both, looking_none, looking_sees}
 use Rattle.lr_glob.proofs.OnlyLooks.{comes_looks, stopped_looks}
 use Rattle.lr_plan.specs.declared.looks.SetLooks.{SetLooks}
-use Rattle.lr_looks.specs.Asked.{Word, asked_by}
+use Rattle.lr_looks.specs.Asked.{AskedWord, asked_by}
 use Rattle.lr_looks.specs.Families.{FamilySight, Stood, Stopped, ShowsAside, ShowsNoAside, ShowsMembersIn, ShowsFamily, behind_listing, with_listing, not_listed, ShowFamilies}
 use Rattle.lr_looks.specs.Found.{FoundLog}
 use Rattle.lr_looks.specs.Shown.{ShowsLooks, ShowsSomeLooks, at_words, at_families}
@@ -36,11 +36,11 @@ use Rattle.lr_looks.specs.Sights.{WordSight, found_by, ShowsWord, ShowWords}
 
 -- ---- the looks and listings of the words
 
-looking_word : (w : Word) (room : ℕ) (s : WordSight) (ts : List Entry) → ShowsWord w room s ts → AreLooking ts
+looking_word : (w : AskedWord) (room : ℕ) (s : WordSight) (ts : List Entry) → ShowsWord w room s ts → AreLooking ts
 looking_word w room (Ok found) ts h = comes_looks w.text room (Ok found) ts h
 looking_word w room (Err why) ts h = stopped_looks w.text room why ts h
 
-pub looking_words : (n : ℕ) (words : List Word) (sights : List WordSight) (ts : List Entry) → ShowWords n words sights ts → AreLooking ts
+pub looking_words : (n : ℕ) (words : List AskedWord) (sights : List WordSight) (ts : List Entry) → ShowWords n words sights ts → AreLooking ts
 looking_words n [] [] ts h = looking_none ts h
 looking_words n [] (s ∷ ss) ts h = absurd h
 looking_words n (w ∷ ws) [] ts h = absurd h

@@ -13,7 +13,7 @@ use Rattle.lr_host.specs.Lists.{IsIn}
 use Rattle.lr_host.specs.World.{world, Names, names}
 use Rattle.lr_host.proofs.Lists.{in_front, in_back}
 use Rattle.lr_host.proofs.Looked.{seen_file, seen_none}
-use Rattle.lr_state.specs.Grammar.{Said}
+use Rattle.lr_state.specs.Grammar.{StateSaid}
 use Rattle.lr_state.specs.declared.look.LookStop.{LookStop}
 use Rattle.lr_state.specs.declared.remembered.Remembered.{Remembered}
 use Rattle.lr_state.specs.Known.{known_of, text_read, IsKnownBy, IsKnownOf, IsKnown, ReadsState}
@@ -29,7 +29,7 @@ record AreFound (s : StateSights) (r : Remembered) : Type 0 where
   state : found s.state ≡ Ok there
   part : found s.part ≡ Ok r.stale
 
-said_stale : (stale : Bool) (s : Said) (r : Remembered) → Ok r ≡ known_of stale s → stale ≡ r.stale
+said_stale : (stale : Bool) (s : StateSaid) (r : Remembered) → Ok r ≡ known_of stale s → stale ≡ r.stale
 said_stale stale (Ok table) r k = let same : r ≡ record { table = table; stale = stale } = cc in sym (ap (λ (x : Remembered). x.stale) same)
 said_stale stale (Err bad) r k = absurd (cc)
 

@@ -31,7 +31,7 @@ use Rattle.lr_glob.specs.Gathers.{Gathers}
 use Rattle.lr_glob.specs.Parts.{JoinOf, PickOf, parts_in}
 use Rattle.lr_glob.specs.Rounds.{Picks, Round, Went, Asked, round_entries, FollowsBy, Led}
 use Rattle.lr_glob.specs.Sights.{found_file, file_at, is_whole, seen_at, LookedAt}
-use Rattle.lr_glob.specs.Visits.{Visit, visit_names, visit_entries}
+use Rattle.lr_glob.specs.Visits.{WordVisit, visit_names, visit_entries}
 use Rattle.lr_glob.specs.Words.{WordGave, Comes, SearchThen}
 use Rattle.lr_glob.proofs.Apart.{dir_of}
 use Rattle.lr_glob.proofs.Literals.{one_name, parts_utf8}
@@ -60,10 +60,10 @@ pick_in part dir name _ path matches (PickOf.other none) = absurd (none matches)
 
 -- ---- looks and listings
 
-its_list : (v : Visit) → is_dir v.seen ≡ true → IsIn (entry.List v.dir v.listed) (visit_entries v)
+its_list : (v : WordVisit) → is_dir v.seen ≡ true → IsIn (entry.List v.dir v.listed) (visit_entries v)
 its_list v h = inr (subst (λ c. IsIn (entry.List v.dir v.listed) (cond c (entry.List v.dir v.listed ∷ []) [])) (sym h) (inl refl))
 
-its_names : (v : Visit) → is_dir v.seen ≡ true → visit_names v ≡ v.listed
+its_names : (v : WordVisit) → is_dir v.seen ≡ true → visit_names v ≡ v.listed
 its_names v h = ap (λ c. cond c v.listed []) h
 
 sees_dir : (w : World) (t : Thing) (look : Option Seen) → t ≡ thing.Directory → SeesThing w t look → is_dir look ≡ true
@@ -130,8 +130,8 @@ module _ (p q : Past) (es : List Entry) (m : Made p es q) (quiet : AreQuiet (rev
 
   -- ---- one part
 
-  visited : (part : List ℕ) (dir : Path) (name : List ℕ) (visits : List Visit) (paths : List Path) → Matches true (chars part) (chars name) → IsDirectoryAt (names (world p)) dir → IsPart name → path_fault (joined dir name) ≡ None → names (world p) (joined dir name) ≢ thing.Nothing
-      → (v : Visit) → IsIn v visits → v.dir ≡ dir → ((e : Entry) → IsIn e (flat_map visit_entries visits) → IsIn e (reverse es)) → Gathers (Picks part) visits paths → IsIn (joined dir name) paths
+  visited : (part : List ℕ) (dir : Path) (name : List ℕ) (visits : List WordVisit) (paths : List Path) → Matches true (chars part) (chars name) → IsDirectoryAt (names (world p)) dir → IsPart name → path_fault (joined dir name) ≡ None → names (world p) (joined dir name) ≢ thing.Nothing
+      → (v : WordVisit) → IsIn v visits → v.dir ≡ dir → ((e : Entry) → IsIn e (flat_map visit_entries visits) → IsIn e (reverse es)) → Gathers (Picks part) visits paths → IsIn (joined dir name) paths
   visited part dir name visits paths matches there one path named v i at within g =
       gather_in (Picks part) visits paths v (joined dir name) g i (λ its k. gather_in (PickOf part v.dir) (visit_names v) its name (joined dir name) k listed (λ ones w. of_name ones w))
     where

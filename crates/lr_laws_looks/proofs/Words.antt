@@ -23,7 +23,7 @@ use Rattle.lr_host.proofs.Quiet.{IsAny, moment, made_quiet, quiet_more, quiet_st
 use Rattle.lr_glob.specs.declared.found.Found.{Found as Match}
 use Rattle.lr_glob.specs.Words.{Comes}
 use Rattle.lr_glob.proofs.Seeking.{found_were_seen}
-use Rattle.lr_looks.specs.Asked.{Word, AreTexts}
+use Rattle.lr_looks.specs.Asked.{AskedWord, AreTexts}
 use Rattle.lr_looks.specs.Sights.{WordSight, found_by, ShowsWord, ShowWords}
 use Rattle.lr_laws_family.specs.Weave.{Among}
 use Rattle.lr_laws_rotations.proofs.Given.{Stretch, stretch, still_file}
@@ -34,11 +34,11 @@ use Rattle.lr_laws_looks.specs.True.{IsTrueWord}
 
 -- ---- the looks of one word among those of all
 
-pub record WasShown (w : Word) (matches : List Match) (ts : List Entry) : Type 0 where
+pub record WasShown (w : AskedWord) (matches : List Match) (ts : List Entry) : Type 0 where
   pub room : ℕ
   pub among : Among (Comes w.text room (Ok matches)) ts
 
-pub word_shown : (n : ℕ) (words : List Word) (ss : List WordSight) (ts : List Entry) (place : ℕ) (w : Word) (matches : List Match) → ShowWords n words ss ts → slice_get words place ≡ Some w → slice_get ss place ≡ Some (Ok matches) → WasShown w matches ts
+pub word_shown : (n : ℕ) (words : List AskedWord) (ss : List WordSight) (ts : List Entry) (place : ℕ) (w : AskedWord) (matches : List Match) → ShowWords n words ss ts → slice_get words place ≡ Some w → slice_get ss place ≡ Some (Ok matches) → WasShown w matches ts
 word_shown n [] ss ts place w matches h at is = absurd (none place at)
   where
     none : (k : ℕ) → slice_get [] k ≡ Some w → ⊥
@@ -52,7 +52,7 @@ word_shown n (v ∷ ws) (s ∷ ss) ts zero w matches h at is = record {
     part = h.front;
     after = h.back;
     joined = h.joined;
-    is = subst (λ (u : Word). Comes u.text (16_384 - n) (Ok matches) h.front) one (subst (λ (x : WordSight). ShowsWord v (16_384 - n) x h.front) sight h.first);
+    is = subst (λ (u : AskedWord). Comes u.text (16_384 - n) (Ok matches) h.front) one (subst (λ (x : WordSight). ShowsWord v (16_384 - n) x h.front) sight h.first);
   };
 }
   where
@@ -74,13 +74,13 @@ word_shown n (v ∷ ws) (s ∷ ss) ts (suc place) w matches h at is =
       };
     }
 
-pub text_at : (words : List Word) (place : ℕ) (w : Word) → AreTexts words → slice_get words place ≡ Some w → IsUtf8 w.text
+pub text_at : (words : List AskedWord) (place : ℕ) (w : AskedWord) → AreTexts words → slice_get words place ≡ Some w → IsUtf8 w.text
 text_at [] place w t at = absurd (none place at)
   where
     none : (k : ℕ) → slice_get [] k ≡ Some w → ⊥
     none zero e = cc
     none (suc k) e = cc
-text_at (v ∷ ws) zero w t at = subst (λ (u : Word). IsUtf8 u.text) one t.0
+text_at (v ∷ ws) zero w t at = subst (λ (u : AskedWord). IsUtf8 u.text) one t.0
   where
     one : v ≡ w
     one = cc
@@ -93,7 +93,7 @@ pub still_named : (t u : Thing) → (u ≡ t) ⊎ ((t ≡ thing.Nothing) × ((g 
 still_named t u (inl same) named none = named (sym same ∙ none)
 still_named t u (inr new) named none = named new.0
 
-module _ (w : Word) (matches : List Match) (p q : Past) (es : List Entry) (m : Made p es q) (journal : IsJournal p) (quiet : AreQuiet (reverse es)) (text : IsUtf8 w.text) (shown : WasShown w matches (reverse es)) where
+module _ (w : AskedWord) (matches : List Match) (p q : Past) (es : List Entry) (m : Made p es q) (journal : IsJournal p) (quiet : AreQuiet (reverse es)) (text : IsUtf8 w.text) (shown : WasShown w matches (reverse es)) where
   made : Made p (reverse (reverse es)) q
   made = subst (λ (xs : List Entry). Made p xs q) (sym (reverse-reverse es)) m
 

@@ -21,11 +21,11 @@ use Rattle.lr_glob.specs.declared.found.Found.{Found as Match}
 use Rattle.lr_laws_looks.specs.Finds.{FindsFile, StoodOrCame}
 use Rattle.lr_plan.specs.declared.looks.LogLook.{LogLook}
 use Rattle.lr_plan.specs.declared.looks.SetLooks.{SetLooks}
-use Rattle.lr_looks.specs.Asked.{Word, asked_by}
+use Rattle.lr_looks.specs.Asked.{AskedWord, asked_by}
 use Rattle.lr_looks.specs.Sights.{WordSight}
 
 -- What a word came to.
-pub record IsTrueWord (w : Word) (matches : List Match) (before behind : Past) : Type 0 where
+pub record IsTrueWord (w : AskedWord) (matches : List Match) (before behind : Past) : Type 0 where
   -- each regular file that the word gives and that stood
   pub files : (x : Path) → path_fault x ≡ None → IsFileAt (names (world before)) x → WordGives w.text x → FindsFile x matches
   -- of a literal word whatever stood at its one path
@@ -59,7 +59,7 @@ pub record IsTrueAside (log : Path) (tmp : Option Seen) (before behind : Past) :
 -- So is what looks came to, by what they saw at the words of these rules, and by the logs that they looked at whole: at each word,
 -- and at each family, that no fault passed over, and where each of these logs waits whose rule sets it aside.
 pub record AreTrue (rules : List Rule) (sights : List WordSight) (sets : List SetLooks) (before behind : Past) : Type 0 where
-  pub words : (place : ℕ) (w : Word) (matches : List Match) → slice_get (asked_by rules) place ≡ Some w
+  pub words : (place : ℕ) (w : AskedWord) (matches : List Match) → slice_get (asked_by rules) place ≡ Some w
       → slice_get sights place ≡ Some (Ok matches) → IsTrueWord w matches before behind
   pub families : (set : SetLooks) (look : LogLook) → IsIn set sets → IsIn look set.logs
       → IsTrueFamily look.family.naming look.stand before behind

@@ -16,7 +16,7 @@ use Rattle.lr_host.specs.declared.entry.Entry.{Entry}
 use Rattle.lr_host.specs.declared.entry.Entry.TheVariants as entry
 use Rattle.lr_host.specs.Lists.{IsIn}
 use Rattle.lr_host.proofs.Lists.{in_front, in_back, in_append}
-use Rattle.lr_state.specs.Grammar.{Said, TextSays, SizedTextSays}
+use Rattle.lr_state.specs.Grammar.{StateSaid, TextSays, SizedTextSays}
 use Rattle.lr_state.specs.declared.look.LookStop.{LookStop}
 use Rattle.lr_state.specs.declared.look.LookStop.TheVariants as stop
 use Rattle.lr_state.specs.declared.remembered.Remembered.{Remembered}
@@ -122,12 +122,12 @@ last_read x place [] last = (place, inl refl)
 last_read x place (piece ∷ pieces) last = let r = last_read x (place + length piece) pieces last in (r.0, inr r.1)
 
 -- a text that says a table isn't too big
-too_big_says : (text : List ℕ) (said : Said) → 67_108_864 < length text → TextSays text said → said ≡ Err (0, state_kind.TooBig)
+too_big_says : (text : List ℕ) (said : StateSaid) → 67_108_864 < length text → TextSays text said → said ≡ Err (0, state_kind.TooBig)
 too_big_says [] said long says = absurd (omega (arith, long))
 too_big_says (b ∷ bs) said long says = subst (λ (big : Bool). SizedTextSays big (b ∷ bs) said) (lt-ltb 67_108_864 (length (b ∷ bs)) long) says
 
 -- so its last read found the end
-said_last : (stale : Bool) (m : Remembered) (pieces : List (List ℕ)) (last : List ℕ) (said : Said) → IsLast (length (bytes_of pieces)) last → TextSays (bytes_of pieces ++ last) said → Ok m ≡ known_of stale said → last ≡ []
+said_last : (stale : Bool) (m : Remembered) (pieces : List (List ℕ)) (last : List ℕ) (said : StateSaid) → IsLast (length (bytes_of pieces)) last → TextSays (bytes_of pieces ++ last) said → Ok m ≡ known_of stale said → last ≡ []
 said_last stale m pieces last said (inl e) says known = e
 said_last stale m pieces last said (inr long) says known =
     let both : length (bytes_of pieces ++ last) ≡ length (bytes_of pieces) + length last = length-append (bytes_of pieces) last in
@@ -186,7 +186,7 @@ known_or_not k f r a b = absurd (cc)
 pub ends_as : (state : Path) (f g : Fault) → f ≡ g → EndsRun state g → EndsRun state f
 ends_as state f g is h = subst (EndsRun state) (sym is) h
 
-said_why : (state : Path) (stale : Bool) (said : Said) (f : Fault) (k : Known) → k ≡ Err f → k ≡ known_of stale said → EndsRun state f
+said_why : (state : Path) (stale : Bool) (said : StateSaid) (f : Fault) (k : Known) → k ≡ Err f → k ≡ known_of stale said → EndsRun state f
 said_why state stale (Ok table) f k is e = absurd (known_or_not k f (record { table = table; stale = stale }) is e)
 said_why state stale (Err bad) f k is e = ends_as state f (fault.State bad.0 bad.1) (same_fault k f (fault.State bad.0 bad.1) is e) tt
 

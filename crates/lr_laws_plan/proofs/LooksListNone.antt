@@ -24,7 +24,7 @@ use Rattle.lr_glob.specs.declared.found.Found.{Found as Match}
 use Rattle.lr_glob.specs.declared.found.GlobStop.TheVariants as glob
 use Rattle.lr_glob.specs.Sights.{seen_at}
 use Rattle.lr_glob.specs.Words.{WordGave, WordCallFailed, WordBegun}
-use Rattle.lr_looks.specs.Asked.{Word}
+use Rattle.lr_looks.specs.Asked.{AskedWord}
 use Rattle.lr_looks.specs.Families.{FamilySight, Stood, Stopped, ShowsAside, ShowsNoAside, ShowsMembersIn}
 use Rattle.lr_looks.specs.Sights.{WordSight, ShowsWord}
 use Rattle.lr_laws_plan.proofs.CountedListings.{AreNoListings, none_both, none_empty}
@@ -55,7 +55,7 @@ begun_none word ts plain (WordBegun.at_visit wild n) = absurd (no_wildcard word 
 begun_none word ts plain (WordBegun.between wild paths l) = absurd (no_wildcard word plain wild)
 begun_none word ts plain (WordBegun.at_look wild s) = absurd (no_wildcard word plain wild)
 
-pub literal_none : (w : Word) (room : ℕ) (s : WordSight) (ts : List Entry) → is_wildcard w.text ≡ false → ShowsWord w room s ts → AreNoListings ts
+pub literal_none : (w : AskedWord) (room : ℕ) (s : WordSight) (ts : List Entry) → is_wildcard w.text ≡ false → ShowsWord w room s ts → AreNoListings ts
 literal_none w room (Ok found) ts plain h = gave_none w.text h.all ts plain h.gave
 literal_none w room (Err (glob.Call k path)) ts plain h = failed_none w.text k path ts plain h
 literal_none w room (Err glob.LongName) ts plain h = gave_none w.text h.all ts plain h.gave

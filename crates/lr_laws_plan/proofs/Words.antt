@@ -10,7 +10,7 @@ use Rattle.lr_glob.specs.declared.visit.VisitStop.{VisitStop}
 use Rattle.lr_glob.specs.declared.visit.VisitStop.TheVariants as visit
 use Rattle.lr_glob.specs.Stops.{glob_stop, RoundBroken, NotFollowed}
 use Rattle.lr_glob.specs.Words.{WordCallFailed, at_literal, at_visit, at_look}
-use Rattle.lr_looks.specs.Asked.{Word}
+use Rattle.lr_looks.specs.Asked.{AskedWord}
 use Rattle.lr_looks.specs.Sights.{WordSight, missing, sight_faults, all_sight_faults, found_by, ShowsWord, ShowWords}
 use Rattle.lr_laws_plan.specs.Ending.{NoneEnds}
 use Rattle.lr_laws_plan.proofs.Ends.{none_both, IsLooking, looking_ends}
@@ -39,14 +39,14 @@ call_looks word k path ts (at_look wild is s) = subst IsLooking (sym is) tt
 
 -- ---- one word, and all
 
-missing_none : (state : Path) (w : Word) → NoneEnds state (missing w)
+missing_none : (state : Path) (w : AskedWord) → NoneEnds state (missing w)
 missing_none state w = go w.rule.missingok
   where
     go : (b : Bool) → NoneEnds state (cond b [] (fault.Missing w.text ∷ []))
     go true = tt
     go false = ((λ e. e), tt)
 
-word_none : (state : Path) (w : Word) (room : ℕ) (s : WordSight) (ts : List Entry) → ShowsWord w room s ts → NoneEnds state (sight_faults w s)
+word_none : (state : Path) (w : AskedWord) (room : ℕ) (s : WordSight) (ts : List Entry) → ShowsWord w room s ts → NoneEnds state (sight_faults w s)
 word_none state w room (Ok []) ts h = missing_none state w
 word_none state w room (Ok (m ∷ ms)) ts h = tt
 word_none state w room (Err (stop.Call k path)) ts h = (looking_ends state k path (call_looks w.text k path ts h), tt)
@@ -54,7 +54,7 @@ word_none state w room (Err stop.LongName) ts h = ((λ e. e), tt)
 word_none state w room (Err stop.TooMany) ts h = ((λ e. e), tt)
 word_none state w room (Err stop.Memory) ts h = tt
 
-pub words_none : (state : Path) (n : ℕ) (words : List Word) (sights : List WordSight) (ts : List Entry) → ShowWords n words sights ts → NoneEnds state (all_sight_faults words sights)
+pub words_none : (state : Path) (n : ℕ) (words : List AskedWord) (sights : List WordSight) (ts : List Entry) → ShowWords n words sights ts → NoneEnds state (all_sight_faults words sights)
 words_none state n [] [] ts h = tt
 words_none state n [] (s ∷ ss) ts h = absurd h
 words_none state n (w ∷ ws) [] ts h = absurd h

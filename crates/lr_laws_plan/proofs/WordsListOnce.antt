@@ -13,7 +13,7 @@ use Rattle.lr_host.specs.World.{Past}
 use Rattle.lr_host.proofs.Made.{Cut, cut}
 use Rattle.lr_glob.specs.Listings.{listings_of}
 use Rattle.lr_glob.proofs.ListsOnce.{comes_once, stopped_once}
-use Rattle.lr_looks.specs.Asked.{Word, word_of, rule_words, words_from, asked_by}
+use Rattle.lr_looks.specs.Asked.{AskedWord, word_of, rule_words, words_from, asked_by}
 use Rattle.lr_looks.specs.Sights.{WordSight, found_by, ShowsWord, ShowWords}
 use Rattle.lr_laws_plan.specs.Listings.{wildcards_of}
 use Rattle.lr_laws_plan.proofs.CountedListings.{count_none, count_joined, none_empty}
@@ -25,11 +25,11 @@ once_if true = 1
 once_if false = 0
 
 -- how many of the words are wildcards
-abbrev wild_words : List Word → ℕ
+abbrev wild_words : List AskedWord → ℕ
 wild_words [] = 0
 wild_words (w ∷ ws) = once_if (is_wildcard w.text) + wild_words ws
 
-word_once : (p q : Past) (ts : List Entry) (w : Word) (room : ℕ) (s : WordSight) (dir : Path) → Made p (reverse ts) q → ShowsWord w room s ts → listings_of dir ts ≤ once_if (is_wildcard w.text)
+word_once : (p q : Past) (ts : List Entry) (w : AskedWord) (room : ℕ) (s : WordSight) (dir : Path) → Made p (reverse ts) q → ShowsWord w room s ts → listings_of dir ts ≤ once_if (is_wildcard w.text)
 word_once p q ts w room s dir m h = go (is_wildcard w.text) refl
   where
     once : (r : WordSight) → s ≡ r → ShowsWord w room r (reverse (reverse ts)) → listings_of dir (reverse (reverse ts)) ≤ 1
@@ -40,7 +40,7 @@ word_once p q ts w room s dir m h = go (is_wildcard w.text) refl
     go true wild = subst (λ us. listings_of dir us ≤ 1) (reverse-reverse ts) (once s refl (subst (ShowsWord w room s) (sym (reverse-reverse ts)) h))
     go false plain = let n = count_none dir ts (literal_none w room s ts plain h) in omega (arith, n)
 
-words_once : (p q : Past) (n : ℕ) (words : List Word) (sights : List WordSight) (ts : List Entry) (dir : Path) → Made p (reverse ts) q → ShowWords n words sights ts → listings_of dir ts ≤ wild_words words
+words_once : (p q : Past) (n : ℕ) (words : List AskedWord) (sights : List WordSight) (ts : List Entry) (dir : Path) → Made p (reverse ts) q → ShowWords n words sights ts → listings_of dir ts ≤ wild_words words
 words_once p q n [] [] ts dir m h = let a = count_none dir ts (none_empty ts h) in omega (arith, a)
 words_once p q n [] (s ∷ ss) ts dir m h = absurd h
 words_once p q n (w ∷ ws) [] ts dir m h = absurd h
@@ -53,7 +53,7 @@ words_once p q n (w ∷ ws) (s ∷ ss) ts dir m h =
 
 -- ---- the words of rules
 
-wild_both : (xs ys : List Word) → wild_words (xs ++ ys) ≡ wild_words xs + wild_words ys
+wild_both : (xs ys : List AskedWord) → wild_words (xs ++ ys) ≡ wild_words xs + wild_words ys
 wild_both [] ys = none_more (wild_words ys)
   where
     none_more : (k : ℕ) → k ≡ 0 + k
@@ -82,7 +82,7 @@ pub asked_once : (p q : Past) (rules : List Rule) (sights : List WordSight) (ts 
 asked_once p q rules sights ts dir m h = let a = words_once p q 0 (asked_by rules) sights ts dir m h in let b = wild_from 0 rules in omega (arith, a, b)
 
 -- a first part of the words has no more wildcards
-wild_take : (k : ℕ) (words : List Word) → wild_words (take k words) ≤ wild_words words
+wild_take : (k : ℕ) (words : List AskedWord) → wild_words (take k words) ≤ wild_words words
 wild_take k [] = go k
   where
     go : (n : ℕ) → wild_words (take n []) ≤ 0

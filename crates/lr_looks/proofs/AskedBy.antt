@@ -3,7 +3,7 @@ use Rattle.std.proofs.Common.{◌≡◌, ◌<◌, ◌+◌, ℕ, zero, suc, List,
 use Rattle.std.proofs.lemmas.List.{append-nil, map-append, take_more}
 use Rattle.lr_rules.specs.declared.rule.Rule.{Rule}
 use Rattle.lr_host.proofs.Counts.{none_more}
-use Rattle.lr_looks.specs.Asked.{Word, word_of, rule_words, words_from, asked_by}
+use Rattle.lr_looks.specs.Asked.{AskedWord, word_of, rule_words, words_from, asked_by}
 
 plus_none : (n : ℕ) → n ≡ n + 0
 plus_none n = omega arith
@@ -21,8 +21,8 @@ words_more set rule words at word lt e =
     ∙ ap (λ (x : List ℕ). map (word_of set rule) (take at words) ++ word_of set rule x ∷ []) (sym e))
 
 -- what stands before a word, the word, and what stands behind it
-pub record IsPart (all before part : List Word) : Type 0 where
-  pub behind : List Word
+pub record IsPart (all before part : List AskedWord) : Type 0 where
+  pub behind : List AskedWord
   pub joined : all ≡ before ++ (part ++ behind)
 
 pub words_part : (set : ℕ) (rule : Rule) (words : List (List ℕ)) (at : ℕ) (word : List ℕ) → at < length words → word ≡ get_or words at word
@@ -31,7 +31,7 @@ words_part set rule [] at word lt e = absurd (omega (arith, lt))
 words_part set rule (x ∷ words) zero word lt e = record { behind = map (word_of set rule) words; joined = ap (λ (y : List ℕ). word_of set rule y ∷ map (word_of set rule) words) (sym e) }
 words_part set rule (x ∷ words) (suc at) word lt e =
     let r = words_part set rule words at word (omega (arith, lt)) e in
-    record { behind = r.behind; joined = ap (λ (ws : List Word). word_of set rule x ∷ ws) r.joined }
+    record { behind = r.behind; joined = ap (λ (ws : List AskedWord). word_of set rule x ∷ ws) r.joined }
 
 -- ---- the words of all rules
 

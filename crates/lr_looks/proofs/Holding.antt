@@ -9,7 +9,7 @@ use Rattle.lr_host.specs.Listing.{is_file_kind}
 use Rattle.lr_kept.specs.declared.choice.Choice.{Choice}
 use Rattle.lr_kept.specs.declared.choice.Choice.TheVariants.{Kept, Again, MemberOf, Reserved, Meets}
 use Rattle.lr_glob.specs.declared.found.Found.{Found as Match}
-use Rattle.lr_looks.specs.Asked.{Word, word_of, rule_words, words_from, asked_by, CanAsk, CanAskAll}
+use Rattle.lr_looks.specs.Asked.{AskedWord, word_of, rule_words, words_from, asked_by, CanAsk, CanAskAll}
 use Rattle.lr_looks.specs.Choices.{kept_of, where_file, KeepsLogs}
 use Rattle.lr_looks.specs.Found.{FoundLog, HasBounds, HasLogPath, HaveBounds, HaveLogPaths, Hold}
 use Rattle.lr_looks.specs.Internal.{AreOf}
@@ -17,11 +17,11 @@ use Rattle.lr_looks.proofs.Kindred.{start_fine, format_fine}
 use Rattle.lr_looks.specs.Sights.{WordSight, found_at, found_of, AreFoundOf}
 
 -- P holds of each log that one of these words can give
-abbrev HoldsOf : (FoundLog → Type 0) → List Word → Type 0
+abbrev HoldsOf : (FoundLog → Type 0) → List AskedWord → Type 0
 HoldsOf P [] = Unit {0}
 HoldsOf P (w ∷ ws) = ((m : Match) → P (found_at w m)) × HoldsOf P ws
 
-of_both : (P : FoundLog → Type 0) (xs ys : List Word) → HoldsOf P xs → HoldsOf P ys → HoldsOf P (xs ++ ys)
+of_both : (P : FoundLog → Type 0) (xs ys : List AskedWord) → HoldsOf P xs → HoldsOf P ys → HoldsOf P (xs ++ ys)
 of_both P [] ys h g = g
 of_both P (x ∷ xs) ys h g = (h.0, of_both P xs ys h.1 g)
 
@@ -29,11 +29,11 @@ hold_both : (P : FoundLog → Type 0) (xs ys : List FoundLog) → Hold P xs → 
 hold_both P [] ys h g = g
 hold_both P (x ∷ xs) ys h g = (h.0, hold_both P xs ys h.1 g)
 
-hold_each : (P : FoundLog → Type 0) (w : Word) (matches : List Match) → ((m : Match) → P (found_at w m)) → Hold P (map (found_at w) matches)
+hold_each : (P : FoundLog → Type 0) (w : AskedWord) (matches : List Match) → ((m : Match) → P (found_at w m)) → Hold P (map (found_at w) matches)
 hold_each P w [] h = tt
 hold_each P w (m ∷ ms) h = (h m, hold_each P w ms h)
 
-found_hold : (P : FoundLog → Type 0) (words : List Word) (sights : List WordSight) → HoldsOf P words → Hold P (found_of words sights)
+found_hold : (P : FoundLog → Type 0) (words : List AskedWord) (sights : List WordSight) → HoldsOf P words → Hold P (found_of words sights)
 found_hold P [] [] h = tt
 found_hold P [] (s ∷ ss) h = tt
 found_hold P (w ∷ ws) [] h = tt
@@ -79,7 +79,7 @@ within_from k n (rule ∷ rules) le = of_both (λ f. f.log.set < n) (rule_words 
 still_hold : {reserved : List Path} (P : FoundLog → Type 0) (found kept : List FoundLog) (c d : List Fault) → Hold P found → KeepsLogs reserved found c d kept → Hold P kept
 still_hold P found kept c d h k = subst (Hold P) (sym k.left_are) (files_hold P (kept_of found k.choices) (kept_hold P found k.choices h))
 
-kept_is : {reserved : List Path} (P : FoundLog → Type 0) (words : List Word) (found kept : List FoundLog) (c d : List Fault) → HoldsOf P words → AreFoundOf words found → KeepsLogs reserved found c d kept → Hold P kept
+kept_is : {reserved : List Path} (P : FoundLog → Type 0) (words : List AskedWord) (found kept : List FoundLog) (c d : List Fault) → HoldsOf P words → AreFoundOf words found → KeepsLogs reserved found c d kept → Hold P kept
 kept_is P words found kept c d h l k = still_hold P found kept c d (subst (Hold P) (sym l.found_are) (found_hold P words l.sights h)) k
 
 pub kept_paths : {reserved : List Path} (found kept : List FoundLog) (c d : List Fault) → HaveLogPaths found → KeepsLogs reserved found c d kept → HaveLogPaths kept

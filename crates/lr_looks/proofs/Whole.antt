@@ -16,7 +16,7 @@ use Rattle.lr_host.specs.Listing.{is_file_kind}
 use Rattle.lr_host.proofs.Counts.{AreFree, free_none, free_on, onward_same, went_free, went_on, went_then}
 use Rattle.lr_kept.specs.declared.choice.Choice.{Choice}
 use Rattle.lr_kept.specs.declared.choice.Choice.TheVariants.{Kept, Again, MemberOf, Reserved, Meets}
-use Rattle.lr_looks.specs.Asked.{Word, asked_by, AreTexts}
+use Rattle.lr_looks.specs.Asked.{AskedWord, asked_by, AreTexts}
 use Rattle.lr_looks.specs.Choices.{duplicate, overlap, barred, choice_fault, choice_faults, kept_of, kind_fault, KeepsLogs}
 use Rattle.lr_looks.specs.Families.{LookedLog, family_faults, LooksAtFamilies, LookedAtSomeFamilies}
 use Rattle.lr_looks.specs.Found.{FoundLog, paths_of, HaveLogPaths}
@@ -28,7 +28,7 @@ use Rattle.lr_looks.proofs.Looking.{shown_many}
 
 -- ---- the faults of the looks alone, whatever came before
 
-own_words : (words : List Word) (a b : List Fault) (found : List FoundLog) (ts : List Entry) → (l : LookedAtWords words a b [] found ts) → LookedAtWords words [] (all_sight_faults words l.sights) [] found ts
+own_words : (words : List AskedWord) (a b : List Fault) (found : List FoundLog) (ts : List Entry) → (l : LookedAtWords words a b [] found ts) → LookedAtWords words [] (all_sight_faults words l.sights) [] found ts
 own_words words a b found ts l = record { sights = l.sights; had_memory = l.had_memory; shown = l.shown; faults_are = refl; found_are = l.found_are }
 
 abbrev kept_faults : (reserved : List Path) (found : List FoundLog) (b c : List Fault) (kept : List FoundLog) → KeepsLogs reserved found b c kept → List Fault
@@ -135,7 +135,7 @@ pub all_at_words : {T E : Type 0} (r : Result T E) (reserved : List Path) (rules
 all_at_words (Ok x) reserved rules l = tt
 all_at_words (Err x) reserved rules l = left_as l (λ ts h. at_words h)
 
-some_whole : (words : List Word) (a b : List Fault) (found : List FoundLog) (ts : List Entry) → LookedAtWords words a b [] found ts → LookedAtSomeWords 0 words ts
+some_whole : (words : List AskedWord) (a b : List Fault) (found : List FoundLog) (ts : List Entry) → LookedAtWords words a b [] found ts → LookedAtSomeWords 0 words ts
 some_whole words a b found ts l =
     let m : length l.sights ≡ length words = shown_many 0 words l.sights ts l.shown in
     record {

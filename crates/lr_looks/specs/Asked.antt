@@ -8,28 +8,28 @@ use Rattle.lr_rules.specs.Match.{is_wildcard}
 use Rattle.lr_rules.specs.Names.{naming_of}
 
 -- A word of a rule: the place of the rule among the rules, the rule, and the word.
-pub record Word : Type 0 where
+pub record AskedWord : Type 0 where
   pub set : ℕ
   pub rule : Rule
   pub text : List ℕ
 
-abbrev pub word_of : ℕ → Rule → List ℕ → Word
+abbrev pub word_of : ℕ → Rule → List ℕ → AskedWord
 word_of set rule text = record { set = set; rule = rule; text = text }
 
 -- those of one rule, in order
-abbrev pub rule_words : ℕ → Rule → List Word
+abbrev pub rule_words : ℕ → Rule → List AskedWord
 rule_words set rule = map (word_of set rule) rule.words
 
 -- those of all, in order of the rules, of which the first has this place
-abbrev pub words_from : ℕ → List Rule → List Word
+abbrev pub words_from : ℕ → List Rule → List AskedWord
 words_from set [] = []
 words_from set (rule ∷ rules) = rule_words set rule ++ words_from (set + 1) rules
 
-abbrev pub asked_by : List Rule → List Word
+abbrev pub asked_by : List Rule → List AskedWord
 asked_by rules = words_from 0 rules
 
 -- each of them is a text
-abbrev pub AreTexts : List Word → Type 0
+abbrev pub AreTexts : List AskedWord → Type 0
 AreTexts [] = Unit {0}
 AreTexts (w ∷ ws) = IsUtf8 w.text × AreTexts ws
 
@@ -42,7 +42,7 @@ pub record Log : Type 0 where
   pub ignore : Bool
   pub wild : Bool
 
-abbrev pub log_at : Word → Path → Log
+abbrev pub log_at : AskedWord → Path → Log
 log_at w path = record {
   set = w.set;
   path = path;

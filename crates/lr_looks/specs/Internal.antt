@@ -17,13 +17,13 @@ use Rattle.lr_family.specs.Listed.{ShowsListing, NotListed}
 use Rattle.lr_kept.specs.Begun.{place_in}
 use Rattle.lr_looks.specs.declared.listings.Listings.{Listings}
 use Rattle.lr_looks.specs.Families.{WasNotListed, FamilySight, ShowsFamily, LookedLog, LookedAtFamilies, LooksAtFamilies}
-use Rattle.lr_looks.specs.Asked.{Word}
+use Rattle.lr_looks.specs.Asked.{AskedWord}
 use Rattle.lr_looks.specs.Found.{FoundLog, Hold}
 use Rattle.lr_looks.specs.Sights.{WordSight, found_of}
 use Rattle.lr_looks.specs.Sets.{HaveLooks}
 
 -- Some sights of these words, one for each, found the logs that were added.
-pub record AddsFound (words : List Word) (found all_found : List FoundLog) : Type 0 where
+pub record AddsFound (words : List AskedWord) (found all_found : List FoundLog) : Type 0 where
   pub sights : List WordSight
   pub as_many : length sights ≡ length words
   pub found_are : all_found ≡ found ++ found_of words sights

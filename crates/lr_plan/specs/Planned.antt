@@ -24,7 +24,7 @@ use Rattle.lr_scripts.specs.declared.removal.Removal.{Removal}
 use Rattle.lr_due.specs.declared.answer.Due.{Due}
 use Rattle.lr_due.specs.declared.answer.Due.TheVariants as due
 use Rattle.lr_due.specs.Due.{due_of}
-use Rattle.lr_state.specs.Table.{Entry, moment_of}
+use Rattle.lr_state.specs.Table.{StateEntry, moment_of}
 use Rattle.lr_family.specs.declared.stand.Member.{Member}
 use Rattle.lr_family.specs.declared.stand.Stand.{Stand}
 use Rattle.lr_family.specs.Parts.{part_of}
@@ -46,7 +46,7 @@ use Rattle.lr_plan.specs.declared.plan.Plan.{Plan}
 -- ---- one log
 
 -- whether the log is due, by the moment that the table has for it
-abbrev pub decision : List Entry → Moment → Bool → Rule → LogLook → Due
+abbrev pub decision : List StateEntry → Moment → Bool → Rule → LogLook → Due
 decision table now force rule look = due_of rule look.seen.size look.seen.mtime (moment_of table look.path) now force
 
 -- ---- the family's directory
@@ -300,7 +300,7 @@ all_faults clock decide (rule ∷ rules) (set ∷ sets) = log_faults clock rule 
 all_faults clock decide _ _ = []
 
 -- The plan: each log that was looked at whole, and whether it is due; what is done with those that are; what hinders some.
-abbrev pub plan_of : List Rule → List SetLooks → List Entry → Clock → Asked → Plan
+abbrev pub plan_of : List Rule → List SetLooks → List StateEntry → Clock → Asked → Plan
 plan_of rules sets table clock asked = record {
   decisions = all_decisions (decision table clock.now asked.force) rules sets;
   sets = all_plans clock asked.mailer (decision table clock.now asked.force) rules sets;

@@ -14,7 +14,7 @@ use Rattle.lr_host.proofs.Lists.{in_front, in_back}
 use Rattle.lr_scripts.specs.declared.command.Command.{Command}
 use Rattle.lr_copy.specs.declared.job.BytesStop.{BytesStop}
 use Rattle.lr_copy.specs.declared.job.BytesStop.TheVariants as broke
-use Rattle.lr_state.specs.Table.{Entry as Row}
+use Rattle.lr_state.specs.Table.{StateEntry as Row}
 use Rattle.lr_plan.specs.Asked.{Asked}
 use Rattle.lr_plan.specs.declared.looks.SetLooks.{SetLooks}
 use Rattle.lr_plan.specs.declared.mark.Mark.{Mark}

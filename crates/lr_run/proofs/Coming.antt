@@ -33,7 +33,7 @@ use Rattle.lr_state.specs.declared.remembered.Remembered.{Remembered}
 use Rattle.lr_state.specs.Known.{ReadsState, TextSaysOnly}
 use Rattle.lr_state.specs.After.{after}
 use Rattle.lr_state.specs.Measured.{measured_text}
-use Rattle.lr_state.specs.Table.{Entry as Row}
+use Rattle.lr_state.specs.Table.{StateEntry as Row}
 use Rattle.lr_state.specs.Written.{table_text}
 use Rattle.lr_looks.specs.Reserved.{reserved_by}
 use Rattle.lr_writing.specs.Synced.{AreSynced}

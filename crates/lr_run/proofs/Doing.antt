@@ -13,7 +13,7 @@ use Rattle.lr_host.specs.declared.journal.Journal.{Journal}
 use Rattle.lr_host.specs.Told.{Counts, Left, Then}
 use Rattle.lr_host.proofs.Left.{left_as, left_first}
 use Rattle.lr_host.proofs.Lists.{in_append}
-use Rattle.lr_state.specs.Table.{Entry as Row}
+use Rattle.lr_state.specs.Table.{StateEntry as Row}
 use Rattle.lr_state.specs.Written.{table_text}
 use Rattle.lr_plan.specs.Asked.{Asked}
 use Rattle.lr_plan.specs.declared.looks.Looks.{Looks}

@@ -13,7 +13,7 @@ use Rattle.lr_host.specs.declared.thing.Seen.{Seen}
 use Rattle.lr_host.specs.Looks.{IsDir, IsNoDir, IsNothing}
 use Rattle.lr_host.specs.Quiet.{IsQuiet}
 use Rattle.lr_host.specs.Told.{Each}
-use Rattle.lr_state.specs.Table.{Entry as Row}
+use Rattle.lr_state.specs.Table.{StateEntry as Row}
 use Rattle.lr_plan.specs.Asked.{Asked}
 use Rattle.lr_plan.specs.declared.plan.Plan.{Plan}
 use Rattle.lr_laws_acts.specs.Emptied.{EmptiesCopied}

@@ -3,8 +3,8 @@ use Rattle.std.proofs.Common.{◌≡◌, refl, sym, subst, Bool, ℕ, List, Resu
 use Rattle.lr_rules.specs.declared.fault.Fault.{Fault}
 use Rattle.lr_rules.specs.declared.path.Path.{Path}
 use Rattle.lr_host.specs.declared.entry.Entry.{Entry}
-use Rattle.lr_state.specs.Grammar.{Said}
-use Rattle.lr_state.specs.Table.{Entry as Row}
+use Rattle.lr_state.specs.Grammar.{StateSaid}
+use Rattle.lr_state.specs.Table.{StateEntry as Row}
 use Rattle.lr_state.specs.declared.look.LookStop.{LookStop}
 use Rattle.lr_state.specs.declared.remembered.Remembered.{Remembered}
 use Rattle.lr_state.specs.Known.{IsKnown, IsKnownBehind, IsKnownBy, IsKnownOf, TextSaysOnly, known_of, text_read}
@@ -20,7 +20,7 @@ pub record KnownText (state : Path) (remembered : Remembered) (ts : List Entry) 
 pub known_text : (state : Path) (remembered : Remembered) (sights : StateSights) (ts : List Entry) → IsKnown state sights (Ok remembered) → ShowsState state 65_536 sights ts → KnownText state remembered ts
 known_text state remembered sights ts known shown = of_state (found sights.state) (found sights.part) refl refl known
   where
-    says : (there stale : Bool) (text : List ℕ) (said : Said) → found sights.state ≡ Ok there → found sights.part ≡ Ok stale → text_read state there sights.reading ≡ Ok text → TextSaysOnly text said → Ok remembered ≡ known_of stale said → KnownText state remembered ts
+    says : (there stale : Bool) (text : List ℕ) (said : StateSaid) → found sights.state ≡ Ok there → found sights.part ≡ Ok stale → text_read state there sights.reading ≡ Ok text → TextSaysOnly text said → Ok remembered ≡ known_of stale said → KnownText state remembered ts
     says there stale text (Ok table) stood part read only is = subst (λ (r : Remembered). KnownText state r ts) (sym same)
         (record { text = text; shown = record { sights = sights; there = there; stood = stood; part = part; read = read; shown = shown }; says = only })
       where

@@ -23,7 +23,7 @@ use Rattle.lr_host.proofs.Left.{left_as, left_first, left_then}
 use Rattle.lr_family.specs.declared.directory.DirStop.{DirStop}
 use Rattle.lr_family.specs.declared.directory.DirStop.TheVariants as dir
 use Rattle.lr_family.specs.Directory.{DirSeen, DirLookStopped, dir_fault_of}
-use Rattle.lr_state.specs.Table.{Entry as Row}
+use Rattle.lr_state.specs.Table.{StateEntry as Row}
 use Rattle.lr_looks.specs.Found.{paths_of}
 use Rattle.lr_looks.specs.Shown.{LooksAtAll, ShowsSomeLooks}
 use Rattle.lr_plan.specs.Asked.{Asked}

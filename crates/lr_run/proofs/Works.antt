@@ -19,7 +19,7 @@ use Rattle.lr_host.specs.Opening.{IsJournal}
 use Rattle.lr_host.specs.Told.{Counts, NoneFell, Rose, Left, not_told, is_told, WhereTold}
 use Rattle.lr_host.specs.Steps.{CanAll}
 use Rattle.lr_host.proofs.Left.{left_as, left_first, left_then}
-use Rattle.lr_state.specs.Table.{Entry as Row}
+use Rattle.lr_state.specs.Table.{StateEntry as Row}
 use Rattle.lr_due.specs.declared.answer.Due.{Due}
 use Rattle.lr_due.specs.declared.answer.Due.TheVariants as due
 use Rattle.lr_plan.specs.Asked.{Asked}

@@ -9,7 +9,7 @@ use Rattle.lr_host.specs.declared.entry.Entry.{Entry}
 use Rattle.lr_host.specs.declared.entry.Entry.TheVariants.{Reads}
 use Rattle.lr_host.specs.Lists.{IsIn}
 use Rattle.lr_host.specs.Looks.{Sees, IsDir, IsNothing}
-use Rattle.lr_state.specs.Table.{Entry as Row}
+use Rattle.lr_state.specs.Table.{StateEntry as Row}
 use Rattle.lr_state.specs.Written.{table_text}
 use Rattle.lr_plan.specs.Asked.{Asked}
 use Rattle.lr_plan.specs.declared.looks.SetLooks.{SetLooks}

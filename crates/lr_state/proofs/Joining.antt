@@ -16,7 +16,7 @@ use Rattle.lr_host.specs.Told.{Left, Are, Can}
 use Rattle.lr_host.proofs.Left.{left_first, left_as, left_then, can_stay}
 use Rattle.lr_state.specs.Answer.{ReaderGives, IsSaidBy}
 use Rattle.lr_state.specs.Given.{Given, HasTaken}
-use Rattle.lr_state.specs.Grammar.{Said, TextSays}
+use Rattle.lr_state.specs.Grammar.{StateSaid, TextSays}
 use Rattle.lr_state.specs.Table as table
 use Rattle.lr_state.specs.declared.text.StateStop.{StateStop}
 use Rattle.lr_state.specs.declared.text.StateStop.TheVariants as whole
@@ -102,7 +102,7 @@ names_stay path place piece ts e = ap (filter is_naming) e
 -- ---- the answers
 
 -- what the reader says of the text that it took
-pub reader_known : (stale : Bool) (bytes : List ℕ) (said : Result (List table.Entry) StateStop) (answer : Result Known Memory) → IsSaidBy (TextSays bytes) said → ((other : Said) → TextSays bytes other → ReaderGives said other) → IsKnownByReader stale said answer
+pub reader_known : (stale : Bool) (bytes : List ℕ) (said : Result (List table.StateEntry) StateStop) (answer : Result Known Memory) → IsSaidBy (TextSays bytes) said → ((other : StateSaid) → TextSays bytes other → ReaderGives said other) → IsKnownByReader stale said answer
     → IfOk answer (IsKnownBy stale (Ok bytes))
 reader_known stale bytes (Ok entries) answer says only e = subst (λ (a : Result Known Memory). IfOk a (IsKnownBy stale (Ok bytes))) (sym e) (Ok entries, (says, only), refl)
 reader_known stale bytes (Err (whole.Bad line kind)) answer says only e = subst (λ (a : Result Known Memory). IfOk a (IsKnownBy stale (Ok bytes))) (sym e) (Err (line, kind), (says, only), refl)
@@ -124,10 +124,10 @@ finds_stay {path} l can = can_stay can l (λ ts p. ap (filter is_naming) p.entri
 pub text_none : (state : Path) (size : ℕ) (stale : Bool) (answer : Result Known Memory) (o : Option Journal) → IfOk answer (IsKnownBy stale (Ok [])) → Left (ReadsText state size false stale answer) o o
 text_none state size stale answer o known = left_first _ o (record { reading = Broken []; is = (tt, omega arith); entries = refl; known = known })
 
-pub text_empty : (state : Path) (size : ℕ) (there stale : Bool) (entries : List table.Entry) (o : Option Journal) → there ≡ false → entries ≡ [] → Left (ReadsText state size there stale (Ok (Ok (record { table = entries; stale = stale })))) o o
+pub text_empty : (state : Path) (size : ℕ) (there stale : Bool) (entries : List table.StateEntry) (o : Option Journal) → there ≡ false → entries ≡ [] → Left (ReadsText state size there stale (Ok (Ok (record { table = entries; stale = stale })))) o o
 text_empty state size there stale entries o none empty =
     subst (λ (b : Bool). Left (ReadsText state size b stale (Ok (Ok (record { table = entries; stale = stale })))) o o) (sym none)
-    (text_none state size stale (Ok (Ok (record { table = entries; stale = stale }))) o (Ok [], (refl, λ other says. says), ap (λ (es : List table.Entry). Ok (record { table = es; stale = stale })) empty))
+    (text_none state size stale (Ok (Ok (record { table = entries; stale = stale }))) o (Ok [], (refl, λ other says. says), ap (λ (es : List table.StateEntry). Ok (record { table = es; stale = stale })) empty))
 
 -- its text was read whole
 pub text_whole : (state : Path) (size : ℕ) (stale : Bool) (given : Given) (answer : Result Known Memory) {o n : Option Journal} → (r : HandsOnWhole state size given o n) → IfOk answer (IsKnownBy stale (Ok (bytes_of r.pieces ++ r.last)))

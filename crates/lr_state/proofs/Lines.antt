@@ -8,7 +8,7 @@ use Rattle.lr_rules.specs.declared.fault.StateKind.TheVariants.{TooBig, BadTop, 
 use Rattle.lr_state.specs.Answer.{LineSays, LineSaysOnly}
 use Rattle.lr_state.specs.Grammar.{BeginsWithName, HasDate}
 use Rattle.lr_state.specs.Reading.{NameAndRest, Parts, HasParts, IsMomentOf, parts_in, name_in, checked}
-use Rattle.lr_state.specs.Table.{Entry, moment_of}
+use Rattle.lr_state.specs.Table.{StateEntry, moment_of}
 use Rattle.lr_state.proofs.Names.{named-sound, named-complete}
 use Rattle.lr_state.proofs.Dates.{parts_of, parts-sound, parts-complete}
 
@@ -68,9 +68,9 @@ no_name line name rest e named =
     absurd (cc never)
 
 abbrev Answer : Type 0
-Answer = Result (List Entry) StateKind
+Answer = Result (List StateEntry) StateKind
 
-name-only : (before : List Entry) (line : List ℕ) → None ≡ checked (name_in line) → (line ≡ [] → ⊥) → (other : Answer) → LineSays before line other → other ≡ Err BadName
+name-only : (before : List StateEntry) (line : List ℕ) → None ≡ checked (name_in line) → (line ≡ [] → ⊥) → (other : Answer) → LineSays before line other → other ≡ Err BadName
 name-only before line e full (Ok after) (inl h) = absurd (full h.0)
 name-only before line e full (Ok after) (inr h) = absurd (no_name line h.0 h.1 e h.3)
 name-only before line e full (Err TooBig) h = absurd h
@@ -84,7 +84,7 @@ no_date line x name rest at e h named dated =
     let f = found line x name rest e named in
     dated-none x.1 at h (subst (λ r. HasDate r at) f.rest_is dated)
 
-date-only : (before : List Entry) (line : List ℕ) (x : NameAndRest) → Some x ≡ checked (name_in line) → (line ≡ [] → ⊥) → IsMomentOf (parts_in x.1) None → (other : Answer) → LineSays before line other → other ≡ Err BadDate
+date-only : (before : List StateEntry) (line : List ℕ) (x : NameAndRest) → Some x ≡ checked (name_in line) → (line ≡ [] → ⊥) → IsMomentOf (parts_in x.1) None → (other : Answer) → LineSays before line other → other ≡ Err BadDate
 date-only before line x e full h (Ok after) (inl s) = absurd (full s.0)
 date-only before line x e full h (Ok after) (inr s) = absurd (no_date line x s.0 s.1 s.2 e h s.3 s.4)
 date-only before line x e full h (Err TooBig) s = absurd s
@@ -103,7 +103,7 @@ entry line x at name rest other e h named dated =
     let f = found line x name rest e named in
     record { name_is = f.name_is; at_is = dated-only x.1 at other h (subst (λ r. HasDate r other) f.rest_is dated) }
 
-twice-only : (before : List Entry) (line : List ℕ) (x : NameAndRest) (at : Civil) → Some x ≡ checked (name_in line) → (line ≡ [] → ⊥) → IsMomentOf (parts_in x.1) (Some at) → is_some (moment_of before x.0) ≡ true → (other : Answer) → LineSays before line other → other ≡ Err Twice
+twice-only : (before : List StateEntry) (line : List ℕ) (x : NameAndRest) (at : Civil) → Some x ≡ checked (name_in line) → (line ≡ [] → ⊥) → IsMomentOf (parts_in x.1) (Some at) → is_some (moment_of before x.0) ≡ true → (other : Answer) → LineSays before line other → other ≡ Err Twice
 twice-only before line x at e full h known (Ok after) (inl s) = absurd (full s.0)
 twice-only before line x at e full h known (Ok after) (inr s) =
     let f = entry line x at s.0 s.1 s.2 e h s.3 s.4 in
@@ -117,11 +117,11 @@ twice-only before line x at e full h known (Err BadDate) s =
     absurd (s.3 at (subst (λ r. HasDate r at) (sym f.rest_is) (dated-sound x.1 (parts_in x.1) at refl h)))
 twice-only before line x at e full h known (Err Twice) s = refl
 
-new-only : (before : List Entry) (line : List ℕ) (x : NameAndRest) (at : Civil) → Some x ≡ checked (name_in line) → (line ≡ [] → ⊥) → IsMomentOf (parts_in x.1) (Some at) → moment_of before x.0 ≡ None → (other : Answer) → LineSays before line other → other ≡ Ok (before ++ (x.0, at) ∷ [])
+new-only : (before : List StateEntry) (line : List ℕ) (x : NameAndRest) (at : Civil) → Some x ≡ checked (name_in line) → (line ≡ [] → ⊥) → IsMomentOf (parts_in x.1) (Some at) → moment_of before x.0 ≡ None → (other : Answer) → LineSays before line other → other ≡ Ok (before ++ (x.0, at) ∷ [])
 new-only before line x at e full h new (Ok after) (inl s) = absurd (full s.0)
 new-only before line x at e full h new (Ok after) (inr s) =
     let f = entry line x at s.0 s.1 s.2 e h s.3 s.4 in
-    ap (λ (t : List Entry). Ok t) (s.6 ∙ ap (λ n. before ++ (n, s.2) ∷ []) f.name_is ∙ ap (λ (c : Civil). before ++ (x.0, c) ∷ []) f.at_is)
+    ap (λ (t : List StateEntry). Ok t) (s.6 ∙ ap (λ n. before ++ (n, s.2) ∷ []) f.name_is ∙ ap (λ (c : Civil). before ++ (x.0, c) ∷ []) f.at_is)
 new-only before line x at e full h new (Err TooBig) s = absurd s
 new-only before line x at e full h new (Err BadTop) s = absurd s
 new-only before line x at e full h new (Err BadName) s = absurd (s.1 x.0 x.1 (named-sound line x (sym e)))
@@ -133,16 +133,16 @@ new-only before line x at e full h new (Err Twice) s =
     let never : true ≡ false = sym s.5 ∙ ap (λ n. is_some (moment_of before n)) f.name_is ∙ ap is_some new in
     absurd (cc never)
 
-pub says-bad_name : (before : List Entry) (line : List ℕ) → None ≡ checked (name_in line) → (line ≡ [] → ⊥) → LineSaysOnly before line (Err BadName)
+pub says-bad_name : (before : List StateEntry) (line : List ℕ) → None ≡ checked (name_in line) → (line ≡ [] → ⊥) → LineSaysOnly before line (Err BadName)
 says-bad_name before line e full = ((full, λ name rest named. no_name line name rest e named), name-only before line e full)
 
-pub says-bad_date : (before : List Entry) (line : List ℕ) (x : NameAndRest) → Some x ≡ checked (name_in line) → (line ≡ [] → ⊥) → IsMomentOf (parts_in x.1) None → LineSaysOnly before line (Err BadDate)
+pub says-bad_date : (before : List StateEntry) (line : List ℕ) (x : NameAndRest) → Some x ≡ checked (name_in line) → (line ≡ [] → ⊥) → IsMomentOf (parts_in x.1) None → LineSaysOnly before line (Err BadDate)
 says-bad_date before line x e full h = ((x.0, x.1, named-sound line x (sym e), λ at dated. dated-none x.1 at h dated), date-only before line x e full h)
 
-pub says-twice : (before : List Entry) (line : List ℕ) (x : NameAndRest) (at : Civil) → Some x ≡ checked (name_in line) → (line ≡ [] → ⊥) → IsMomentOf (parts_in x.1) (Some at) → is_some (moment_of before x.0) ≡ true → LineSaysOnly before line (Err Twice)
+pub says-twice : (before : List StateEntry) (line : List ℕ) (x : NameAndRest) (at : Civil) → Some x ≡ checked (name_in line) → (line ≡ [] → ⊥) → IsMomentOf (parts_in x.1) (Some at) → is_some (moment_of before x.0) ≡ true → LineSaysOnly before line (Err Twice)
 says-twice before line x at e full h known =
     ((x.0, x.1, at, named-sound line x (sym e), dated-sound x.1 (parts_in x.1) at refl h, known), twice-only before line x at e full h known)
 
-pub says-new : (before : List Entry) (line : List ℕ) (x : NameAndRest) (at : Civil) → Some x ≡ checked (name_in line) → (line ≡ [] → ⊥) → IsMomentOf (parts_in x.1) (Some at) → moment_of before x.0 ≡ None → LineSaysOnly before line (Ok (before ++ (x.0, at) ∷ []))
+pub says-new : (before : List StateEntry) (line : List ℕ) (x : NameAndRest) (at : Civil) → Some x ≡ checked (name_in line) → (line ≡ [] → ⊥) → IsMomentOf (parts_in x.1) (Some at) → moment_of before x.0 ≡ None → LineSaysOnly before line (Ok (before ++ (x.0, at) ∷ []))
 says-new before line x at e full h new =
     (inr (x.0, x.1, at, named-sound line x (sym e), dated-sound x.1 (parts_in x.1) at refl h, new, refl), new-only before line x at e full h new)

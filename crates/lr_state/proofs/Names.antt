@@ -3,7 +3,7 @@ use Rattle.std.proofs.Common.{◌≡◌, ◌∙◌, ap, sym, subst, refl, ℕ, B
 use Rattle.std.specs.List.{list_all, flat_map}
 use Rattle.std.proofs.lemmas.Bool.{and_parts, and_from, or_parts, not-true, eqb-true, cond-true, cond-false}
 use Rattle.lr_rules.specs.Bytes.{is_blank, is_no_blank}
-use Rattle.lr_state.specs.Grammar.{Sign, spelling, is_escaped, byte_of, ends_word, IsQuoted, IsBare, BeginsWithName}
+use Rattle.lr_state.specs.Grammar.{StateSign, spelling, is_escaped, byte_of, ends_word, IsQuoted, IsBare, BeginsWithName}
 use Rattle.lr_state.specs.Table.{is_name}
 use Rattle.lr_state.specs.Reading.{NameAndRest, with_byte, with_front, quoted, before, from_first, name_in, checked}
 
@@ -45,7 +45,7 @@ cut-sound p (x ∷ xs) = cut_by p x xs (p x) refl (cut-sound p xs)
 
 -- what stands between quotes
 pub record IsSpelled (text : List ℕ) (x : NameAndRest) : Type 0 where
-  pub signs : List Sign
+  pub signs : List StateSign
   pub each : list_all is_escaped signs ≡ true
   pub text_is : text ≡ flat_map spelling signs ++ 34 ∷ x.1
   pub name_is : x.0 ≡ map byte_of signs
@@ -60,7 +60,7 @@ abbrev opened : Bool → List ℕ → List ℕ
 opened true bs = 92 ∷ bs
 opened false bs = bs
 
-one_more : (s : Sign) (bs : List ℕ) (x y : NameAndRest) → is_escaped s ≡ true → x.0 ≡ s.1 ∷ y.0 → x.1 ≡ y.1 → IsSpelled bs y → IsSpelled (spelling s ++ bs) x
+one_more : (s : StateSign) (bs : List ℕ) (x y : NameAndRest) → is_escaped s ≡ true → x.0 ≡ s.1 ∷ y.0 → x.1 ≡ y.1 → IsSpelled bs y → IsSpelled (spelling s ++ bs) x
 one_more s bs x y sign name rest h = record {
   signs = s ∷ h.signs;
   each = and_from _ _ sign h.each;
@@ -95,7 +95,7 @@ quoted-sound true (b ∷ bs) x e =
     one_more (true, b) bs x y.0 refl y.2 y.3 (quoted-sound false bs y.0 y.1)
 quoted-sound false (b ∷ bs) x e = spelled_by b bs x (b == 34) (b == 92) refl refl e (quoted-sound true bs x) (λ y. quoted-sound false bs y)
 
-pub quoted-complete : (signs : List Sign) (rest : List ℕ) → list_all is_escaped signs ≡ true → quoted false (flat_map spelling signs ++ 34 ∷ rest) ≡ Some (map byte_of signs, rest)
+pub quoted-complete : (signs : List StateSign) (rest : List ℕ) → list_all is_escaped signs ≡ true → quoted false (flat_map spelling signs ++ 34 ∷ rest) ≡ Some (map byte_of signs, rest)
 unfolding quoted
 quoted-complete [] rest each = refl
 quoted-complete ((true, b) ∷ signs) rest each = ap (with_byte b) (quoted-complete signs rest each)

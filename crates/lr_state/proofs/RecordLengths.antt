@@ -9,7 +9,7 @@ use Rattle.std.proofs.lemmas.List.Folds.{list_any-append}
 use Rattle.std.proofs.lemmas.Slice.Eq.{bytes_eq-Decides}
 use Rattle.lr_rules.specs.declared.civil.Civil.{Civil}
 use Rattle.lr_rules.specs.declared.path.Path.{Path}
-use Rattle.lr_state.specs.Table.{Entry, moment_of, is_name, is_table}
+use Rattle.lr_state.specs.Table.{StateEntry, moment_of, is_name, is_table}
 use Rattle.lr_state.specs.Written.{escaped, decimal, moment_text, line_text, entry_line, table_text}
 use Rattle.lr_state.proofs.Views.{bytes_swapped}
 use Rattle.lr_state.specs.After.{is_among}
@@ -55,7 +55,7 @@ line_grows name was now more grown =
     let new = line_length name now in
     omega (arith, old, new, grown)
 
-line_widens : (due : List Path) (now : Civil) (e : Entry) → length (entry_line e) ≤ length (entry_line (widest due now e))
+line_widens : (due : List Path) (now : Civil) (e : StateEntry) → length (entry_line e) ≤ length (entry_line (widest due now e))
 line_widens due now e = go (is_among due e.0)
   where
     go : (b : Bool) → length (entry_line e) ≤ length (entry_line (cond b (e.0, longer_moment e.1 now) e))
@@ -64,10 +64,10 @@ line_widens due now e = go (is_among due e.0)
 
 -- ---- texts
 
-lines_length : (e : Entry) (es : List Entry) → length (flat_map entry_line (e ∷ es)) ≡ length (entry_line e) + length (flat_map entry_line es)
+lines_length : (e : StateEntry) (es : List StateEntry) → length (flat_map entry_line (e ∷ es)) ≡ length (entry_line e) + length (flat_map entry_line es)
 lines_length e es = length-append (entry_line e) (flat_map entry_line es)
 
-lines_widen : (due : List Path) (now : Civil) (es : List Entry) → length (flat_map entry_line es) ≤ length (flat_map entry_line (map (widest due now) es))
+lines_widen : (due : List Path) (now : Civil) (es : List StateEntry) → length (flat_map entry_line es) ≤ length (flat_map entry_line (map (widest due now) es))
 lines_widen due now [] = omega arith
 lines_widen due now (e ∷ es) =
     let old = lines_length e es in
@@ -77,14 +77,14 @@ lines_widen due now (e ∷ es) =
     omega (arith, old, new, first, rest)
 
 -- the measured text is no shorter than that of the table
-pub text_widens : (due : List Path) (now : Civil) (es : List Entry) → length (table_text es) ≤ length (measured_text due now es)
+pub text_widens : (due : List Path) (now : Civil) (es : List StateEntry) → length (table_text es) ≤ length (measured_text due now es)
 text_widens due now es = let lines = lines_widen due now es in omega (arith, lines)
 
 -- where no log is due, it is that of the table
-pub none_due : (now : Civil) (es : List Entry) → measured_text [] now es ≡ table_text es
+pub none_due : (now : Civil) (es : List StateEntry) → measured_text [] now es ≡ table_text es
 none_due now es = ap table_text (same es)
   where
-    same : (xs : List Entry) → map (widest [] now) xs ≡ xs
+    same : (xs : List StateEntry) → map (widest [] now) xs ≡ xs
     same [] = refl
     same (x ∷ xs) = ap (λ ys. x ∷ ys) (same xs)
 
@@ -94,18 +94,18 @@ among_more : (due : List Path) (log : Path) (name : List ℕ) → is_among (due 
 among_more due log name = list_any-append (bytes_eq name) due (log ∷ []) ∙ ap (λ b. is_among due name || b) (or-false (bytes_eq name log))
 
 -- an entry of another name
-other_same : (due : List Path) (log : Path) (now : Civil) (e : Entry) → bytes_eq log e.0 ≡ false → widest (due ++ log ∷ []) now e ≡ widest due now e
+other_same : (due : List Path) (log : Path) (now : Civil) (e : StateEntry) → bytes_eq log e.0 ≡ false → widest (due ++ log ∷ []) now e ≡ widest due now e
 other_same due log now e other = ap (λ b. cond b (e.0, longer_moment e.1 now) e) (among_more due log e.0 ∙ (ap (λ b. is_among due e.0 || b) (bytes_swapped log e.0 other) ∙ or-false (is_among due e.0)))
 
 -- a log that the table lacks
-pub lacked_same : (due : List Path) (log : Path) (now : Civil) (es : List Entry) → is_some (moment_of es log) ≡ false → map (widest (due ++ log ∷ []) now) es ≡ map (widest due now) es
+pub lacked_same : (due : List Path) (log : Path) (now : Civil) (es : List StateEntry) → is_some (moment_of es log) ≡ false → map (widest (due ++ log ∷ []) now) es ≡ map (widest due now) es
 lacked_same due log now [] lacks = refl
 lacked_same due log now (e ∷ es) lacks =
     let parts = or_parts (bytes_eq log e.0) (is_some (moment_of es log)) (sym (found_first e es log) ∙ lacks) in
     ap (λ x. x ∷ map (widest (due ++ log ∷ []) now) es) (other_same due log now e parts.0) ∙ ap (λ xs. widest due now e ∷ xs) (lacked_same due log now es parts.1)
 
 -- a log that is due already
-pub due_same : (due : List Path) (log : Path) (now : Civil) (es : List Entry) → is_among due log ≡ true → map (widest (due ++ log ∷ []) now) es ≡ map (widest due now) es
+pub due_same : (due : List Path) (log : Path) (now : Civil) (es : List StateEntry) → is_among due log ≡ true → map (widest (due ++ log ∷ []) now) es ≡ map (widest due now) es
 due_same due log now [] is = refl
 due_same due log now (e ∷ es) is = ap (λ x. x ∷ map (widest (due ++ log ∷ []) now) es) (ap (λ b. cond b (e.0, longer_moment e.1 now) e) (among_more due log e.0 ∙ go (bytes_eq e.0 log) refl)) ∙ ap (λ xs. widest due now e ∷ xs) (due_same due log now es is)
   where
@@ -115,7 +115,7 @@ due_same due log now (e ∷ es) is = ap (λ x. x ∷ map (widest (due ++ log ∷
 
 -- a new one that the table has
 found_grows : (due : List Path) (log : Path) (now was : Civil) (more : ℕ) → is_among due log ≡ false → length (moment_text (longer_moment was now)) ≡ length (moment_text was) + more
-    → (es : List Entry) → is_table es ≡ true → moment_of es log ≡ Some was → length (flat_map entry_line (map (widest (due ++ log ∷ []) now) es)) ≡ length (flat_map entry_line (map (widest due now) es)) + more
+    → (es : List StateEntry) → is_table es ≡ true → moment_of es log ≡ Some was → length (flat_map entry_line (map (widest (due ++ log ∷ []) now) es)) ≡ length (flat_map entry_line (map (widest due now) es)) + more
 unfolding moment_of is_table
 found_grows due log now was more new grown [] table is = absurd (cc is)
 found_grows due log now was more new grown (e ∷ es) table is = go (bytes_eq log e.0) refl is (found_grows due log now was more new grown es parts.1)
@@ -138,18 +138,18 @@ found_grows due log now was more new grown (e ∷ es) table is = go (bytes_eq lo
         let wide : widest later now e ≡ (e.0, longer_moment e.1 now) = ap (λ b. cond b (e.0, longer_moment e.1 now) e) (among_more due log e.0 ∙ (ap (λ b. is_among due e.0 || b) ((bytes_eq-Decides e.0 log).1 (sym named)) ∙ or-true (is_among due e.0))) in
         let narrow : widest due now e ≡ e = ap (λ b. cond b (e.0, longer_moment e.1 now) e) (sym (ap (is_among due) named) ∙ new) in
         let first : length (entry_line (widest later now e)) ≡ length (entry_line (widest due now e)) + more =
-        ap (λ (x : Entry). length (entry_line x)) wide ∙ (line_grows e.0 e.1 (longer_moment e.1 now) more (subst (λ (x : Civil). length (moment_text (longer_moment x now)) ≡ length (moment_text x) + more) (sym moment) grown) ∙ ap (λ (x : Entry). length (entry_line x) + more) (sym narrow)) in
-        let rest : length (flat_map entry_line (map (widest later now) es)) ≡ length (flat_map entry_line (map (widest due now) es)) = ap (λ (xs : List Entry). length (flat_map entry_line xs)) (lacked_same due log now es (ap (λ n. is_some (moment_of es n)) named ∙ alone)) in
+        ap (λ (x : StateEntry). length (entry_line x)) wide ∙ (line_grows e.0 e.1 (longer_moment e.1 now) more (subst (λ (x : Civil). length (moment_text (longer_moment x now)) ≡ length (moment_text x) + more) (sym moment) grown) ∙ ap (λ (x : StateEntry). length (entry_line x) + more) (sym narrow)) in
+        let rest : length (flat_map entry_line (map (widest later now) es)) ≡ length (flat_map entry_line (map (widest due now) es)) = ap (λ (xs : List StateEntry). length (flat_map entry_line xs)) (lacked_same due log now es (ap (λ n. is_some (moment_of es n)) named ∙ alone)) in
         let old_sum = lines_length (widest due now e) (map (widest due now) es) in
         let new_sum = lines_length (widest later now e) (map (widest later now) es) in
         omega (arith, first, rest, old_sum, new_sum)
     go false other at next =
-        let first : length (entry_line (widest later now e)) ≡ length (entry_line (widest due now e)) = ap (λ (x : Entry). length (entry_line x)) (other_same due log now e other) in
+        let first : length (entry_line (widest later now e)) ≡ length (entry_line (widest due now e)) = ap (λ (x : StateEntry). length (entry_line x)) (other_same due log now e other) in
         let rest = next at in
         let old_sum = lines_length (widest due now e) (map (widest due now) es) in
         let new_sum = lines_length (widest later now e) (map (widest later now) es) in
         omega (arith, first, rest, old_sum, new_sum)
 
-pub text_grows : (due : List Path) (log : Path) (now was : Civil) (more : ℕ) (es : List Entry) → is_among due log ≡ false → length (moment_text (longer_moment was now)) ≡ length (moment_text was) + more → is_table es ≡ true → moment_of es log ≡ Some was
+pub text_grows : (due : List Path) (log : Path) (now was : Civil) (more : ℕ) (es : List StateEntry) → is_among due log ≡ false → length (moment_text (longer_moment was now)) ≡ length (moment_text was) + more → is_table es ≡ true → moment_of es log ≡ Some was
     → length (measured_text (due ++ log ∷ []) now es) ≡ length (measured_text due now es) + more
 text_grows due log now was more es new grown table is = let lines = found_grows due log now was more new grown es table is in omega (arith, lines)

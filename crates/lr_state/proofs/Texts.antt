@@ -11,8 +11,8 @@ use Rattle.jiff_core.proofs.SignedLemmas.{signed_arith}
 use Rattle.lr_rules.specs.Path.{is_bad_byte, has_bad_byte}
 use Rattle.lr_rules.specs.declared.civil.Civil.{Civil}
 use Rattle.lr_rules.specs.Bytes.{is_newline}
-use Rattle.lr_state.specs.Grammar.{Sign, spelling, is_escaped, byte_of, IsNumber, BeginsWithName, HasDate, LinesSay, TextSays}
-use Rattle.lr_state.specs.Table.{Entry, moment_of, is_name, is_table}
+use Rattle.lr_state.specs.Grammar.{StateSign, spelling, is_escaped, byte_of, IsNumber, BeginsWithName, HasDate, LinesSay, TextSays}
+use Rattle.lr_state.specs.Table.{StateEntry, moment_of, is_name, is_table}
 use Rattle.lr_state.specs.Written.{escaped, decimal, moment_text, line_text, entry_line, table_text}
 use Rattle.lr_state.proofs.Views.{bytes_swapped}
 use Rattle.lr_state.proofs.Decimals.{decimal-two, decimal-four, digits-line}
@@ -28,7 +28,7 @@ split-line (x ∷ xs) ys all =
     slice_split-cons_no is_newline x (xs ++ 10 ∷ ys) (not-true _ p.0) ∙ ap (onto_first x) (split-line xs ys p.1)
 
 -- the signs that are written for a name
-abbrev sign_of : ℕ → Sign
+abbrev sign_of : ℕ → StateSign
 sign_of b = ((b == 34) || (b == 92), b)
 
 signs-good : (name : List ℕ) → list_all is_escaped (map sign_of name) ≡ true
@@ -47,7 +47,7 @@ signs-name : (name : List ℕ) → name ≡ map byte_of (map sign_of name)
 signs-name [] = refl
 signs-name (b ∷ bs) = ap (λ t. b ∷ t) (signs-name bs)
 
-named : (e : Entry) → is_name e.0 ≡ true → BeginsWithName (line_text e) e.0 (32 ∷ moment_text e.1)
+named : (e : StateEntry) → is_name e.0 ≡ true → BeginsWithName (line_text e) e.0 (32 ∷ moment_text e.1)
 unfolding line_text
 named e good = (
   inl (record {
@@ -141,17 +141,17 @@ moment-inner at =
     let month = number-inner 2 at.month (decimal at.month) (45 ∷ (decimal at.day ++ 45 ∷ (decimal at.hour ++ 58 ∷ (decimal at.minute ++ 58 ∷ decimal at.second)))) (month-number at) day in
     number-inner 4 (unsigned_abs at.year) (decimal (unsigned_abs at.year)) _ (year-number at) month
 
-line-inner : (e : Entry) → is_name e.0 ≡ true → list_all is_inner (line_text e) ≡ true
+line-inner : (e : StateEntry) → is_name e.0 ≡ true → list_all is_inner (line_text e) ≡ true
 unfolding line_text is_name
 line-inner e good =
     let clear = not-true (has_bad_byte e.0) (and_parts _ (not (has_bad_byte e.0)) good).1 in
     list_all-append is_inner (flat_map escaped e.0) (34 ∷ (32 ∷ moment_text e.1)) ∙ and_from _ _ (escaped-inner e.0 clear) (moment-inner e.1)
 
 -- the names of the entries behind aren't among those before
-abbrev Apart : List Entry → List Entry → Type 0
+abbrev Apart : List StateEntry → List StateEntry → Type 0
 Apart before es = list_all (λ x. not (is_some (moment_of before x.0))) es ≡ true
 
-moment-snoc : (before : List Entry) (e : Entry) (q : List ℕ) → is_some (moment_of before q) ≡ false → bytes_eq q e.0 ≡ false → is_some (moment_of (before ++ e ∷ []) q) ≡ false
+moment-snoc : (before : List StateEntry) (e : StateEntry) (q : List ℕ) → is_some (moment_of before q) ≡ false → bytes_eq q e.0 ≡ false → is_some (moment_of (before ++ e ∷ []) q) ≡ false
 unfolding moment_of
 moment-snoc [] e q none other = ap (λ c. is_some (cond c (Some e.1) None)) other
 moment-snoc (x ∷ xs) e q none other = by (bytes_eq q x.0) none (λ h. moment-snoc xs e q h other)
@@ -161,7 +161,7 @@ moment-snoc (x ∷ xs) e q none other = by (bytes_eq q x.0) none (λ h. moment-s
     by true h next = h
     by false h next = next h
 
-apart-next : (before : List Entry) (e : Entry) (es : List Entry) → Apart before es → is_some (moment_of es e.0) ≡ false → Apart (before ++ e ∷ []) es
+apart-next : (before : List StateEntry) (e : StateEntry) (es : List StateEntry) → Apart before es → is_some (moment_of es e.0) ≡ false → Apart (before ++ e ∷ []) es
 unfolding moment_of
 apart-next before e [] apart new = refl
 apart-next before e (x ∷ xs) apart new =
@@ -178,9 +178,9 @@ none_from None e = refl
 none_from (Some at) e = absurd (cc e)
 
 -- the written lines say their entries
-lines-say : (number : ℕ) (before es : List Entry) → is_table es ≡ true → Apart before es → LinesSay number before (slice_split is_newline (flat_map entry_line es)) (Ok (before ++ es))
+lines-say : (number : ℕ) (before es : List StateEntry) → is_table es ≡ true → Apart before es → LinesSay number before (slice_split is_newline (flat_map entry_line es)) (Ok (before ++ es))
 unfolding is_table
-lines-say number before [] table apart = inr (before, inl (refl, refl), ap (λ (t : List Entry). Ok t) (append-nil before))
+lines-say number before [] table apart = inr (before, inl (refl, refl), ap (λ (t : List StateEntry). Ok t) (append-nil before))
 lines-say number before (e ∷ es) table apart =
     let parts = and_parts (is_name e.0 && not (is_some (moment_of es e.0))) (is_table es) table in
     let own = and_parts (is_name e.0) (not (is_some (moment_of es e.0))) parts.0 in
@@ -188,17 +188,17 @@ lines-say number before (e ∷ es) table apart =
     let lines : slice_split is_newline (flat_map entry_line (e ∷ es)) ≡ line_text e ∷ slice_split is_newline (flat_map entry_line es) =
     ap (slice_split is_newline) (append_assoc (line_text e) (10 ∷ []) (flat_map entry_line es)) ∙ split-line (line_text e) (flat_map entry_line es) (line-inner e own.0) in
     let next : LinesSay (number + 1) (before ++ e ∷ []) (slice_split is_newline (flat_map entry_line es)) (Ok (before ++ (e ∷ es))) =
-    subst (λ (t : List Entry). LinesSay (number + 1) (before ++ e ∷ []) (slice_split is_newline (flat_map entry_line es)) (Ok t)) (append_assoc before (e ∷ []) es)
+    subst (λ (t : List StateEntry). LinesSay (number + 1) (before ++ e ∷ []) (slice_split is_newline (flat_map entry_line es)) (Ok t)) (append_assoc before (e ∷ []) es)
     (lines-say (number + 1) (before ++ e ∷ []) es parts.1 (apart-next before e es p.1 (not-true _ own.1))) in
     subst (λ (ls : List (List ℕ)). LinesSay number before ls (Ok (before ++ (e ∷ es)))) (sym lines)
     (inr (before ++ e ∷ [], inr (e.0, 32 ∷ moment_text e.1, e.1, named e own.0, dated e.1, none_from _ (not-true _ p.0), refl), next))
 
-none-before : (es : List Entry) → Apart [] es
+none-before : (es : List StateEntry) → Apart [] es
 unfolding moment_of
 none-before [] = refl
 none-before (e ∷ es) = none-before es
 
-pub text-says : (t : List Entry) → is_table t ≡ true → length (table_text t) ≤ 67_108_864 → TextSays (table_text t) (Ok t)
+pub text-says : (t : List StateEntry) → is_table t ≡ true → length (table_text t) ≤ 67_108_864 → TextSays (table_text t) (Ok t)
 text-says t table small =
     let sized = le-ltb 67_108_864 (length (table_text t)) small in
     rw sized (lines-say 2 [] t table (none-before t))

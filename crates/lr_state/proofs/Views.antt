@@ -8,12 +8,12 @@ use Rattle.std.proofs.lemmas.Bool.{and_parts, and_from, not-true, leb-true}
 use Rattle.std.proofs.lemmas.Slice.Eq.{bytes_eq-Decides}
 use Rattle.indexmap.specs.IndexMap.{insert_entry}
 use Rattle.lr_rules.specs.declared.civil.Civil.{Civil}
-use Rattle.lr_state.specs.Table.{Entry, moment_of, put, is_name, is_table}
+use Rattle.lr_state.specs.Table.{StateEntry, moment_of, put, is_name, is_table}
 
 abbrev pub Held : Type 0
 Held = Vec ℕ Global × Civil
 
-abbrev pub shown : Held → Entry
+abbrev pub shown : Held → StateEntry
 shown e = (e.0.items, e.1)
 
 abbrev pub names : List ℕ → Vec ℕ Global → Bool
@@ -27,7 +27,7 @@ unfolding moment_of
 lookup-shown name [] = refl
 lookup-shown name (e ∷ es) = ap (λ r. cond (names name e.0) (Some e.1) r) (lookup-shown name es)
 
-set_by : (e : Held) (es : List Held) (at : Civil) (set : List Held) (puts : List Entry) (found : Option Civil) (b : Bool) → IsSome (cond b (Some e.1) found)
+set_by : (e : Held) (es : List Held) (at : Civil) (set : List Held) (puts : List StateEntry) (found : Option Civil) (b : Bool) → IsSome (cond b (Some e.1) found)
     → (IsSome found → map shown set ≡ puts)
     → map shown (cond b ((e.0, at) ∷ es) (e ∷ set)) ≡ cond b (shown (e.0, at) ∷ map shown es) (shown e ∷ puts)
 set_by e es at set puts found true some next = refl
@@ -39,7 +39,7 @@ set_value-shown name at [] some = absurd (true≢false (sym some))
 set_value-shown name at (e ∷ es) some =
     set_by e es at (set_value (names name) es at) (put (map shown es) name at) (lookup (names name) es) (names name e.0) some (set_value-shown name at es)
 
-insert_by : (e : Held) (es : List Held) (at : Civil) (inserted : List Held) (puts : List Entry) (b : Bool) → map shown inserted ≡ puts
+insert_by : (e : Held) (es : List Held) (at : Civil) (inserted : List Held) (puts : List StateEntry) (b : Bool) → map shown inserted ≡ puts
     → map shown (cond b ((e.0, at) ∷ es) (e ∷ inserted)) ≡ cond b (shown (e.0, at) ∷ map shown es) (shown e ∷ puts)
 insert_by e es at inserted puts true next = refl
 insert_by e es at inserted puts false next = ap (λ r. shown e ∷ r) next
@@ -51,34 +51,34 @@ insert_entry-shown name key at (e ∷ es) is =
     insert_by e es at (insert_entry same es key at) (put (map shown es) name at) (same key e.0) (insert_entry-shown name key at es is)
     ∙ ap (λ n. cond (bytes_eq n e.0.items) (shown (e.0, at) ∷ map shown es) (shown e ∷ put (map shown es) name at)) is
 
-filter_by : (e : Held) (kept : List Held) (shows : List Entry) (b : Bool) → map shown kept ≡ shows → map shown (cond b (e ∷ kept) kept) ≡ cond b (shown e ∷ shows) shows
+filter_by : (e : Held) (kept : List Held) (shows : List StateEntry) (b : Bool) → map shown kept ≡ shows → map shown (cond b (e ∷ kept) kept) ≡ cond b (shown e ∷ shows) shows
 filter_by e kept shows true next = ap (λ r. shown e ∷ r) next
 filter_by e kept shows false next = next
 
-pub filter-shown_by : (p : Entry → Bool) (es : List Held) → map shown (filter (λ e. p (shown e)) es) ≡ filter p (map shown es)
+pub filter-shown_by : (p : StateEntry → Bool) (es : List Held) → map shown (filter (λ e. p (shown e)) es) ≡ filter p (map shown es)
 filter-shown_by p [] = refl
 filter-shown_by p (e ∷ es) = filter_by e (filter (λ e. p (shown e)) es) (filter p (map shown es)) (p (shown e)) (filter-shown_by p es)
 
 -- a new name goes last
-new_by : (e : Entry) (es : List Entry) (name : List ℕ) (at : Civil) (b : Bool) → is_some (cond b (Some e.1) (moment_of es name)) ≡ false
+new_by : (e : StateEntry) (es : List StateEntry) (name : List ℕ) (at : Civil) (b : Bool) → is_some (cond b (Some e.1) (moment_of es name)) ≡ false
     → (is_some (moment_of es name) ≡ false → put es name at ≡ es ++ (name, at) ∷ [])
     → cond b ((e.0, at) ∷ es) (e ∷ put es name at) ≡ e ∷ (es ++ (name, at) ∷ [])
 new_by e es name at true none next = absurd (true≢false none)
 new_by e es name at false none next = ap (λ r. e ∷ r) (next none)
 
-pub put-new : (es : List Entry) (name : List ℕ) (at : Civil) → is_some (moment_of es name) ≡ false → put es name at ≡ es ++ (name, at) ∷ []
+pub put-new : (es : List StateEntry) (name : List ℕ) (at : Civil) → is_some (moment_of es name) ≡ false → put es name at ≡ es ++ (name, at) ∷ []
 unfolding put moment_of
 put-new [] name at none = refl
 put-new (e ∷ es) name at none = new_by e es name at (bytes_eq name e.0) none (put-new es name at)
 
 -- other names are found as before
-other_by : (e : Entry) (at : Civil) (q : List ℕ) (more puts : Option Civil) (b c : Bool) → is_some puts ≡ is_some more
+other_by : (e : StateEntry) (at : Civil) (q : List ℕ) (more puts : Option Civil) (b c : Bool) → is_some puts ≡ is_some more
     → is_some (cond c (Some e.1) (cond b more puts)) ≡ is_some (cond c (Some e.1) more)
 other_by e at q more puts true c next = refl
 other_by e at q more puts false true next = refl
 other_by e at q more puts false false next = next
 
-moment-cond : (b : Bool) (e : Entry) (es puts : List Entry) (at : Civil) (q : List ℕ)
+moment-cond : (b : Bool) (e : StateEntry) (es puts : List StateEntry) (at : Civil) (q : List ℕ)
     → is_some (moment_of (cond b ((e.0, at) ∷ es) (e ∷ puts)) q)
     ≡ is_some (cond (bytes_eq q e.0) (Some e.1) (cond b (moment_of es q) (moment_of puts q)))
 unfolding moment_of
@@ -89,7 +89,7 @@ moment-cond true e es puts at q = by (bytes_eq q e.0)
     by false = refl
 moment-cond false e es puts at q = refl
 
-pub moment-put_other : (es : List Entry) (name : List ℕ) (at : Civil) (q : List ℕ) → bytes_eq q name ≡ false → is_some (moment_of (put es name at) q) ≡ is_some (moment_of es q)
+pub moment-put_other : (es : List StateEntry) (name : List ℕ) (at : Civil) (q : List ℕ) → bytes_eq q name ≡ false → is_some (moment_of (put es name at) q) ≡ is_some (moment_of es q)
 unfolding put moment_of
 moment-put_other [] name at q other = ap (λ b. is_some (cond b (Some at) None)) other
 moment-put_other (e ∷ es) name at q other =
@@ -104,7 +104,7 @@ bytes_swapped a b e = by (bytes_eq b a) refl
     by true is = absurd (true≢false (sym ((bytes_eq-Decides a b).1 (sym ((bytes_eq-Decides b a).0 is))) ∙ e))
 
 -- a table stays one where a name of a log is put
-put_by : (e : Entry) (es : List Entry) (name : List ℕ) (at : Civil) (b : Bool) → bytes_eq name e.0 ≡ b → is_table (e ∷ es) ≡ true → is_table (put es name at) ≡ true
+put_by : (e : StateEntry) (es : List StateEntry) (name : List ℕ) (at : Civil) (b : Bool) → bytes_eq name e.0 ≡ b → is_table (e ∷ es) ≡ true → is_table (put es name at) ≡ true
     → is_table (cond b ((e.0, at) ∷ es) (e ∷ put es name at)) ≡ true
 unfolding is_table
 put_by e es name at true is table next = table
@@ -115,7 +115,7 @@ put_by e es name at false is table next =
     ap not (moment-put_other es name at e.0 (bytes_swapped name e.0 is)) ∙ own.1 in
     and_from _ _ (and_from _ _ own.0 kept) next
 
-pub table-put : (es : List Entry) (name : List ℕ) (at : Civil) → is_name name ≡ true → is_table es ≡ true → is_table (put es name at) ≡ true
+pub table-put : (es : List StateEntry) (name : List ℕ) (at : Civil) → is_name name ≡ true → is_table es ≡ true → is_table (put es name at) ≡ true
 unfolding put is_table moment_of
 table-put [] name at good table = and_from _ _ (and_from _ _ good refl) refl
 table-put (e ∷ es) name at good table =
@@ -123,14 +123,14 @@ table-put (e ∷ es) name at good table =
     (table-put es name at good (and_parts (is_name e.0 && not (is_some (moment_of es e.0))) (is_table es) table).1)
 
 -- each name of a table is one of a log
-pub table-name : (es : List Entry) (k : ℕ) (e : Entry) → is_table es ≡ true → slice_get es k ≡ Some e → is_name e.0 ≡ true
+pub table-name : (es : List StateEntry) (k : ℕ) (e : StateEntry) → is_table es ≡ true → slice_get es k ≡ Some e → is_name e.0 ≡ true
 unfolding is_table
 table-name [] k e table at = absurd (cc at)
 table-name (x ∷ xs) zero e table at =
     let parts = and_parts (is_name x.0 && not (is_some (moment_of xs x.0))) (is_table xs) table in
     let own = and_parts (is_name x.0) (not (is_some (moment_of xs x.0))) parts.0 in
     let same_entry : x ≡ e = cc at in
-    subst (λ (y : Entry). is_name y.0 ≡ true) same_entry own.0
+    subst (λ (y : StateEntry). is_name y.0 ≡ true) same_entry own.0
 table-name (x ∷ xs) (suc k) e table at =
     table-name xs k e (and_parts (is_name x.0 && not (is_some (moment_of xs x.0))) (is_table xs) table).1 at
 

@@ -8,7 +8,7 @@ use Rattle.lr_rules.specs.declared.civil.Civil.{Civil}
 use Rattle.lr_rules.specs.declared.fault.StateKind.{StateKind}
 use Rattle.lr_rules.specs.declared.fault.StateKind.TheVariants.{TooBig, BadTop, BadName, BadDate, Twice}
 use Rattle.lr_rules.specs.Bytes.{is_blank, is_newline, is_digit, is_no_blank}
-use Rattle.lr_state.specs.Table.{Entry, moment_of, is_name}
+use Rattle.lr_state.specs.Table.{StateEntry, moment_of, is_name}
 
 -- the end, or a blank
 abbrev pub ends_word : List ℕ → Bool
@@ -21,22 +21,22 @@ lines_behind None = []
 lines_behind (Some text) = slice_split is_newline text
 
 -- a sign of a quoted name: a byte, with a backslash in front or without
-abbrev pub Sign : Type 0
-Sign = Bool × ℕ
+abbrev pub StateSign : Type 0
+StateSign = Bool × ℕ
 
-abbrev pub spelling : Sign → List ℕ
+abbrev pub spelling : StateSign → List ℕ
 spelling s = if s.0 then 92 ∷ s.1 ∷ [] else s.1 ∷ []
 
 -- a quote and a backslash have a backslash in front
-abbrev pub is_escaped : Sign → Bool
+abbrev pub is_escaped : StateSign → Bool
 is_escaped s = s.0 || not ((s.1 == 34) || (s.1 == 92))
 
-abbrev pub byte_of : Sign → ℕ
+abbrev pub byte_of : StateSign → ℕ
 byte_of s = s.1
 
 -- the line begins with the name between quotes, and the rest is behind them
 pub record IsQuoted (line name rest : List ℕ) : Type 0 where
-  pub signs : List Sign
+  pub signs : List StateSign
   pub each : list_all is_escaped signs ≡ true
   pub line_is : line ≡ 34 ∷ (flat_map spelling signs ++ 34 ∷ rest)
   pub name_is : name ≡ map byte_of signs
@@ -99,14 +99,14 @@ pub record HasDate (rest : List ℕ) (at : Civil) : Type 0 where
   pub time_is : IsTime time at.hour at.minute at.second
 
 -- behind the entries of the lines before it, a line leaves them, where it is empty, or adds its own
-abbrev pub AddsLine : List Entry → List ℕ → List Entry → Type 0
+abbrev pub AddsLine : List StateEntry → List ℕ → List StateEntry → Type 0
 AddsLine before line after =
     ((line ≡ []) × (after ≡ before))
     ⊎ ((name : List ℕ) × (rest : List ℕ) × (at : Civil) × BeginsWithName line name rest × HasDate rest at
     × (moment_of before name ≡ None) × (after ≡ before ++ (name, at) ∷ []))
 
 -- the first fault of a line, behind the entries of the lines before it
-abbrev pub IsFirstFault : List Entry → List ℕ → StateKind → Type 0
+abbrev pub IsFirstFault : List StateEntry → List ℕ → StateKind → Type 0
 IsFirstFault before line TooBig = ⊥
 IsFirstFault before line BadTop = ⊥
 IsFirstFault before line BadName = (line ≢ []) × ((name rest : List ℕ) → BeginsWithName line name rest → ⊥)
@@ -117,15 +117,15 @@ IsFirstFault before line Twice =
     × IsSome (moment_of before name)
 
 -- what a text says: a table, or its first fault and the line of it
-abbrev pub Said : Type 0
-Said = Result (List Entry) (ℕ × StateKind)
+abbrev pub StateSaid : Type 0
+StateSaid = Result (List StateEntry) (ℕ × StateKind)
 
 -- what the lines from this number on say, behind the entries of the lines before them
-abbrev pub LinesSay : ℕ → List Entry → List (List ℕ) → Said → Type 0
+abbrev pub LinesSay : ℕ → List StateEntry → List (List ℕ) → StateSaid → Type 0
 LinesSay number before [] said = said ≡ Ok before
 LinesSay number before (line ∷ lines) said =
     ((kind : StateKind) × IsFirstFault before line kind × (said ≡ Err (number, kind)))
-    ⊎ ((after : List Entry) × AddsLine before line after × LinesSay (number + 1) after lines said)
+    ⊎ ((after : List StateEntry) × AddsLine before line after × LinesSay (number + 1) after lines said)
 
 abbrev pub top_2 : List ℕ
 top_2 = codes "logrotate state -- version 2"
@@ -137,20 +137,20 @@ abbrev pub is_top : List ℕ → Bool
 is_top line = bytes_eq line top_2 || bytes_eq line top_1
 
 -- what the lines behind the first say, where that names the version
-abbrev pub BehindTop : Bool → List (List ℕ) → Said → Type 0
+abbrev pub BehindTop : Bool → List (List ℕ) → StateSaid → Type 0
 BehindTop true lines said = LinesSay 2 [] lines said
 BehindTop false lines said = said ≡ Err (1, BadTop)
 
-abbrev pub TextLinesSay : List (List ℕ) → Said → Type 0
+abbrev pub TextLinesSay : List (List ℕ) → StateSaid → Type 0
 TextLinesSay [] said = said ≡ Ok []
 TextLinesSay (top ∷ lines) said = BehindTop (is_top top) lines said
 
 -- what a text says that may be too big
-abbrev pub SizedTextSays : Bool → List ℕ → Said → Type 0
+abbrev pub SizedTextSays : Bool → List ℕ → StateSaid → Type 0
 SizedTextSays true text said = said ≡ Err (0, TooBig)
 SizedTextSays false text said = TextLinesSay (slice_split is_newline text) said
 
 -- what a state text says: an empty one has no entries
-abbrev pub TextSays : List ℕ → Said → Type 0
+abbrev pub TextSays : List ℕ → StateSaid → Type 0
 TextSays [] said = said ≡ Ok []
 TextSays (b ∷ bs) said = SizedTextSays (nat_lt 67_108_864 (length (b ∷ bs))) (b ∷ bs) said

@@ -88,7 +88,7 @@ pub record ReadsPartFile (state : Path) (size : ℕ) (there : Bool) (answer : Re
   pub known : IfOk answer (IsKnownBehind state there (found part) reading)
 
 -- the answer by what a reader says
-abbrev pub IsKnownByReader : Bool → Result (List table.Entry) StateStop → Result Known Memory → Type 0
+abbrev pub IsKnownByReader : Bool → Result (List table.StateEntry) StateStop → Result Known Memory → Type 0
 IsKnownByReader stale (Ok entries) answer = answer ≡ Ok (Ok (record { table = entries; stale = stale }))
 IsKnownByReader stale (Err (whole.Bad line kind)) answer = answer ≡ Ok (Err (fault.State line kind))
 IsKnownByReader stale (Err whole.Memory) answer = IfOk answer (λ known. ⊥)

@@ -7,7 +7,7 @@ use Rattle.lr_rules.specs.declared.fault.Fault.{Fault}
 use Rattle.lr_rules.specs.StatePath.{state_part}
 use Rattle.lr_rules.specs.declared.fault.Fault.TheVariants as fault
 use Rattle.lr_host.specs.declared.entry.Entry.{Entry}
-use Rattle.lr_state.specs.Grammar.{Said, TextSays}
+use Rattle.lr_state.specs.Grammar.{StateSaid, TextSays}
 use Rattle.lr_state.specs.declared.look.LookStop.{LookStop}
 use Rattle.lr_state.specs.declared.look.LookStop.TheVariants as stop
 use Rattle.lr_state.specs.declared.remembered.Remembered.{Remembered}
@@ -30,17 +30,17 @@ text_read state true (Whole pieces last) = Ok (bytes_of pieces ++ last)
 text_read state true (Broken pieces) = Err (fault.Call call.Read state)
 
 -- what a text says: its table, beside whether an old part file stands; or its first fault
-abbrev pub known_of : Bool → Said → Known
+abbrev pub known_of : Bool → StateSaid → Known
 known_of stale (Ok table) = Ok (record { table = table; stale = stale })
 known_of stale (Err bad) = Err (fault.State bad.0 bad.1)
 
 -- a text says this and nothing else
-abbrev pub TextSaysOnly : List ℕ → Said → Type 0
-TextSaysOnly text said = TextSays text said × ((other : Said) → TextSays text other → other ≡ said)
+abbrev pub TextSaysOnly : List ℕ → StateSaid → Type 0
+TextSaysOnly text said = TextSays text said × ((other : StateSaid) → TextSays text other → other ≡ said)
 
 -- This is known by the text: what it says, or why there is none.
 abbrev pub IsKnownBy : Bool → Result (List ℕ) Fault → Known → Type 0
-IsKnownBy stale (Ok text) known = (said : Said) × TextSaysOnly text said × (known ≡ known_of stale said)
+IsKnownBy stale (Ok text) known = (said : StateSaid) × TextSaysOnly text said × (known ≡ known_of stale said)
 IsKnownBy stale (Err why) known = known ≡ Err why
 
 -- This is known by the part file that was found, and by the text.

@@ -7,16 +7,16 @@ use Rattle.lr_rules.specs.Between.{seconds_between}
 use Rattle.lr_rules.specs.Path.{has_bad_byte}
 use Rattle.lr_rules.specs.declared.civil.Civil.{Civil}
 
-abbrev pub Entry : Type 0
-Entry = List ℕ × Civil
+abbrev pub StateEntry : Type 0
+StateEntry = List ℕ × Civil
 
 -- the moment at a name
-unfoldable pub moment_of : List Entry → List ℕ → Option Civil
+unfoldable pub moment_of : List StateEntry → List ℕ → Option Civil
 moment_of [] name = None
 moment_of (e ∷ es) name = if bytes_eq name e.0 then Some e.1 else moment_of es name
 
 -- the table with the moment at the name, which goes last where it is new
-unfoldable pub put : List Entry → List ℕ → Civil → List Entry
+unfoldable pub put : List StateEntry → List ℕ → Civil → List StateEntry
 put [] name at = (name, at) ∷ []
 put (e ∷ es) name at = if bytes_eq name e.0 then ((e.0, at) ∷ es) else (e ∷ put es name at)
 
@@ -25,7 +25,7 @@ unfoldable pub is_name : List ℕ → Bool
 is_name name = nat_lt 0 (length name) && nat_le (length name) 4096 && is_utf8 name && not (has_bad_byte name)
 
 -- each entry has a name of a log, and no name stands twice
-unfoldable pub is_table : List Entry → Bool
+unfoldable pub is_table : List StateEntry → Bool
 is_table [] = true
 is_table (e ∷ es) = is_name e.0 && not (is_some (moment_of es e.0)) && is_table es
 

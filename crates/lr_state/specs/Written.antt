@@ -3,7 +3,7 @@ use Rattle.std.specs.Prelude.{◌||◌, ◌==◌, ℕ, ◌+◌, ◌/◌, ◌%◌
 use Rattle.std.specs.List.{flat_map}
 use Rattle.lr_rules.specs.declared.civil.Civil.{Civil}
 use Rattle.lr_state.specs.Grammar.{top_2}
-use Rattle.lr_state.specs.Table.{Entry}
+use Rattle.lr_state.specs.Table.{StateEntry}
 
 -- a byte of a name, with a backslash in front of a quote and of a backslash
 abbrev pub escaped : ℕ → List ℕ
@@ -24,13 +24,13 @@ moment_text at =
     ++ 45 ∷ (decimal at.hour ++ 58 ∷ (decimal at.minute ++ 58 ∷ decimal at.second))))
 
 -- the line of an entry without its newline
-unfoldable pub line_text : Entry → List ℕ
+unfoldable pub line_text : StateEntry → List ℕ
 line_text e = 34 ∷ (flat_map escaped e.0 ++ 34 ∷ (32 ∷ moment_text e.1))
 
 -- the line of an entry
-abbrev pub entry_line : Entry → List ℕ
+abbrev pub entry_line : StateEntry → List ℕ
 entry_line e = line_text e ++ 10 ∷ []
 
 -- the text of a table
-abbrev pub table_text : List Entry → List ℕ
+abbrev pub table_text : List StateEntry → List ℕ
 table_text t = (top_2 ++ 10 ∷ []) ++ flat_map entry_line t

@@ -2,7 +2,7 @@
 ghost use Rattle.std.specs.Prelude.{◌≡◌, ◌++◌, [], ℕ, List, OnOk, OnErr, Err};
 ghost use Rattle.lr_state.specs.Answer.{ReaderGives, IsSaidBy};
 ghost use Rattle.lr_state.specs.Given.{Given, HasTaken, IsStarved};
-ghost use Rattle.lr_state.specs.Grammar.{Said, TextSays};
+ghost use Rattle.lr_state.specs.Grammar.{StateSaid, TextSays};
 ghost use Rattle.lr_state.specs.declared.text.StateStop.TheVariants as stop;
 
 use crate::state::State;
@@ -73,7 +73,7 @@ impl Reader {
         // What comes is what the text says, its table or its first fault.
         ensures says { (bytes : List ℕ) → HasTaken self bytes → IsSaidBy (TextSays bytes) result }
         // What the text says comes, unless there is no memory.
-        ensures only { (bytes : List ℕ) (said : Said) → HasTaken self bytes → TextSays bytes said → ReaderGives result said }
+        ensures only { (bytes : List ℕ) (said : StateSaid) → HasTaken self bytes → TextSays bytes said → ReaderGives result said }
         ensures starved { IsStarved self → result ≡ Err stop.Memory }
     {
         if self.starved {

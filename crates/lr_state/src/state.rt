@@ -2,7 +2,7 @@
 ghost use Rattle.std.specs.Prelude.{◌≡◌, ◌<◌, ◌≤◌, ◌^◌, ◌-◌, ℕ, List, [], filter, not, Bool, true, ◌||◌, ◌++◌, ◌∷◌, OnOk, OnErr};
 ghost use Rattle.std.specs.Prelude.{IsSome, IsOk, IsTrue, Some, Ok, length, take, min, slice_get};
 ghost use Rattle.lr_state.specs.Grammar.{TextSays};
-ghost use Rattle.lr_state.specs.Table.{Entry, moment_of, put, is_name, is_old, is_table, IsNameTest};
+ghost use Rattle.lr_state.specs.Table.{StateEntry, moment_of, put, is_name, is_old, is_table, IsNameTest};
 ghost use Rattle.lr_state.specs.Written.{entry_line, table_text};
 
 use crate::write::put_line;
@@ -20,9 +20,9 @@ pub struct State {
 
 impl Model for State {
     ghost use Rattle.std.specs.Prelude.{◌≡◌, true, List, map};
-    ghost use Rattle.lr_state.specs.Table.{Entry, is_table};
+    ghost use Rattle.lr_state.specs.Table.{StateEntry, is_table};
 
-    ghost Value = { List Entry };
+    ghost Value = { List StateEntry };
 
     ghost view = { λ s. map (λ e. (e.0.items, e.1)) s.entries.entries };
 
@@ -119,8 +119,8 @@ impl State {
     pub fn line(&self, k: usize, into: &mut [u8]) -> usize
         requires in_range { k < length self.now }
         requires room { 8448 ≤ length into.old }
-        ensures line { (e : Entry) → slice_get self.now k ≡ Some e → take result into.new ≡ entry_line e }
-        ensures len { (e : Entry) → slice_get self.now k ≡ Some e → result ≡ length (entry_line e) }
+        ensures line { (e : StateEntry) → slice_get self.now k ≡ Some e → take result into.new ≡ entry_line e }
+        ensures len { (e : StateEntry) → slice_get self.now k ≡ Some e → result ≡ length (entry_line e) }
         ensures bound { result ≤ 8448 }
     {
         let (name, at) = self.entry(k);

@@ -3,7 +3,7 @@ ghost use Rattle.std.specs.Prelude.{◌≡◌, ◌<◌, ◌≤◌, ◌++◌, ◌
 ghost use Rattle.std.specs.List.{position_or_len, slice_split};
 ghost use Rattle.lr_rules.specs.Bytes.{is_newline};
 ghost use Rattle.lr_state.specs.Answer.{ReaderGives, IsSaidBy};
-ghost use Rattle.lr_state.specs.Grammar.{Said, is_top, top_2, lines_behind, LinesSay, TextSays};
+ghost use Rattle.lr_state.specs.Grammar.{StateSaid, is_top, top_2, lines_behind, LinesSay, TextSays};
 ghost use Rattle.lr_state.specs.Reading.{seen};
 
 use crate::line::{LineStop, add_line};
@@ -62,7 +62,7 @@ fn names_version(line: &[u8]) -> bool
 fn read_lines(alloc: Global, text: Option<&[u8]>) -> Result<State, StateStop>
     requires { IfSome text (λ s. length s.now ≤ 67_108_864) }
     ensures says { IsSaidBy (LinesSay 2 [] (lines_behind (option_map seen text.entry))) result }
-    ensures only { (said : Said) → LinesSay 2 [] (lines_behind (option_map seen text.entry)) said → ReaderGives result said }
+    ensures only { (said : StateSaid) → LinesSay 2 [] (lines_behind (option_map seen text.entry)) said → ReaderGives result said }
 {
     let mut state = State::new(alloc);
     let mut left = text;
@@ -89,7 +89,7 @@ impl State {
         // What comes is what the text says, its table or its first fault.
         ensures says { IsSaidBy (TextSays bytes.now) result }
         // What the text says comes, unless there is no memory.
-        ensures only { (said : Said) → TextSays bytes.now said → ReaderGives result said }
+        ensures only { (said : StateSaid) → TextSays bytes.now said → ReaderGives result said }
     {
         if bytes.is_empty() {
             return Ok(State::new(alloc));

@@ -1,7 +1,7 @@
 // The buffer through which a text passes.
 ghost use Rattle.std.specs.Prelude.{◌≡◌, ◌<◌, ◌≤◌, ◌+◌, ◌++◌, ◌∷◌, [], length, take, Some, slice_get};
 ghost use Rattle.lr_state.specs.Grammar.{top_2};
-ghost use Rattle.lr_state.specs.Table.{Entry};
+ghost use Rattle.lr_state.specs.Table.{StateEntry};
 ghost use Rattle.lr_state.specs.Written.{entry_line};
 
 use lr_state::{State, first_line};
@@ -22,7 +22,7 @@ pub fn put_first(buffer: &mut [u8]) -> usize
 pub fn add_line(table: &State, k: usize, buffer: &mut [u8], held: usize) -> usize
     requires in_range { k < length table.now }
     requires room { held + 8448 ≤ length buffer.old }
-    ensures line { (e : Entry) → slice_get table.now k ≡ Some e → take result buffer.new ≡ take held buffer.old ++ entry_line e }
+    ensures line { (e : StateEntry) → slice_get table.now k ≡ Some e → take result buffer.new ≡ take held buffer.old ++ entry_line e }
     ensures same { length buffer.new ≡ length buffer.old }
     ensures bound { result ≤ length buffer.old }
 {

@@ -25,7 +25,7 @@ use Rattle.lr_forms.specs.Says.{line_of, closes_definition, item_says}
 use Rattle.lr_conf.specs.Fields.{last_or}
 use Rattle.lr_conf.specs.Rules.{rule_of}
 use Rattle.lr_conf.specs.Scripts.{script_fault}
-use Rattle.lr_conf.specs.Meaning.{Line, line_file, Read, Spoiled, End, Cut, OutsideLine, stands, spoiled}
+use Rattle.lr_conf.specs.Meaning.{ConfLine, line_file, Read, Spoiled, End, Cut, OutsideLine, stands, spoiled}
 use Rattle.lr_conf.specs.Meaning.{file_ends, breaks_off, Meaning}
 use Rattle.lr_conf.specs.Meaning.{◌and◌, nothing, only_faults, conf, of_line, of_spoilt, opened_at, or_line, outside_line, ends}
 use Rattle.lr_conf.specs.Meaning.{notice_of, notice_past, line_faults, line_fault, said_behind}
@@ -92,7 +92,7 @@ with_said s (says.Script p text stray) = scripted s p text (script_fault s.scrip
 with_said s (says.Bad k) = record s { place = Dropped }
 with_said s v = s
 
-abbrev pub good : State → Line → State
+abbrev pub good : State → ConfLine → State
 good s (Read file i) =
     if closes_definition i then record s { place = Outside; words = []; first = None; fields = default_fields }
     else with_said s (item_says true i)
@@ -100,10 +100,10 @@ good s (Spoiled f) = record s { place = Dropped }
 good s (End file) = left s
 good s Cut = left s
 
-abbrev pub dropped : State → Line → State
+abbrev pub dropped : State → ConfLine → State
 dropped s e = if ends e then left s else s
 
-abbrev pub step : Place → State → Line → State
+abbrev pub step : Place → State → ConfLine → State
 step Outside s e = outside s (outside_line e)
 step Good s e = good s e
 step Dropped s e = dropped s e
@@ -117,7 +117,7 @@ said_inside file at v =
 abbrev pub first_of : State → ℕ
 first_of s = or_line s.first 0
 
-abbrev pub gives_good : State → Line → Meaning
+abbrev pub gives_good : State → ConfLine → Meaning
 gives_good s (Read file i) =
     if closes_definition i then record { rules = rule_of file (first_of s) s.words s.fields ∷ []; notices = []; faults = [] }
     else said_inside file (line_of i) (said_behind s.scripts (item_says true i))
@@ -125,16 +125,16 @@ gives_good s (Spoiled f) = only_faults (f ∷ [])
 gives_good s (End file) = only_faults (conf file kind.NoBrace (first_of s) ∷ [])
 gives_good s Cut = nothing
 
-abbrev pub gives_outside : State → Line → Meaning
+abbrev pub gives_outside : State → ConfLine → Meaning
 gives_outside s e = of_line (line_file e) s.first (outside_line e)
 
-abbrev pub gives : Place → State → Line → Meaning
+abbrev pub gives : Place → State → ConfLine → Meaning
 gives Outside s e = gives_outside s e
 gives Good s e = gives_good s e
 gives Dropped s e = of_spoilt (e ∷ [])
 
 -- what lines give from a state on
-abbrev pub run : State → List Line → Meaning
+abbrev pub run : State → List ConfLine → Meaning
 run s [] = nothing
 run s (e ∷ es) = gives s.place s e and run (step s.place s e) es
 
@@ -146,11 +146,11 @@ is_inside Outside = false
 is_inside p = true
 
 -- the file that a line asks for, and what it makes taboo
-abbrev pub asks_at : Place → Line → Option Include
+abbrev pub asks_at : Place → ConfLine → Option Include
 asks_at Outside e = asks (outside_line e)
 asks_at p e = None
 
-abbrev pub bans_at : Place → Line → Option (Bool × TabooItems)
+abbrev pub bans_at : Place → ConfLine → Option (Bool × TabooItems)
 bans_at Outside e = bans (outside_line e)
 bans_at p e = None
 
@@ -171,15 +171,15 @@ state_of k = record {
 }
 
 -- what is kept, and what lines give from then on
-abbrev pub coming_from : Draft → List Line → Meaning
+abbrev pub coming_from : Draft → List ConfLine → Meaning
 coming_from k lines = kept k.rules.items k.notices.items and run (state_of k) lines
 
 -- the files that lines ask for from then on
-abbrev pub asking_from : Draft → List Line → List Include
+abbrev pub asking_from : Draft → List ConfLine → List Include
 asking_from k lines = asked (is_inside k.place) lines
 
 -- the taboo list behind lines from then on
-abbrev pub banning_from : Draft → List Line → Taboo
+abbrev pub banning_from : Draft → List ConfLine → Taboo
 banning_from k lines = banned (is_inside k.place) k.taboo lines
 
 -- all but the state is the same, rules and notices aside
@@ -188,7 +188,7 @@ pub record SameTable (old : Draft) (new : Draft) : Type 0 where
   pub taboo : new.taboo ≡ old.taboo
 
 -- one line was taken in
-pub record Stepped (old : Draft) (new : Draft) (e : Line) (faults : List Fault) (includes : List Include) : Type 0 where
+pub record Stepped (old : Draft) (new : Draft) (e : ConfLine) (faults : List Fault) (includes : List Include) : Type 0 where
   pub state : state_of new ≡ step old.place (state_of old) e
   pub rules : new.rules.items ≡ old.rules.items ++ (gives old.place (state_of old) e).rules
   pub notices : new.notices.items ≡ old.notices.items ++ (gives old.place (state_of old) e).notices
@@ -204,38 +204,38 @@ pub record Unchanged (old : Draft) (new : Draft) : Type 0 where
   pub notices : new.notices.items ≡ old.notices.items
   pub table : SameTable old new
 
-abbrev pub Steps : Draft → Draft → Path → Line → Result (Option Include) LayerStop → Type 0
+abbrev pub Steps : Draft → Draft → Path → ConfLine → Result (Option Include) LayerStop → Type 0
 Steps old new file e (Ok include) = Stepped old new e [] (option_to_list include)
 Steps old new file e (Err stop.Memory) = Unchanged old new
 Steps old new file e (Err fault) = Stepped old new e (layer_faults file fault) (include_of fault)
 
 -- What a call answered that took a line, and how lines go on behind it.
-abbrev pub TookIn : Draft → Draft → Path → Line → Result (Option Include) LayerStop → Type 0
-TookIn old new file e (Ok include) = (lines : List Line) → coming_from old (e ∷ lines) ≡ coming_from new lines
-TookIn old new file e (Err stop.Memory) = (lines : List Line) → coming_from new lines ≡ coming_from old lines
-TookIn old new file e (Err fault) = (lines : List Line) → coming_from old (e ∷ lines)
+abbrev pub TookIn : Draft → Draft → Path → ConfLine → Result (Option Include) LayerStop → Type 0
+TookIn old new file e (Ok include) = (lines : List ConfLine) → coming_from old (e ∷ lines) ≡ coming_from new lines
+TookIn old new file e (Err stop.Memory) = (lines : List ConfLine) → coming_from new lines ≡ coming_from old lines
+TookIn old new file e (Err fault) = (lines : List ConfLine) → coming_from old (e ∷ lines)
     ≡ (only_faults (layer_faults file fault) and coming_from new lines)
 
 -- the file for which the answer asks is that of the line
-abbrev pub AsksIn : Draft → Draft → Line → Result (Option Include) LayerStop → Type 0
-AsksIn old new e (Ok include) = (lines : List Line) → asking_from old (e ∷ lines) ≡ option_to_list include ++ asking_from new lines
-AsksIn old new e (Err stop.Memory) = (lines : List Line) → asking_from new lines ≡ asking_from old lines
-AsksIn old new e (Err fault) = (lines : List Line) → asking_from old (e ∷ lines) ≡ include_of fault ++ asking_from new lines
+abbrev pub AsksIn : Draft → Draft → ConfLine → Result (Option Include) LayerStop → Type 0
+AsksIn old new e (Ok include) = (lines : List ConfLine) → asking_from old (e ∷ lines) ≡ option_to_list include ++ asking_from new lines
+AsksIn old new e (Err stop.Memory) = (lines : List ConfLine) → asking_from new lines ≡ asking_from old lines
+AsksIn old new e (Err fault) = (lines : List ConfLine) → asking_from old (e ∷ lines) ≡ include_of fault ++ asking_from new lines
 
 -- the taboo list is that behind the line
-abbrev pub BansIn : Draft → Draft → Line → Result (Option Include) LayerStop → Type 0
-BansIn old new e (Err stop.Memory) = (lines : List Line) → banning_from new lines ≡ banning_from old lines
-BansIn old new e r = (lines : List Line) → banning_from old (e ∷ lines) ≡ banning_from new lines
+abbrev pub BansIn : Draft → Draft → ConfLine → Result (Option Include) LayerStop → Type 0
+BansIn old new e (Err stop.Memory) = (lines : List ConfLine) → banning_from new lines ≡ banning_from old lines
+BansIn old new e r = (lines : List ConfLine) → banning_from old (e ∷ lines) ≡ banning_from new lines
 
 -- what lines ask for and make taboo from then on is the same
 pub record AlikeIn (old : Draft) (new : Draft) : Type 0 where
-  pub asks : (lines : List Line) → asking_from new lines ≡ asking_from old lines
-  pub bans : (lines : List Line) → banning_from new lines ≡ banning_from old lines
+  pub asks : (lines : List ConfLine) → asking_from new lines ≡ asking_from old lines
+  pub bans : (lines : List ConfLine) → banning_from new lines ≡ banning_from old lines
 
 -- and so it is behind a line that does neither
-pub record PassesIn (old : Draft) (new : Draft) (e : Line) : Type 0 where
-  pub asks : (lines : List Line) → asking_from old (e ∷ lines) ≡ asking_from new lines
-  pub bans : (lines : List Line) → banning_from old (e ∷ lines) ≡ banning_from new lines
+pub record PassesIn (old : Draft) (new : Draft) (e : ConfLine) : Type 0 where
+  pub asks : (lines : List ConfLine) → asking_from old (e ∷ lines) ≡ asking_from new lines
+  pub bans : (lines : List ConfLine) → banning_from old (e ∷ lines) ≡ banning_from new lines
 
 -- the files that were entered and not left, and the last of them, which is read
 abbrev pub files_of : Draft → List Path

@@ -3,7 +3,7 @@ use Rattle.lr_plan.specs.declared.mark.Mark.{Mark}
 use Rattle.lr_plan.specs.Done.{rotated_logs}
 use Rattle.lr_plan.specs.Steps.{state_steps}
 use Rattle.lr_state.specs.After.{stamped}
-use Rattle.lr_state.specs.Table.{Entry as Row}
+use Rattle.lr_state.specs.Table.{StateEntry as Row}
 use Rattle.lr_state.specs.Written.{table_text}
 use Rattle.lr_writing.specs.Writes.{AddsCourse}
 use Rattle.lr_run.proofs.Carrying.{marks_behind}

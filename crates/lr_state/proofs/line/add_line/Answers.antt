@@ -1,7 +1,7 @@
 use Rattle.std.proofs.Common.{◌≡◌, ◌∙◌, ap, sym, subst, List, ℕ, Bool, true, false, [], ◌==◌, length, None, is_some, option_map, Ok}
 use Rattle.lr_state.specs.Answer.{LineSaysOnly}
 use Rattle.lr_state.specs.Reading.{seen_name}
-use Rattle.lr_state.specs.Table.{Entry, moment_of}
+use Rattle.lr_state.specs.Table.{StateEntry, moment_of}
 use Rattle.lr_state.proofs.Texts.{none_from}
 use Rattle.lr_state.proofs.Lines.{says-bad_name, says-bad_date, says-twice, says-new}
 use Rattle.lr_state.proofs.line.add_line.Goals as goal
@@ -32,6 +32,6 @@ pub returns : goal.returns
 returns c =
     let new : moment_of c.args.state.now c.in-Some.name.items ≡ None =
     none_from _ (ap (λ (n : List ℕ). is_some (moment_of c.args.state.now n)) (sym c.as_slice.ensures.value) ∙ ap is_some (sym c.get.ensures) ∙ sym c.is_some.ensures ∙ c.if-is_some.false) in
-    subst (λ (t : List Entry). LineSaysOnly c.args.state.now c.args.line.now (Ok t)) (sym c.in_ok-add.ensures.ok)
+    subst (λ (t : List StateEntry). LineSaysOnly c.args.state.now c.args.line.now (Ok t)) (sym c.in_ok-add.ensures.ok)
     (says-new c.args.state.now c.args.line.now (c.in-Some.name.items, c.in-Some.rest.now) c.in-Some-moment.at (sym (ap (option_map seen_name) c.in-Some.is) ∙ c.in_ok-name.ensures)
     (full c.args.line.now c.is_empty.result c.is_empty.ensures c.if-is_empty.false) c.in-Some-moment.ensures new)

@@ -3,7 +3,7 @@ use Rattle.std.proofs.lemmas.Bool.{lt-leb}
 use Rattle.std.proofs.lemmas.List.{take_more}
 use Rattle.lr_rules.specs.declared.civil.Civil.{Civil}
 use Rattle.lr_rules.specs.declared.path.Path.{Path}
-use Rattle.lr_state.specs.Table.{Entry, is_name, is_table, put}
+use Rattle.lr_state.specs.Table.{StateEntry, is_name, is_table, put}
 use Rattle.lr_state.specs.Written.{table_text}
 use Rattle.lr_state.specs.Measured.{measured_text}
 use Rattle.lr_state.proofs.After.{path_named, none_found, one_more_name}
@@ -28,7 +28,7 @@ loop-log-init c = record {
 }
 
 -- so many of the logs that are due, and one more
-one_more_due : (due : List Path) (at : ℕ) (log : Path) (now : Civil) (es : List Entry) (len more sum : ℕ) → at < length due → log ≡ get_or due at log → len ≡ min (2 ^ 64 - 1) (length (measured_text (take at due) now es)) → sum ≡ min (len + more) (2 ^ 64 - 1)
+one_more_due : (due : List Path) (at : ℕ) (log : Path) (now : Civil) (es : List StateEntry) (len more sum : ℕ) → at < length due → log ≡ get_or due at log → len ≡ min (2 ^ 64 - 1) (length (measured_text (take at due) now es)) → sum ≡ min (len + more) (2 ^ 64 - 1)
     → length (measured_text (take at due ++ log ∷ []) now es) ≡ length (measured_text (take at due) now es) + more → sum ≡ min (2 ^ 64 - 1) (length (measured_text (take (at + 1) due) now es))
 one_more_due due at log now es len more sum lt is old added grown =
     let same : length (measured_text (take (at + 1) due) now es) ≡ length (measured_text (take at due ++ log ∷ []) now es) =

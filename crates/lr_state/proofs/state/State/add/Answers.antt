@@ -1,5 +1,5 @@
 use Rattle.std.proofs.Common.{◌≡◌, ◌∙◌, ap, refl, List, [], ◌∷◌, ◌++◌, false, is_some, map}
-use Rattle.lr_state.specs.Table.{Entry, moment_of, is_table}
+use Rattle.lr_state.specs.Table.{StateEntry, moment_of, is_table}
 use Rattle.lr_state.proofs.Views.{Held, shown, insert_entry-shown, put-new, table-put}
 use Rattle.lr_state.proofs.state.State.add.Goals as goal
 
@@ -12,8 +12,8 @@ invariant_of-self-2 c =
 pub returns-clause-ok : goal.returns-clause-ok
 returns-clause-ok c =
     let none : is_some (moment_of (map shown c.self.inside.entries.entries) c.args.name.items) ≡ false =
-    ap (λ (es : List Entry). is_some (moment_of es c.args.name.items)) c.self.view_is ∙ ap is_some c.requires.new in
+    ap (λ (es : List StateEntry). is_some (moment_of es c.args.name.items)) c.self.view_is ∙ ap is_some c.requires.new in
     ap (λ (es : List Held). map shown es) c.in_ok-insert.ensures.entries
     ∙ insert_entry-shown c.args.name.items c.args.name c.args.at c.self.inside.entries.entries refl
     ∙ put-new (map shown c.self.inside.entries.entries) c.args.name.items c.args.at none
-    ∙ ap (λ (es : List Entry). es ++ (c.args.name.items, c.args.at) ∷ []) c.self.view_is
+    ∙ ap (λ (es : List StateEntry). es ++ (c.args.name.items, c.args.at) ∷ []) c.self.view_is
