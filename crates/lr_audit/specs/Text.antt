@@ -6,8 +6,8 @@ use Rattle.lr_audited.specs.declared.line.Audit.{Audit}
 use Rattle.lr_audited.specs.declared.line.Line.{Line}
 use Rattle.lr_audited.specs.declared.line.What.{What}
 use Rattle.lr_audited.specs.declared.line.What.TheVariants as what
-use Rattle.lr_audited.specs.declared.line.Why.{Why}
-use Rattle.lr_audited.specs.declared.line.Why.TheVariants as why
+use Rattle.lr_audited.specs.declared.line.WhyGone.{WhyGone}
+use Rattle.lr_audited.specs.declared.line.WhyGone.TheVariants as why
 
 -- the bytes of a path, where there is one
 abbrev pub name_of : Option Path → List ℕ
@@ -34,11 +34,11 @@ abbrev pub gap_text : Path × ℕ → List ℕ
 gap_text gap = concat (gap.0 ∷ codes ": gap at " ∷ decimal gap.1 ∷ codes "\n" ∷ [])
 
 -- what goes, and why
-abbrev pub why_line : Path → Why → List ℕ
+abbrev pub why_line : Path → WhyGone → List ℕ
 why_line path why.Count = concat (path ∷ codes ": next run removes, count\n" ∷ [])
 why_line path why.Age = concat (path ∷ codes ": next run removes, age\n" ∷ [])
 
-abbrev pub going_text : Path × Why → List ℕ
+abbrev pub going_text : Path × WhyGone → List ℕ
 going_text going = why_line going.0 going.1
 
 -- all of it

@@ -5,7 +5,7 @@ ghost use Rattle.lr_shown.specs.Puts.{Puts};
 ghost use Rattle.lr_audit.specs.Text.{name_of, placed_line, line_text, gap_text, going_text, audit_text};
 
 use itoa::Buffer;
-use lr_audited::{Audit, Line, What, Why};
+use lr_audited::{Audit, Line, What, WhyGone};
 use lr_host::{Sink, SinkFault};
 use lr_report::{put_four, put_three, put_two};
 use lr_rules::Path;
@@ -92,16 +92,16 @@ fn put_gaps<K: Sink>(gaps: &[(Path, u32)], out: &mut K) -> Result<(), SinkFault>
     Ok(())
 }
 
-fn put_going<K: Sink>(going: &(Path, Why), out: &mut K) -> Result<(), SinkFault>
+fn put_going<K: Sink>(going: &(Path, WhyGone), out: &mut K) -> Result<(), SinkFault>
     ensures { Puts (going_text going.now) result (K.taken out.old) (K.taken out.new) (K.faults out.old) (K.faults out.new) }
 {
     match going.1 {
-        Why::Count => put_two(out, going.0.bytes(), b": next run removes, count\n"),
-        Why::Age => put_two(out, going.0.bytes(), b": next run removes, age\n"),
+        WhyGone::Count => put_two(out, going.0.bytes(), b": next run removes, count\n"),
+        WhyGone::Age => put_two(out, going.0.bytes(), b": next run removes, age\n"),
     }
 }
 
-fn put_removed<K: Sink>(removed: &[(Path, Why)], out: &mut K) -> Result<(), SinkFault>
+fn put_removed<K: Sink>(removed: &[(Path, WhyGone)], out: &mut K) -> Result<(), SinkFault>
     ensures { Puts (flat_map going_text removed.now) result (K.taken out.old) (K.taken out.new) (K.faults out.old)
         (K.faults out.new) }
 {

@@ -68,7 +68,7 @@ use Rattle.lr_laws_looks.proofs.Apart.{targets_dont_meet}
 use Rattle.lr_laws_looks.proofs.Hindrances.{free_of_members}
 use Rattle.lr_laws_looks.proofs.Planned.{plan_targets}
 use Rattle.lr_laws_looks.proofs.Seen.{targets_have_names}
-use Rattle.lr_audited.specs.declared.line.Why.{Why}
+use Rattle.lr_audited.specs.declared.line.WhyGone.{WhyGone}
 use Rattle.lr_audited.specs.Audits.{going_of}
 use Rattle.lr_audited.specs.Removed.{aside_going, newest_going, left_over, leftovers_of, retired_of, log_removed, set_removed, removed_by}
 use Rattle.lr_audited.specs.Unlinked.{Origins, own_names, unlinked, set_steps, set_parts, going_paths, files_unlinked}
@@ -168,7 +168,7 @@ log_fine p clock mailer rule look h sorts free = record {
   first = λ came before. rotation_unlinks t h rule mailer told (log_retires clock mailer rule look h free) p sorts.keeps sorts.drops (log_left clock mailer rule look h free) came before
       ∙ leftover_paths (log_plan clock mailer rule look).ready.leftovers;
   last = λ came other before same. retirement_unlinks t h rule mailer told (log_retires clock mailer rule look h free) p sorts.keeps sorts.drops came other before same (log_plan clock mailer rule look).first_mail
-      ∙ sym (map-append (λ (g : Path × Why). g.0) (aside_going t.aside t.log) (reverse (newest_going look.family.naming.dated clock (log_plan clock mailer rule look))));
+      ∙ sym (map-append (λ (g : Path × WhyGone). g.0) (aside_going t.aside t.log) (reverse (newest_going look.family.naming.dated clock (log_plan clock mailer rule look))));
 }
   where
     t : Target
@@ -281,7 +281,7 @@ module _ (p : Path → Bool) (clock : Clock) where
       ∙ (filter-append p (unlinked came (rotation_of log)) (unlinked (run came (rotation_of log)) (retirement_of log))
       ∙ (ap (λ (xs : List Path). xs ++ filter p (unlinked (run came (rotation_of log)) (retirement_of log))) (f.first came before)
       ∙ (ap (λ (xs : List Path). going_paths (leftovers_of log) ++ xs) (f.last came (run came (rotation_of log)) before (λ x own. refl))
-      ∙ sym (map-append (λ (g : Path × Why). g.0) (leftovers_of log) (retired_of clock log)))))
+      ∙ sym (map-append (λ (g : Path × WhyGone). g.0) (leftovers_of log) (retired_of clock log)))))
 
   abbrev each_steps : List LogPlan → List Step
   each_steps logs = flat_map (λ (steps : List Step). steps) (map steps_of_log logs)
@@ -304,7 +304,7 @@ module _ (p : Path → Bool) (clock : Clock) where
       ∙ (ap (λ (xs : List Path). xs ++ filter p (unlinked (run came (steps_of_log log)) (each_steps logs))) (log_so t log came f.0 (before t (inl refl)))
       ∙ (ap (λ (xs : List Path). going_paths (log_removed clock log) ++ xs) (each_so ts logs (run came (steps_of_log log)) f.1 d.1
       (as_before (NamesOf t) (steps_of_log log) came ts (log_touches t log f.0) (λ u i x own of_t. none_share t ts d.0 u i x of_t own) (λ u i. before u (inr i))))
-      ∙ sym (map-append (λ (g : Path × Why). g.0) (log_removed clock log) (flat_map (log_removed clock) logs)))))
+      ∙ sym (map-append (λ (g : Path × WhyGone). g.0) (log_removed clock log) (flat_map (log_removed clock) logs)))))
 
   -- ---- logs that share their scripts
 
@@ -352,7 +352,7 @@ module _ (p : Path → Bool) (clock : Clock) where
       ∙ (filter-append p (unlinked came (rotation_of log)) (unlinked (run came (rotation_of log)) (flat_map rotation_of logs))
       ∙ (ap (λ (xs : List Path). xs ++ filter p (unlinked (run came (rotation_of log)) (flat_map rotation_of logs))) (f.0.first came (before t (inl refl)))
       ∙ (ap (λ (xs : List Path). going_paths (leftovers_of log) ++ xs) (rotations_so ts logs (run came (rotation_of log)) f.1 d.1 (on_from t ts log came f.0 d.0 before))
-      ∙ sym (map-append (λ (g : Path × Why). g.0) (leftovers_of log) (flat_map leftovers_of logs)))))
+      ∙ sym (map-append (λ (g : Path × WhyGone). g.0) (leftovers_of log) (flat_map leftovers_of logs)))))
 
   rotations_end : (ts : List Target) (logs : List LogPlan) (came : Origins) → AreFine p clock ts logs → DontMeet ts → AreAsBefore ts came → EndFrom (run came (flat_map rotation_of logs)) ts logs
   rotations_end [] [] came f d before = tt
@@ -373,7 +373,7 @@ module _ (p : Path → Bool) (clock : Clock) where
       ∙ (ap (λ (xs : List Path). xs ++ filter p (unlinked (run came (retirement_of log)) (flat_map retirement_of logs))) (e.0 came (λ x own. refl))
       ∙ (ap (λ (xs : List Path). going_paths (retired_of clock log) ++ xs) (retirements_so ts logs (run came (retirement_of log)) f.1 d.1
       (ends_as ts logs came (run came (retirement_of log)) (λ u i x own. left_alone (NamesOf t) (retirement_of log) came x f.0.ends (λ of_t. none_share t ts d.0 u i x of_t own)) e.1))
-      ∙ sym (map-append (λ (g : Path × Why). g.0) (retired_of clock log) (flat_map (retired_of clock) logs)))))
+      ∙ sym (map-append (λ (g : Path × WhyGone). g.0) (retired_of clock log) (flat_map (retired_of clock) logs)))))
 
   -- ---- one definition
 
@@ -421,7 +421,7 @@ module _ (p : Path → Bool) (clock : Clock) where
           ∙ (filter-append p (unlinked came turn_steps) (unlinked turned end_steps)
           ∙ (ap (λ (xs : List Path). xs ++ filter p (unlinked turned end_steps)) (rotations_so ts set.logs came f d before)
           ∙ (ap (λ (xs : List Path). going_paths (flat_map leftovers_of set.logs) ++ xs) (retirements_so ts set.logs turned f d (rotations_end ts set.logs came f d before))
-          ∙ sym (map-append (λ (g : Path × Why). g.0) (flat_map leftovers_of set.logs) (flat_map (retired_of clock) set.logs)))))
+          ∙ sym (map-append (λ (g : Path × WhyGone). g.0) (flat_map leftovers_of set.logs) (flat_map (retired_of clock) set.logs)))))
 
       single_so : filter p (unlinked came (program phase.First set.first ++ (each_steps set.logs ++ program phase.Last set.last))) ≡ going_paths (flat_map (log_removed clock) set.logs)
       single_so =
@@ -454,7 +454,7 @@ module _ (p : Path → Bool) (clock : Clock) where
       ∙ (ap (λ (xs : List Path). going_paths (set_removed clock set) ++ xs) (sets_so groups sets (run came (set_steps (steps_of_set set))) f.1 (meet_back ts (flat_map (λ us. us) groups) d)
       (as_before (OfOne ts) (set_steps (steps_of_set set)) came (flat_map (λ us. us) groups) (set_touches ts set f.0)
       (λ u i x own one. share_across ts (flat_map (λ us. us) groups) d one.0 u one.1 i x one.2 own) (λ u i. before u (in_back u ts (flat_map (λ us. us) groups) i))))
-      ∙ sym (map-append (λ (g : Path × Why). g.0) (set_removed clock set) (flat_map (set_removed clock) sets)))))
+      ∙ sym (map-append (λ (g : Path × WhyGone). g.0) (set_removed clock set) (flat_map (set_removed clock) sets)))))
 
 -- ---- part files
 
@@ -583,7 +583,7 @@ logs_told clock (x ∷ xs) (y ∷ ys) a = two_are (log_removed clock x) (log_rem
 module _ (clock : Clock) (mailer other : Path) where
   lefts_same : (rule : Rule) (log : Path) (rs : List Removal) → map left_over (map (with_programs rule mailer log) rs) ≡ map left_over (map (with_programs rule other log) rs)
   lefts_same rule log [] = refl
-  lefts_same rule log (r ∷ rs) = ap (λ (xs : List (Path × Why)). left_over r ∷ xs) (lefts_same rule log rs)
+  lefts_same rule log (r ∷ rs) = ap (λ (xs : List (Path × WhyGone)). left_over r ∷ xs) (lefts_same rule log rs)
 
   newest_same : (rule : Rule) (look : LogLook) (d : Option Format) → newest_going d clock (log_plan clock mailer rule look) ≡ newest_going d clock (log_plan clock other rule look)
   newest_same rule look None = refl
@@ -593,7 +593,7 @@ module _ (clock : Clock) (mailer other : Path) where
   one_told rule look (due.Yes why) [] = (
     (
       lefts_same rule look.path (ready_for clock rule look).leftovers,
-      ap (λ (xs : List (Path × Why)). aside_going (aside_by rule.way look.path look.tmp) look.path ++ reverse xs) (newest_same rule look look.family.naming.dated),
+      ap (λ (xs : List (Path × WhyGone)). aside_going (aside_by rule.way look.path look.tmp) look.path ++ reverse xs) (newest_same rule look look.family.naming.dated),
     ),
     tt,
   )

@@ -15,14 +15,14 @@ use Rattle.lr_family.specs.declared.stand.Member.{Member}
 use Rattle.lr_family.specs.Stands.{key_in}
 use Rattle.lr_plan.specs.declared.plan.LogPlan.{LogPlan}
 use Rattle.lr_plan.specs.declared.plan.SetPlan.{SetPlan}
-use Rattle.lr_audited.specs.declared.line.Why.{Why}
+use Rattle.lr_audited.specs.declared.line.WhyGone.{WhyGone}
 use Rattle.lr_audited.specs.Removed.{member_going, dated_going, going_with, new_seconds, new_serial, log_going, newest_going, leftovers_of, retired_of, log_removed, set_removed, IsStamped}
 
 module _ (c : Count) (maxage : Option ℕ) (now : ℤ) where
   dated_snoc : (k : ℕ) (xs : List Member) (m : Member) → dated_going c maxage now k (xs ++ m ∷ []) ≡ dated_going c maxage now k xs ++ member_going c maxage now (k + length xs) m
   dated_snoc k [] m = append-nil (member_going c maxage now k m) ∙ ap (λ (j : ℕ). member_going c maxage now j m) (let e : k ≡ k + 0 = omega arith in e)
   dated_snoc k (x ∷ xs) m =
-      ap (λ (ys : List (Path × Why)). member_going c maxage now k x ++ ys) (dated_snoc (suc k) xs m ∙ ap (λ (j : ℕ). dated_going c maxage now (suc k) xs ++ member_going c maxage now j m) (let e : suc k + length xs ≡ k + suc (length xs) = omega arith in e))
+      ap (λ (ys : List (Path × WhyGone)). member_going c maxage now k x ++ ys) (dated_snoc (suc k) xs m ∙ ap (λ (j : ℕ). dated_going c maxage now (suc k) xs ++ member_going c maxage now j m) (let e : suc k + length xs ≡ k + suc (length xs) = omega arith in e))
       ∙ sym (append_assoc (member_going c maxage now k x) (dated_going c maxage now (suc k) xs) (member_going c maxage now (k + suc (length xs)) m))
 
   grown : (k : ℕ) (members : List Member) (i : ℕ) (m : Member) → m ≡ get_or members i m → i < length members → dated_going c maxage now k (take (i + 1) members) ≡ dated_going c maxage now k (take i members) ++ member_going c maxage now (k + i) m
@@ -33,14 +33,14 @@ module _ (c : Count) (maxage : Option ℕ) (now : ℤ) where
   grown_first : (members : List Member) (i : ℕ) (m : Member) → m ≡ get_or members i m → i < length members → dated_going c maxage now 0 (take (i + 1) members) ≡ dated_going c maxage now 0 (take i members) ++ member_going c maxage now i m
   grown_first members i m is lt = grown 0 members i m is lt ∙ ap (λ (j : ℕ). dated_going c maxage now 0 (take i members) ++ member_going c maxage now j m) (let e : 0 + i ≡ i = omega arith in e)
 
-  pub dated_more : (first : ℕ) (members : List Member) (i : ℕ) (m : Member) (start before after : List (Path × Why)) → m ≡ get_or members i m → i < length members → before ≡ start ++ dated_going c maxage now first (take i members)
+  pub dated_more : (first : ℕ) (members : List Member) (i : ℕ) (m : Member) (start before after : List (Path × WhyGone)) → m ≡ get_or members i m → i < length members → before ≡ start ++ dated_going c maxage now first (take i members)
       → after ≡ before ++ member_going c maxage now (first + i) m → after ≡ start ++ dated_going c maxage now first (take (i + 1) members)
   dated_more first members i m start before after is lt so more =
-      more ∙ (ap (λ (xs : List (Path × Why)). xs ++ member_going c maxage now (first + i) m) so
+      more ∙ (ap (λ (xs : List (Path × WhyGone)). xs ++ member_going c maxage now (first + i) m) so
       ∙ (append_assoc start (dated_going c maxage now first (take i members)) (member_going c maxage now (first + i) m)
-      ∙ ap (λ (xs : List (Path × Why)). start ++ xs) (sym (grown first members i m is lt))))
+      ∙ ap (λ (xs : List (Path × WhyGone)). start ++ xs) (sym (grown first members i m is lt))))
 
-  module _ (key : ℤ) (log : ℕ → List (Path × Why)) where
+  module _ (key : ℤ) (log : ℕ → List (Path × WhyGone)) where
     next : (members : List Member) (i : ℕ) (m : Member) → m ≡ get_or members i m → i < length members → drop i members ≡ m ∷ drop (i + 1) members
     next members i m is lt = drop-cons members i m lt ∙ (ap (λ (x : Member). x ∷ drop (suc i) members) (sym is) ∙ ap (λ (k : ℕ). m ∷ drop k members) (let e : suc i ≡ i + 1 = omega arith in e))
 
@@ -54,16 +54,16 @@ module _ (c : Count) (maxage : Option ℕ) (now : ℤ) where
         → going_with c maxage now key log 0 members ≡ dated_going c maxage now 0 (take i members) ++ going_with c maxage now key log i (drop i members)
         → going_with c maxage now key log 0 members ≡ dated_going c maxage now 0 (take (i + 1) members) ++ going_with c maxage now key log (i + 1) (drop (i + 1) members)
     parts_more members i m is lt later so =
-        so ∙ (ap (λ (xs : List (Path × Why)). dated_going c maxage now 0 (take i members) ++ xs)
+        so ∙ (ap (λ (xs : List (Path × WhyGone)). dated_going c maxage now 0 (take i members) ++ xs)
         (ap (going_with c maxage now key log i) (next members i m is lt) ∙ (later_one i m (drop (i + 1) members) later ∙ ap (λ (k : ℕ). member_going c maxage now i m ++ going_with c maxage now key log k (drop (i + 1) members)) (let e : suc i ≡ i + 1 = omega arith in e)))
         ∙ (sym (append_assoc (dated_going c maxage now 0 (take i members)) (member_going c maxage now i m) (going_with c maxage now key log (i + 1) (drop (i + 1) members)))
-        ∙ ap (λ (xs : List (Path × Why)). xs ++ going_with c maxage now key log (i + 1) (drop (i + 1) members)) (sym (grown_first members i m is lt))))
+        ∙ ap (λ (xs : List (Path × WhyGone)). xs ++ going_with c maxage now key log (i + 1) (drop (i + 1) members)) (sym (grown_first members i m is lt))))
 
     pub parts_here : (members : List Member) (i : ℕ) (m : Member) → m ≡ get_or members i m → i < length members → int_lt key (key_in m.place) ≡ false
         → going_with c maxage now key log 0 members ≡ dated_going c maxage now 0 (take i members) ++ going_with c maxage now key log i (drop i members)
         → going_with c maxage now key log 0 members ≡ dated_going c maxage now 0 (take i members) ++ (log i ++ dated_going c maxage now (i + 1) (drop i members))
     parts_here members i m is lt earlier so =
-        so ∙ ap (λ (xs : List (Path × Why)). dated_going c maxage now 0 (take i members) ++ xs)
+        so ∙ ap (λ (xs : List (Path × WhyGone)). dated_going c maxage now 0 (take i members) ++ xs)
         (ap (going_with c maxage now key log i) (next members i m is lt) ∙ (not_later i m (drop (i + 1) members) earlier
         ∙ (ap (λ (ms : List Member). log i ++ dated_going c maxage now (suc i) ms) (sym (next members i m is lt)) ∙ ap (λ (k : ℕ). log i ++ dated_going c maxage now k (drop i members)) (let e : suc i ≡ i + 1 = omega arith in e))))
 
@@ -72,16 +72,16 @@ module _ (c : Count) (maxage : Option ℕ) (now : ℤ) where
         → going_with c maxage now key log 0 members ≡ dated_going c maxage now 0 (take i members) ++ (log i ++ dated_going c maxage now (i + 1) (drop i members))
     parts_end members i le so =
         let none = drop_all i members le in
-        so ∙ ap (λ (xs : List (Path × Why)). dated_going c maxage now 0 (take i members) ++ xs)
+        so ∙ ap (λ (xs : List (Path × WhyGone)). dated_going c maxage now 0 (take i members) ++ xs)
         (ap (going_with c maxage now key log i) none ∙ (sym (append-nil (log i)) ∙ ap (λ (ms : List Member). log i ++ dated_going c maxage now (i + 1) ms) (sym none)))
 
-    pub with_log : (members : List Member) (p : ℕ) (start a b d : List (Path × Why)) → going_with c maxage now key log 0 members ≡ dated_going c maxage now 0 (take p members) ++ (log p ++ dated_going c maxage now (p + 1) (drop p members))
+    pub with_log : (members : List Member) (p : ℕ) (start a b d : List (Path × WhyGone)) → going_with c maxage now key log 0 members ≡ dated_going c maxage now 0 (take p members) ++ (log p ++ dated_going c maxage now (p + 1) (drop p members))
         → a ≡ start ++ dated_going c maxage now 0 (take p members) → b ≡ a ++ log p → d ≡ b ++ dated_going c maxage now (p + 1) (drop p members) → d ≡ start ++ going_with c maxage now key log 0 members
     with_log members p start a b d parts first second third =
-        third ∙ (ap (λ (xs : List (Path × Why)). xs ++ dated_going c maxage now (p + 1) (drop p members)) (second ∙ ap (λ (xs : List (Path × Why)). xs ++ log p) first)
+        third ∙ (ap (λ (xs : List (Path × WhyGone)). xs ++ dated_going c maxage now (p + 1) (drop p members)) (second ∙ ap (λ (xs : List (Path × WhyGone)). xs ++ log p) first)
         ∙ (append_assoc (start ++ dated_going c maxage now 0 (take p members)) (log p) (dated_going c maxage now (p + 1) (drop p members))
         ∙ (append_assoc start (dated_going c maxage now 0 (take p members)) (log p ++ dated_going c maxage now (p + 1) (drop p members))
-        ∙ ap (λ (xs : List (Path × Why)). start ++ xs) (sym parts))))
+        ∙ ap (λ (xs : List (Path × WhyGone)). start ++ xs) (sym parts))))
 
 -- ---- the log's new name
 
@@ -94,7 +94,7 @@ stamp_is clock log r stamped some reads = go log.naming.dated refl
 
 -- ---- one log, and logs that share their scripts
 
-pub stamped_all : (clock : Clock) (log : LogPlan) (n : Count) (maxage : Option ℕ) (now t : ℤ) (k : ℕ) (place : Place) (members : List Member) (start after : List (Path × Why)) → IsSome log.naming.dated → n ≡ log.count → maxage ≡ log.maxage → now ≡ clock.now.seconds
+pub stamped_all : (clock : Clock) (log : LogPlan) (n : Count) (maxage : Option ℕ) (now t : ℤ) (k : ℕ) (place : Place) (members : List Member) (start after : List (Path × WhyGone)) → IsSome log.naming.dated → n ≡ log.count → maxage ≡ log.maxage → now ≡ clock.now.seconds
     → t ≡ new_seconds clock log → k ≡ new_serial clock log → place ≡ at.Stamp t k → members ≡ log.stand.members → after ≡ start ++ going_with n maxage now (key_in place) (log_going log.count log.job log.ready.log) 0 members → after ≡ start ++ newest_going log.naming.dated clock log
 stamped_all clock log n maxage now t k place members start after some en ea ew et ek ep em more =
     more
@@ -107,16 +107,16 @@ stamped_all clock log n maxage now t k place members start after some en ea ew e
     ∙ (ap (λ (x : List Member). start ++ going_with log.count log.maxage clock.now.seconds (stamp_key (new_seconds clock log) (new_serial clock log)) own 0 x) em
     ∙ by_dates log.naming.dated refl)))))))
   where
-    own : ℕ → List (Path × Why)
+    own : ℕ → List (Path × WhyGone)
     own = log_going log.count log.job log.ready.log
 
     by_dates : (d : Option Format) → log.naming.dated ≡ d → start ++ going_with log.count log.maxage clock.now.seconds (stamp_key (new_seconds clock log) (new_serial clock log)) own 0 log.stand.members ≡ start ++ newest_going log.naming.dated clock log
     by_dates None e = absurd (let none : false ≡ true = subst (λ (d : Option Format). is_some d ≡ true) e some in cc none)
     by_dates (Some f) e = ap (λ (d : Option Format). start ++ newest_going d clock log) (sym e)
 
-pub shared_more : (clock : Clock) (set : SetPlan) (logs : List LogPlan) (start a d : List (Path × Why)) → set.shared ≡ true → logs ≡ set.logs → a ≡ start ++ flat_map leftovers_of logs → d ≡ a ++ flat_map (retired_of clock) logs → d ≡ start ++ set_removed clock set
+pub shared_more : (clock : Clock) (set : SetPlan) (logs : List LogPlan) (start a d : List (Path × WhyGone)) → set.shared ≡ true → logs ≡ set.logs → a ≡ start ++ flat_map leftovers_of logs → d ≡ a ++ flat_map (retired_of clock) logs → d ≡ start ++ set_removed clock set
 shared_more clock set logs start a d shared same first second =
-    second ∙ (ap (λ (xs : List (Path × Why)). xs ++ flat_map (retired_of clock) logs) first
+    second ∙ (ap (λ (xs : List (Path × WhyGone)). xs ++ flat_map (retired_of clock) logs) first
     ∙ (append_assoc start (flat_map leftovers_of logs) (flat_map (retired_of clock) logs)
     ∙ (ap (λ (ls : List LogPlan). start ++ (flat_map leftovers_of ls ++ flat_map (retired_of clock) ls)) same
     ∙ ap (λ (b : Bool). start ++ cond b (flat_map leftovers_of set.logs ++ flat_map (retired_of clock) set.logs) (flat_map (log_removed clock) set.logs)) (sym shared))))

@@ -45,8 +45,8 @@ use Rattle.lr_laws_family.proofs.Numbers.{first_named, kept_next, retire_named, 
 use Rattle.lr_laws_family.proofs.Picking.{named_all}
 use Rattle.lr_laws_rotations.proofs.Stamped.{next_free}
 use Rattle.lr_laws_rotations.specs.Rotation.{removal_paths}
-use Rattle.lr_audited.specs.declared.line.Why.{Why}
-use Rattle.lr_audited.specs.declared.line.Why.TheVariants as why
+use Rattle.lr_audited.specs.declared.line.WhyGone.{WhyGone}
+use Rattle.lr_audited.specs.declared.line.WhyGone.TheVariants as why
 use Rattle.lr_audited.specs.Removed.{member_going, log_going, moved_going, dated_going, going_with}
 use Rattle.lr_audited.specs.Unlinked.{Origins, renamed, going_paths}
 use Rattle.lr_audited.proofs.Tracing.{apart_in, distinct_reverse, renamed_to, renamed_other, run, dropped, dropped_other, firsts, seconds}
@@ -149,7 +149,7 @@ module _ (c : Count) (maxage : Option ℕ) (now : ℤ) where
 
   all_moved : (ms : List Member) → going_paths (flat_map (moved_going c maxage now) ms) ≡ map (λ (m : Member). m.path) (filter (goes c maxage now) ms)
   all_moved [] = refl
-  all_moved (m ∷ ms) = map-append (λ (g : Path × Why). g.0) (moved_going c maxage now m) (flat_map (moved_going c maxage now) ms)
+  all_moved (m ∷ ms) = map-append (λ (g : Path × WhyGone). g.0) (moved_going c maxage now m) (flat_map (moved_going c maxage now) ms)
       ∙ (ap (λ ps. ps ++ going_paths (flat_map (moved_going c maxage now) ms)) (one_moved m) ∙ (ap (λ ps. cond (goes c maxage now m) (m.path ∷ []) [] ++ ps) (all_moved ms) ∙ by (goes c maxage now m)))
     where
       by : (b : Bool) → cond b (m.path ∷ []) [] ++ map (λ (x : Member). x.path) (filter (goes c maxage now) ms) ≡ map (λ (x : Member). x.path) (cond b (m ∷ filter (goes c maxage now) ms) (filter (goes c maxage now) ms))
@@ -226,7 +226,7 @@ module _ (log begin : Path) (job : Option Job) (n : Naming) (c : Count) (maxage 
   abbrev places : List ℕ
   places = places_of members
 
-  abbrev told : List (Path × Why)
+  abbrev told : List (Path × WhyGone)
   told = reverse (log_going c job log 0 ++ flat_map (moved_going c maxage now) members)
 
   some_firsts : (ms : List Member) → firsts (map pair_of ms) ≡ map (λ (m : Member). m.path) ms
@@ -245,8 +245,8 @@ module _ (log begin : Path) (job : Option Job) (n : Naming) (c : Count) (maxage 
   log_firsts = ap reverse (log_path c job log 0) ∙ turned_log (is_left c 0) (log_from job log)
 
   told_so : going_paths told ≡ firsts (moved_pairs ++ log_pairs)
-  told_so = map_reverse (λ (g : Path × Why). g.0) (log_going c job log 0 ++ flat_map (moved_going c maxage now) members)
-      ∙ (ap reverse (map-append (λ (g : Path × Why). g.0) (log_going c job log 0) (flat_map (moved_going c maxage now) members))
+  told_so = map_reverse (λ (g : Path × WhyGone). g.0) (log_going c job log 0 ++ flat_map (moved_going c maxage now) members)
+      ∙ (ap reverse (map-append (λ (g : Path × WhyGone). g.0) (log_going c job log 0) (flat_map (moved_going c maxage now) members))
       ∙ (reverse-append (going_paths (log_going c job log 0)) (going_paths (flat_map (moved_going c maxage now) members))
       ∙ (ap (λ (xs : List Path). reverse xs ++ reverse (going_paths (log_going c job log 0))) (all_moved c maxage now members)
       ∙ (ap (λ (xs : List Path). reverse (map (λ (m : Member). m.path) those) ++ xs) log_firsts
@@ -405,8 +405,8 @@ module _ (log target : Path) (job : Option Job) (c : Count) (maxage : Option ℕ
   log_now : (k : ℕ) → going_paths (log_going c job log k) ≡ firsts (lands k)
   log_now k = log_path c job log k ∙ log_first (is_left c k) (log_from job log) target
 
-  joined_now : (a b : List (Path × Why)) (x y : List (Option Path × Path)) → going_paths a ≡ firsts x → going_paths b ≡ firsts y → going_paths (a ++ b) ≡ firsts (x ++ y)
-  joined_now a b x y e f = map-append (λ (g : Path × Why). g.0) a b ∙ (ap (λ (ps : List Path). ps ++ going_paths b) e ∙ (ap (λ (ps : List Path). firsts x ++ ps) f ∙ sym (firsts_both x y)))
+  joined_now : (a b : List (Path × WhyGone)) (x y : List (Option Path × Path)) → going_paths a ≡ firsts x → going_paths b ≡ firsts y → going_paths (a ++ b) ≡ firsts (x ++ y)
+  joined_now a b x y e f = map-append (λ (g : Path × WhyGone). g.0) a b ∙ (ap (λ (ps : List Path). ps ++ going_paths b) e ∙ (ap (λ (ps : List Path). firsts x ++ ps) f ∙ sym (firsts_both x y)))
 
   from_now : (k : ℕ) (ms : List Member) → going_paths (dated_going c maxage now k ms) ≡ firsts (pairs_from k ms)
   from_now k [] = refl
@@ -513,7 +513,7 @@ module _ (log target : Path) (job : Option Job) (c : Count) (maxage : Option ℕ
         (going_paths (reverse (going_with c maxage now (stamp_key moment serial) (log_going c job log) 0 members)))
     dated_retires = record {
       pairs = reverse (pairs_with 0 members);
-      told_are = map_reverse (λ (g : Path × Why). g.0) (going_with c maxage now (stamp_key moment serial) (log_going c job log) 0 members) ∙ (ap reverse (with_now 0 members) ∙ sym (firsts_reverse (pairs_with 0 members)));
+      told_are = map_reverse (λ (g : Path × WhyGone). g.0) (going_with c maxage now (stamp_key moment serial) (log_going c job log) 0 members) ∙ (ap reverse (with_now 0 members) ∙ sym (firsts_reverse (pairs_with 0 members)));
       gone_are = gone_so;
       apart = distinct;
       each = λ p i. by p (with_pair members p 0 members (λ m j. j) (from_reverse p (pairs_with 0 members) i));

@@ -28,7 +28,7 @@ use Rattle.lr_plan.specs.declared.plan.SetPlan.{SetPlan}
 use Rattle.lr_plan.specs.Asked.{Asked, asking}
 use Rattle.lr_plan.specs.Planned.{makes_dir, empty_stand, stand_for, first_path, make_for, hindrances, ready_for, log_plan, none_hinders, plans_of, where_due, log_plans, set_plan, all_plans, decision, plan_of, CanPlan, CanPlanAll}
 use Rattle.lr_laws_looks.proofs.Hindrances.{free_of_members}
-use Rattle.lr_audited.specs.declared.line.Why.{Why}
+use Rattle.lr_audited.specs.declared.line.WhyGone.{WhyGone}
 use Rattle.lr_audited.specs.Audits.{going_of}
 use Rattle.lr_audited.specs.Removed.{removed_by, IsStamped, AreStamped}
 
@@ -86,7 +86,7 @@ stamped_for rules sets table clock asked plan given is same can =
     subst (AreStamped clock) (sym (same ∙ ap (λ (p : Plan). p.sets) is)) (sets_so (IsStamped clock) clock asked.mailer (log_stamped clock asked.mailer) (decision table clock.now asked.force) rules sets can)
 
 -- what it removes
-pub going_is : {E : Type 0} (r : Result (List (Path × Why)) E) (rules : List Rule) (sets : List SetLooks) (table : List Row) (clock : Clock) (force : Bool) (mailer : Path) (plan : Plan) (given : List SetPlan) → plan ≡ plan_of rules sets table clock (asking force mailer) → given ≡ plan.sets → table ≡ [] → force ≡ true
+pub going_is : {E : Type 0} (r : Result (List (Path × WhyGone)) E) (rules : List Rule) (sets : List SetLooks) (table : List Row) (clock : Clock) (force : Bool) (mailer : Path) (plan : Plan) (given : List SetPlan) → plan ≡ plan_of rules sets table clock (asking force mailer) → given ≡ plan.sets → table ≡ [] → force ≡ true
     → IfOk r (λ going. going ≡ removed_by clock given) → IfOk r (λ going. going ≡ going_of rules sets clock mailer)
 going_is (Err e) rules sets table clock force mailer plan given is same empty forced h = tt
 going_is (Ok going) rules sets table clock force mailer plan given is same empty forced h =

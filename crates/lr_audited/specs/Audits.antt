@@ -9,7 +9,7 @@ use Rattle.lr_plan.specs.declared.plan.Plan.{Plan}
 use Rattle.lr_plan.specs.Asked.{asking}
 use Rattle.lr_plan.specs.Planned.{plan_of}
 use Rattle.lr_audited.specs.declared.line.Audit.{Audit}
-use Rattle.lr_audited.specs.declared.line.Why.{Why}
+use Rattle.lr_audited.specs.declared.line.WhyGone.{WhyGone}
 use Rattle.lr_audited.specs.Gaps.{gaps_of}
 use Rattle.lr_audited.specs.Lines.{known_lines, AreLines}
 use Rattle.lr_audited.specs.Removed.{removed_by}
@@ -19,7 +19,7 @@ abbrev pub forced_plan : List Rule → List SetLooks → Clock → Path → Plan
 forced_plan rules sets clock mailer = plan_of rules sets [] clock (asking true mailer)
 
 -- what it removes
-abbrev pub going_of : List Rule → List SetLooks → Clock → Path → List (Path × Why)
+abbrev pub going_of : List Rule → List SetLooks → Clock → Path → List (Path × WhyGone)
 going_of rules sets clock mailer = removed_by clock (forced_plan rules sets clock mailer).sets
 
 -- Each of these files has its line, by what the looks gave; the gaps are theirs, and what goes is what that plan removes.

@@ -17,44 +17,44 @@ use Rattle.lr_chain.specs.Rotation.{is_left, is_expired}
 use Rattle.lr_chain.specs.Serials.{next_serial}
 use Rattle.lr_plan.specs.declared.plan.LogPlan.{LogPlan}
 use Rattle.lr_plan.specs.declared.plan.SetPlan.{SetPlan}
-use Rattle.lr_audited.specs.declared.line.Why.{Why}
-use Rattle.lr_audited.specs.declared.line.Why.TheVariants as why
+use Rattle.lr_audited.specs.declared.line.WhyGone.{WhyGone}
+use Rattle.lr_audited.specs.declared.line.WhyGone.TheVariants as why
 
 -- ---- one file
 
 -- A file that is a member once the rotation is made, with so many later ones: it goes where the count leaves no room for it;
 -- else where it is too old.
-abbrev pub file_goes : Count → ℕ → Bool → Path → List (Path × Why)
+abbrev pub file_goes : Count → ℕ → Bool → Path → List (Path × WhyGone)
 file_goes c later old x = if is_left c later then (x, why.Count) ∷ [] else if old then (x, why.Age) ∷ [] else []
 
-abbrev pub member_going : Count → Option ℕ → ℤ → ℕ → Member → List (Path × Why)
+abbrev pub member_going : Count → Option ℕ → ℤ → ℕ → Member → List (Path × WhyGone)
 member_going c maxage now later m = file_goes c later (is_expired maxage now m) m.path
 
 -- The log itself, or what waits beside it and is taken up; its age isn't tested. A copy of it isn't there yet.
-abbrev pub log_going : Count → Option Job → Path → ℕ → List (Path × Why)
+abbrev pub log_going : Count → Option Job → Path → ℕ → List (Path × WhyGone)
 log_going c None log later = file_goes c later false log
 log_going c (Some job) log later = []
 
 -- A log that is set aside goes behind its copy, whatever the count.
-abbrev pub aside_going : Option Path → Path → List (Path × Why)
+abbrev pub aside_going : Option Path → Path → List (Path × WhyGone)
 aside_going None log = []
 aside_going (Some path) log = (log, why.Count) ∷ []
 
 -- ---- numbered members, the newest first
 
 -- one that isn't left over moves one place on
-abbrev pub moved_going : Count → Option ℕ → ℤ → Member → List (Path × Why)
+abbrev pub moved_going : Count → Option ℕ → ℤ → Member → List (Path × WhyGone)
 moved_going c maxage now m = if is_left c (number_in m.place) then [] else member_going c maxage now (suc (number_in m.place)) m
 
 -- ---- dated members, the newest first
 
 -- of which the first has so many later ones
-abbrev pub dated_going : Count → Option ℕ → ℤ → ℕ → List Member → List (Path × Why)
+abbrev pub dated_going : Count → Option ℕ → ℤ → ℕ → List Member → List (Path × WhyGone)
 dated_going c maxage now later [] = []
 dated_going c maxage now later (m ∷ ms) = member_going c maxage now later m ++ dated_going c maxage now (suc later) ms
 
 -- the log, whose name has this key, comes before the first that isn't later
-abbrev pub going_with : Count → Option ℕ → ℤ → ℤ → (ℕ → List (Path × Why)) → ℕ → List Member → List (Path × Why)
+abbrev pub going_with : Count → Option ℕ → ℤ → ℤ → (ℕ → List (Path × WhyGone)) → ℕ → List Member → List (Path × WhyGone)
 going_with c maxage now key log later [] = log later
 going_with c maxage now key log later (m ∷ ms) =
     if int_lt key (key_in m.place) then member_going c maxage now later m ++ going_with c maxage now key log (suc later) ms
@@ -70,7 +70,7 @@ abbrev pub new_serial : Clock → LogPlan → ℕ
 new_serial clock log = next_serial log.stand.members (new_seconds clock log)
 
 -- those that go, the newest first: of numbers the log comes to place 0
-abbrev pub newest_going : Option Format → Clock → LogPlan → List (Path × Why)
+abbrev pub newest_going : Option Format → Clock → LogPlan → List (Path × WhyGone)
 newest_going None clock log = log_going log.count log.job log.ready.log 0 ++ flat_map
     (moved_going log.count log.maxage clock.now.seconds) log.stand.members
 newest_going (Some format) clock log =
@@ -78,28 +78,28 @@ newest_going (Some format) clock log =
     (log_going log.count log.job log.ready.log) 0 log.stand.members
 
 -- what is left over, which goes first
-abbrev pub left_over : Removal → Path × Why
+abbrev pub left_over : Removal → Path × WhyGone
 left_over r = (r.path, why.Count)
 
-abbrev pub leftovers_of : LogPlan → List (Path × Why)
+abbrev pub leftovers_of : LogPlan → List (Path × WhyGone)
 leftovers_of log = map left_over log.ready.leftovers
 
 -- what goes behind the rotation: the log where it was set aside, and then the oldest first
-abbrev pub retired_of : Clock → LogPlan → List (Path × Why)
+abbrev pub retired_of : Clock → LogPlan → List (Path × WhyGone)
 retired_of clock log = aside_going log.aside log.log ++ reverse (newest_going log.naming.dated clock log)
 
-abbrev pub log_removed : Clock → LogPlan → List (Path × Why)
+abbrev pub log_removed : Clock → LogPlan → List (Path × WhyGone)
 log_removed clock log = leftovers_of log ++ retired_of clock log
 
 -- ---- all
 
 -- logs that share their scripts are all rotated before the first retirement
-abbrev pub set_removed : Clock → SetPlan → List (Path × Why)
+abbrev pub set_removed : Clock → SetPlan → List (Path × WhyGone)
 set_removed clock set =
     if set.shared then flat_map leftovers_of set.logs ++ flat_map (retired_of clock) set.logs
     else flat_map (log_removed clock) set.logs
 
-abbrev pub removed_by : Clock → List SetPlan → List (Path × Why)
+abbrev pub removed_by : Clock → List SetPlan → List (Path × WhyGone)
 removed_by clock sets = flat_map (set_removed clock) sets
 
 -- ---- what is asked of a plan

@@ -12,11 +12,11 @@ use Rattle.lr_plan.specs.declared.step.Step.{Step}
 use Rattle.lr_plan.specs.declared.step.Step.TheVariants as step
 use Rattle.lr_plan.specs.Steps.{steps_of_plan}
 use Rattle.lr_laws_rotations.specs.AllTurns.{job_part_paths}
-use Rattle.lr_audited.specs.declared.line.Why.{Why}
+use Rattle.lr_audited.specs.declared.line.WhyGone.{WhyGone}
 
 -- the paths of what is told as going
-abbrev pub going_paths : List (Path × Why) → List Path
-going_paths list = map (λ (g : Path × Why). g.0) list
+abbrev pub going_paths : List (Path × WhyGone) → List Path
+going_paths list = map (λ (g : Path × WhyGone). g.0) list
 
 -- ---- where files come from
 

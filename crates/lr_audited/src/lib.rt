@@ -16,5 +16,5 @@ mod removed;
 mod whole;
 
 pub use laws::{known_files_differ, removals_are_foretold};
-pub use line::{Audit, Line, What, Why};
+pub use line::{Audit, Line, What, WhyGone};
 pub use whole::audit_by;

@@ -18,7 +18,7 @@ pub enum What {
 
 /// Why the next run removes a file.
 #[derive(Clone, Copy)]
-pub enum Why {
+pub enum WhyGone {
     /// The count leaves no room for it.
     Count,
     /// It is too old, and the count alone would keep it.
@@ -42,5 +42,5 @@ pub struct Audit {
     /// Of each log with numbered members the places below the last one at which none stands: of a log 1,000 at most.
     pub gaps: Listed<(Path, u32)>,
     /// What the next forced run removes, in its order, under the present names.
-    pub removed: Listed<(Path, Why)>,
+    pub removed: Listed<(Path, WhyGone)>,
 }

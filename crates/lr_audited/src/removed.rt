@@ -7,12 +7,12 @@ ghost use Rattle.lr_rules.specs.declared.rule.Count.{Count};
 ghost use Rattle.lr_family.specs.declared.place.Place.TheVariants as at;
 ghost use Rattle.lr_family.specs.Stands.{key_in};
 ghost use Rattle.lr_chain.specs.Rotation.{is_expired};
-ghost use Rattle.lr_audited.specs.declared.line.Why.{Why};
+ghost use Rattle.lr_audited.specs.declared.line.WhyGone.{WhyGone};
 ghost use Rattle.lr_audited.specs.Removed.{file_goes, log_going, aside_going, moved_going, dated_going, going_with, newest_going};
 ghost use Rattle.lr_audited.specs.Removed.{new_seconds, new_serial, leftovers_of, retired_of, log_removed, set_removed, removed_by};
 ghost use Rattle.lr_audited.specs.Removed.{IsStamped, AreStamped};
 
-use crate::line::Why;
+use crate::line::WhyGone;
 use crate::lines::has_no_room;
 use lr_family::{Member, Place, key_of, number_at};
 use lr_plan::{LogPlan, SetPlan};
@@ -43,7 +43,12 @@ fn is_expired(bounds: Bounds, member: &Member) -> bool
     }
 }
 
-fn push_one(alloc: Global, into: &mut Vec<(Path, Why)>, path: &Path, why: Why) -> Result<(), Memory>
+fn push_one(
+    alloc: Global,
+    into: &mut Vec<(Path, WhyGone)>,
+    path: &Path,
+    why: WhyGone,
+) -> Result<(), Memory>
     ensures { OnOk result (into.new.items ≡ into.old.items ++ (path.now, why) ∷ []) }
 {
     into.push((path.copy(alloc)?, why))?;
@@ -53,7 +58,7 @@ fn push_one(alloc: Global, into: &mut Vec<(Path, Why)>, path: &Path, why: Why) -
 // Adds a file that will have so many later ones, where it goes.
 fn add_one(
     alloc: Global,
-    into: &mut Vec<(Path, Why)>,
+    into: &mut Vec<(Path, WhyGone)>,
     count: Count,
     later: u64,
     old: bool,
@@ -62,10 +67,10 @@ fn add_one(
     ensures { OnOk result (into.new.items ≡ into.old.items ++ file_goes count later old path.now) }
 {
     if has_no_room(count, later) {
-        return push_one(alloc, into, path, Why::Count);
+        return push_one(alloc, into, path, WhyGone::Count);
     }
     if old {
-        return push_one(alloc, into, path, Why::Age);
+        return push_one(alloc, into, path, WhyGone::Age);
     }
     Ok(())
 }
@@ -73,7 +78,7 @@ fn add_one(
 // Adds the log, where it goes and isn't copied.
 fn add_log(
     alloc: Global,
-    into: &mut Vec<(Path, Why)>,
+    into: &mut Vec<(Path, WhyGone)>,
     log: &LogPlan,
     later: u64,
 ) -> Result<(), Memory>
@@ -86,11 +91,11 @@ fn add_log(
 }
 
 // Adds the log, where it is set aside.
-fn add_aside(alloc: Global, into: &mut Vec<(Path, Why)>, log: &LogPlan) -> Result<(), Memory>
+fn add_aside(alloc: Global, into: &mut Vec<(Path, WhyGone)>, log: &LogPlan) -> Result<(), Memory>
     ensures { OnOk result (into.new.items ≡ into.old.items ++ aside_going log.now.aside log.now.log) }
 {
     match &log.aside {
-        Some(_) => push_one(alloc, into, &log.log, Why::Count),
+        Some(_) => push_one(alloc, into, &log.log, WhyGone::Count),
         None => Ok(()),
     }
 }
@@ -100,7 +105,7 @@ fn add_aside(alloc: Global, into: &mut Vec<(Path, Why)>, log: &LogPlan) -> Resul
 // Adds a member that moves one place on, where it goes then.
 fn add_moved(
     alloc: Global,
-    into: &mut Vec<(Path, Why)>,
+    into: &mut Vec<(Path, WhyGone)>,
     bounds: Bounds,
     member: &Member,
 ) -> Result<(), Memory>
@@ -116,7 +121,7 @@ fn add_moved(
 
 fn add_all_moved(
     alloc: Global,
-    into: &mut Vec<(Path, Why)>,
+    into: &mut Vec<(Path, WhyGone)>,
     bounds: Bounds,
     members: &[Member],
 ) -> Result<(), Memory>
@@ -134,7 +139,7 @@ fn add_all_moved(
 // Adds those of these members that go, of which the first will have so many later ones.
 fn add_dated(
     alloc: Global,
-    into: &mut Vec<(Path, Why)>,
+    into: &mut Vec<(Path, WhyGone)>,
     bounds: Bounds,
     first: usize,
     members: &[Member],
@@ -160,7 +165,7 @@ fn is_later(place: Place, other: Place) -> bool
 // How many of the members, the newest first, are later than this place, before the first that isn't.
 fn later_than(members: &[Member], place: Place) -> usize
     ensures bound { result ≤ length members.now }
-    ensures parts { (c : Count) (maxage : Option ℕ) (now : ℤ) (log : ℕ → List (Path × Why))
+    ensures parts { (c : Count) (maxage : Option ℕ) (now : ℤ) (log : ℕ → List (Path × WhyGone))
         → going_with c maxage now (key_in place) log 0 members.now ≡ dated_going c maxage now 0 (take result members.now) ++
         (log result ++ dated_going c maxage now (result + 1) (drop result members.now)) }
 {
@@ -177,7 +182,7 @@ fn later_than(members: &[Member], place: Place) -> usize
 // Adds those of the members, and the log, that go, once the log has this place among them.
 fn add_with_log(
     alloc: Global,
-    into: &mut Vec<(Path, Why)>,
+    into: &mut Vec<(Path, WhyGone)>,
     bounds: Bounds,
     log: &LogPlan,
     members: &[Member],
@@ -222,7 +227,7 @@ fn stamp_of(clock: &Clock, log: &LogPlan) -> (i64, u32)
 // Adds those that go of a log with numbered members, the newest first.
 fn add_numbered(
     alloc: Global,
-    into: &mut Vec<(Path, Why)>,
+    into: &mut Vec<(Path, WhyGone)>,
     clock: &Clock,
     log: &LogPlan,
 ) -> Result<(), Memory>
@@ -243,7 +248,7 @@ fn stamp_place(stamp: (i64, u32)) -> Place
 // Adds those that go of a log with dated members, the newest first.
 fn add_stamped(
     alloc: Global,
-    into: &mut Vec<(Path, Why)>,
+    into: &mut Vec<(Path, WhyGone)>,
     clock: &Clock,
     log: &LogPlan,
 ) -> Result<(), Memory>
@@ -261,7 +266,7 @@ fn add_stamped(
 // Adds those that go of a log, the newest first.
 fn add_newest(
     alloc: Global,
-    into: &mut Vec<(Path, Why)>,
+    into: &mut Vec<(Path, WhyGone)>,
     clock: &Clock,
     log: &LogPlan,
 ) -> Result<(), Memory>
@@ -275,7 +280,7 @@ fn add_newest(
 }
 
 // Adds all of these.
-fn add_all(into: &mut Vec<(Path, Why)>, more: Vec<(Path, Why)>) -> Result<(), Memory>
+fn add_all(into: &mut Vec<(Path, WhyGone)>, more: Vec<(Path, WhyGone)>) -> Result<(), Memory>
     ensures { OnOk result (into.new.items ≡ into.old.items ++ more.items) }
 {
     for one in more {
@@ -287,7 +292,7 @@ fn add_all(into: &mut Vec<(Path, Why)>, more: Vec<(Path, Why)>) -> Result<(), Me
 // Adds those that go of a log, the oldest first.
 fn add_oldest(
     alloc: Global,
-    into: &mut Vec<(Path, Why)>,
+    into: &mut Vec<(Path, WhyGone)>,
     clock: &Clock,
     log: &LogPlan,
 ) -> Result<(), Memory>
@@ -304,7 +309,7 @@ fn add_oldest(
 // Adds what goes behind the rotation: the log where it was set aside, and then the oldest first.
 fn add_retired(
     alloc: Global,
-    into: &mut Vec<(Path, Why)>,
+    into: &mut Vec<(Path, WhyGone)>,
     clock: &Clock,
     log: &LogPlan,
 ) -> Result<(), Memory>
@@ -316,18 +321,22 @@ fn add_retired(
 }
 
 // Adds what is left over.
-fn add_leftovers(alloc: Global, into: &mut Vec<(Path, Why)>, log: &LogPlan) -> Result<(), Memory>
+fn add_leftovers(
+    alloc: Global,
+    into: &mut Vec<(Path, WhyGone)>,
+    log: &LogPlan,
+) -> Result<(), Memory>
     ensures { OnOk result (into.new.items ≡ into.old.items ++ leftovers_of log.now) }
 {
     for removal in log.ready.leftovers.as_slice() {
-        push_one(alloc, into, &removal.path, Why::Count)?;
+        push_one(alloc, into, &removal.path, WhyGone::Count)?;
     }
     Ok(())
 }
 
 fn add_removed(
     alloc: Global,
-    into: &mut Vec<(Path, Why)>,
+    into: &mut Vec<(Path, WhyGone)>,
     clock: &Clock,
     log: &LogPlan,
 ) -> Result<(), Memory>
@@ -342,7 +351,7 @@ fn add_removed(
 
 fn add_each(
     alloc: Global,
-    into: &mut Vec<(Path, Why)>,
+    into: &mut Vec<(Path, WhyGone)>,
     clock: &Clock,
     logs: &[LogPlan],
 ) -> Result<(), Memory>
@@ -357,7 +366,7 @@ fn add_each(
 
 fn add_all_leftovers(
     alloc: Global,
-    into: &mut Vec<(Path, Why)>,
+    into: &mut Vec<(Path, WhyGone)>,
     logs: &[LogPlan],
 ) -> Result<(), Memory>
     ensures { OnOk result (into.new.items ≡ into.old.items ++ flat_map leftovers_of logs.now) }
@@ -370,7 +379,7 @@ fn add_all_leftovers(
 
 fn add_all_retired(
     alloc: Global,
-    into: &mut Vec<(Path, Why)>,
+    into: &mut Vec<(Path, WhyGone)>,
     clock: &Clock,
     logs: &[LogPlan],
 ) -> Result<(), Memory>
@@ -385,7 +394,7 @@ fn add_all_retired(
 
 fn add_set(
     alloc: Global,
-    into: &mut Vec<(Path, Why)>,
+    into: &mut Vec<(Path, WhyGone)>,
     clock: &Clock,
     set: &SetPlan,
 ) -> Result<(), Memory>
@@ -406,7 +415,7 @@ pub fn removed_by(
     alloc: Global,
     clock: &Clock,
     sets: &[SetPlan],
-) -> Result<Listed<(Path, Why)>, Memory>
+) -> Result<Listed<(Path, WhyGone)>, Memory>
     requires { AreStamped clock.now sets.now }
     ensures { IfOk result (λ list. list ≡ removed_by clock.entry.now sets.now) }
 {

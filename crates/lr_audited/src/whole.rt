@@ -6,7 +6,7 @@ ghost use Rattle.lr_audited.specs.Lines.{known_lines, AreLines};
 
 use crate::gaps::gaps_of;
 use crate::knowing::{known_of, lines_for};
-use crate::line::{Audit, Line, Why};
+use crate::line::{Audit, Line, WhyGone};
 use crate::lines::lines_of;
 use crate::removed::removed_by;
 use lr_plan::Looks;
@@ -22,7 +22,7 @@ fn going_of(
     looks: &Looks,
     clock: &Clock,
     settings: &Settings,
-) -> Result<Listed<(Path, Why)>, Memory>
+) -> Result<Listed<(Path, WhyGone)>, Memory>
     requires force { settings.now.force ≡ true }
     requires looks { CanPlanAll rules.now.sets looks.now.sets }
     ensures { IfOk result (λ going. going ≡ going_of rules.now.sets looks.now.sets clock.entry.now settings.now.mailer) }

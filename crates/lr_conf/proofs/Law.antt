@@ -11,8 +11,8 @@ use Rattle.lr_conf.specs.declared.fields.Fields.{Fields}
 use Rattle.lr_conf.specs.declared.place.Place.{Place}
 use Rattle.lr_conf.specs.declared.place.Place.TheVariants.{Outside, Good, Dropped}
 use Rattle.lr_forms.specs.declared.set.Set.{Set}
-use Rattle.lr_forms.specs.declared.said.Said.{Said}
-use Rattle.lr_forms.specs.declared.said.Said.TheVariants as says
+use Rattle.lr_forms.specs.declared.said.LineSaid.{LineSaid}
+use Rattle.lr_forms.specs.declared.said.LineSaid.TheVariants as says
 use Rattle.lr_forms.specs.declared.set.Set.TheVariants as set
 use Rattle.lr_rules.specs.declared.fault.ConfKind.{ConfKind}
 use Rattle.lr_rules.specs.declared.fault.Phase.{Phase}
@@ -168,7 +168,7 @@ stays p es l out f ps no_end no_names no_set =
     (ap (λ b. cond b None (first_with (first_pending out) (names_past p))) no_end ∙ ap (first_with (first_pending out)) no_names ∙ first_none (first_pending out))
 
 -- a line that ends with no brace
-plain-law : (at : ℕ) (v : Said) (es : List ConfLine) → Laws es → (out : List OutsideLine) (f : Fields) (ps : List Phase)
+plain-law : (at : ℕ) (v : LineSaid) (es : List ConfLine) → Laws es → (out : List OutsideLine) (f : Fields) (ps : List Phase)
     → run (outside (behind out f ps) (stands at false v)) es ≡ meaning false (out ++ stands at false v ∷ []) es
 plain-law at (says.Sets v) es l out f ps = next es out (stands at false (says.Sets v)) _ [] None f ps l.out refl refl refl
 plain-law at says.Quiet es l out f ps = next es out (stands at false says.Quiet) _ [] None f ps l.out refl refl refl
@@ -186,7 +186,7 @@ plain-law at (says.Bad k) es l out f ps = next es out (stands at false (says.Bad
 plain-law at (says.BadNames k) es l out f ps = stays (stands at false (says.BadNames k)) es l out f ps refl refl refl
 
 -- a line that ends with a brace
-brace-law : (at : ℕ) (v : Said) (es : List ConfLine) → Laws es → (out : List OutsideLine) (f : Fields) (ps : List Phase)
+brace-law : (at : ℕ) (v : LineSaid) (es : List ConfLine) → Laws es → (out : List OutsideLine) (f : Fields) (ps : List Phase)
     → run (outside (behind out f ps) (stands at true v)) es ≡ follows out (stands at true v) es
 brace-law at (says.Sets v) es l out f ps = next_dropped es out (stands at true (says.Sets v)) _ f ps l.drop refl
 brace-law at says.Quiet es l out f ps = next_dropped es out (stands at true says.Quiet) _ f ps l.drop refl
@@ -255,7 +255,7 @@ scripts-push earlier e = filter_map-append (line_script) earlier (e ∷ []) ∙ 
     by (Some p) = refl
 
 -- the meaning of a definition from a line on that says v
-abbrev from_line : List ConfLine → Path → ℕ → Said → ℕ → List (List ℕ) → List Set → List ConfLine → Meaning
+abbrev from_line : List ConfLine → Path → ℕ → LineSaid → ℕ → List (List ℕ) → List Set → List ConfLine → Meaning
 from_line more file line v at ws vs es =
     record {
       rules = [];
@@ -300,7 +300,7 @@ drop_on : (es : List ConfLine) → Laws es → (out : List OutsideLine) (vs : Li
 drop_on es l out vs at ws more ps =
     l.drop out ws (Some at) (fields_of vs) ps ∙ ap (λ fs. only_faults fs and meaning true out es) (sym (broken-are more (before ends es)))
 
-inside-law : (file : Path) (line : ℕ) (v : Said) (es : List ConfLine) → Laws es → (out : List OutsideLine) (vs : List Set) (at : ℕ) (ws : List (List ℕ)) (ps : List Phase) (more : List ConfLine)
+inside-law : (file : Path) (line : ℕ) (v : LineSaid) (es : List ConfLine) → Laws es → (out : List OutsideLine) (vs : List Set) (at : ℕ) (ws : List (List ℕ)) (ps : List Phase) (more : List ConfLine)
     → scripts_in more ≡ with_phase (script_of v) ps
     → (said_inside file line (said_behind ps v) and run (with_said (good_state out vs at ws ps) v) es) ≡ (from_line more file line (said_behind ps v) at ws vs es and meaning true out es)
 inside-law file line (says.Sets v) es l out vs at ws ps more is = set_on es l out vs at ws v more ps is

@@ -22,8 +22,8 @@ use Rattle.lr_rules.proofs.Bools.{first_true, second_true}
 use Rattle.lr_words.proofs.ReadBack.{tested}
 use Rattle.lr_forms.specs.declared.set.Set.{Set}
 use Rattle.lr_forms.specs.declared.set.Set.TheVariants as set
-use Rattle.lr_forms.specs.declared.said.Said.{Said}
-use Rattle.lr_forms.specs.declared.said.Said.TheVariants as says
+use Rattle.lr_forms.specs.declared.said.LineSaid.{LineSaid}
+use Rattle.lr_forms.specs.declared.said.LineSaid.TheVariants as says
 use Rattle.lr_forms.specs.Says.{item_says}
 use Rattle.lr_forms.specs.Limits.{set_meets, said_meets}
 use Rattle.lr_forms.proofs.Limits.{said_fine}
@@ -48,7 +48,7 @@ S v = set_meets v ≡ true
 abbrev N : List (List ℕ) → Type 0
 N ws = list_all is_log_word ws ≡ true
 
-line_ok : (v : Said) → said_meets v ≡ true → OkSaid S N v
+line_ok : (v : LineSaid) → said_meets v ≡ true → OkSaid S N v
 line_ok (says.Sets v) h = h
 line_ok (says.OwnerPassed v) h = h
 line_ok (says.Names ws) h = h

@@ -5,8 +5,8 @@ use Rattle.std.specs.Prelude.{option_to_list}
 use Rattle.lr_rules.specs.declared.path.Path.{Path}
 use Rattle.lr_rules.specs.declared.fault.ConfKind.{ConfKind}
 use Rattle.lr_rules.specs.declared.fault.Fault.{Fault}
-use Rattle.lr_forms.specs.declared.said.Said.{Said}
-use Rattle.lr_forms.specs.declared.said.Said.TheVariants as says
+use Rattle.lr_forms.specs.declared.said.LineSaid.{LineSaid}
+use Rattle.lr_forms.specs.declared.said.LineSaid.TheVariants as says
 use Rattle.lr_forms.specs.Says.{closes_definition, item_says}
 use Rattle.lr_conf.specs.declared.draft.Draft.{Draft}
 use Rattle.lr_conf.specs.declared.place.Place.{Place}
@@ -31,7 +31,7 @@ turned_inside : (o : Option ℕ) (s : State) → is_inside (turned true o s).pla
 turned_inside None s = refl
 turned_inside (Some n) s = refl
 
-spoken_place : (s : State) (at : ℕ) (v : Said) → (spoken s at v).place ≡ s.place
+spoken_place : (s : State) (at : ℕ) (v : LineSaid) → (spoken s at v).place ≡ s.place
 spoken_place s at (says.Sets v) = refl
 spoken_place s at says.Quiet = refl
 spoken_place s at (says.OwnerPassed v) = refl
@@ -53,7 +53,7 @@ outside_place s (spoiled f) is = ap is_inside is
 outside_place s file_ends is = ap is_inside is
 outside_place s breaks_off is = ap is_inside is
 
-said_place : (s : State) (v : Said) → s.place ≡ Good → is_inside (with_said s v).place ≡ true
+said_place : (s : State) (v : LineSaid) → s.place ≡ Good → is_inside (with_said s v).place ≡ true
 said_place s (says.Sets v) is = ap is_inside is
 said_place s says.Quiet is = ap is_inside is
 said_place s (says.OwnerPassed v) is = ap is_inside is

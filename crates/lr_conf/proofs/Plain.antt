@@ -14,8 +14,8 @@ use Rattle.lr_rules.specs.Limits.{is_log_word, IsCount}
 use Rattle.lr_rules.proofs.Counts.{count_small}
 use Rattle.lr_forms.specs.declared.set.Set.{Set}
 use Rattle.lr_forms.specs.declared.set.Set.TheVariants as set
-use Rattle.lr_forms.specs.declared.said.Said.{Said}
-use Rattle.lr_forms.specs.declared.said.Said.TheVariants as says
+use Rattle.lr_forms.specs.declared.said.LineSaid.{LineSaid}
+use Rattle.lr_forms.specs.declared.said.LineSaid.TheVariants as says
 use Rattle.lr_forms.specs.Says.{item_says}
 use Rattle.lr_forms.specs.Limits.{set_meets, said_meets, NamesSome}
 use Rattle.lr_forms.proofs.Limits.{said_fine}
@@ -42,7 +42,7 @@ each_word : (ws : List (List ℕ)) → list_all is_log_word ws ≡ true → Each
 each_word [] h = tt
 each_word (w ∷ ws) h = let both = and_parts (is_log_word w) (list_all is_log_word ws) h in (both.0, each_word ws both.1)
 
-line_ok : (v : Said) → NamesSome v → said_meets v ≡ true → OkSaid S N v
+line_ok : (v : LineSaid) → NamesSome v → said_meets v ≡ true → OkSaid S N v
 line_ok (says.Sets v) some fine = fine
 line_ok (says.OwnerPassed v) some fine = fine
 line_ok (says.Names ws) some fine = (some, each_word ws fine)

@@ -6,8 +6,8 @@ use Rattle.lr_rules.specs.declared.path.Path.{Path}
 use Rattle.lr_rules.specs.declared.fault.Phase.{Phase}
 use Rattle.lr_rules.specs.declared.rule.Rule.{Rule}
 use Rattle.lr_forms.specs.declared.set.Set.{Set}
-use Rattle.lr_forms.specs.declared.said.Said.{Said}
-use Rattle.lr_forms.specs.declared.said.Said.TheVariants as says
+use Rattle.lr_forms.specs.declared.said.LineSaid.{LineSaid}
+use Rattle.lr_forms.specs.declared.said.LineSaid.TheVariants as says
 use Rattle.lr_forms.specs.Says.{item_says}
 use Rattle.lr_conf.specs.Fields.{fields_of, last_set}
 use Rattle.lr_conf.specs.Rules.{rule_of}
@@ -16,7 +16,7 @@ use Rattle.lr_conf.specs.Meaning.{ConfLine, Read, Spoiled, End, Cut, OutsideLine
 use Rattle.lr_conf.proofs.Each.{append, backwards, front, Given, one_more, mapped, last}
 
 -- what a line sets, and the names that it has, are such
-abbrev pub OkSaid : (Set → Type 0) → (List (List ℕ) → Type 0) → Said → Type 0
+abbrev pub OkSaid : (Set → Type 0) → (List (List ℕ) → Type 0) → LineSaid → Type 0
 OkSaid S N (says.Sets v) = S v
 OkSaid S N (says.OwnerPassed v) = S v
 OkSaid S N (says.Names ws) = N ws
@@ -41,7 +41,7 @@ past_ok w (Spoiled f) = tt
 past_ok w (End file) = tt
 past_ok w Cut = tt
 
-set_ok : (S : Set → Type 0) (N : List (List ℕ) → Type 0) (v : Said) → OkSaid S N v → Given S (set_of v)
+set_ok : (S : Set → Type 0) (N : List (List ℕ) → Type 0) (v : LineSaid) → OkSaid S N v → Given S (set_of v)
 set_ok S N (says.Sets v) ok = ok
 set_ok S N (says.OwnerPassed v) ok = ok
 set_ok S N v ok = tt
@@ -52,7 +52,7 @@ set_past_ok S N (spoiled f) ok = tt
 set_past_ok S N file_ends ok = tt
 set_past_ok S N breaks_off ok = tt
 
-behind_ok : {S : Set → Type 0} {N : List (List ℕ) → Type 0} {R : Rule → Type 0} (w : Walk S N R) (earlier : List Phase) (v : Said) → OkSaid S N v → OkSaid S N (said_behind earlier v)
+behind_ok : {S : Set → Type 0} {N : List (List ℕ) → Type 0} {R : Rule → Type 0} (w : Walk S N R) (earlier : List Phase) (v : LineSaid) → OkSaid S N v → OkSaid S N (said_behind earlier v)
 behind_ok w earlier (says.Script p text stray) ok = w.script earlier p text stray
 behind_ok w earlier v ok = ok
 

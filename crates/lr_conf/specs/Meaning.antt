@@ -15,8 +15,8 @@ use Rattle.lr_conf.specs.declared.fields.Fields.{Fields}
 use Rattle.lr_conf.specs.declared.stop.Include.{Include}
 use Rattle.lr_forms.specs.declared.set.Set.{Set}
 use Rattle.lr_forms.specs.declared.set.Set.TheVariants as set
-use Rattle.lr_forms.specs.declared.said.Said.{Said}
-use Rattle.lr_forms.specs.declared.said.Said.TheVariants as says
+use Rattle.lr_forms.specs.declared.said.LineSaid.{LineSaid}
+use Rattle.lr_forms.specs.declared.said.LineSaid.TheVariants as says
 use Rattle.lr_words.specs.declared.taboo.TabooItems.{TabooItems}
 use Rattle.lr_match.specs.declared.taboo.Taboo.{Taboo}
 use Rattle.lr_match.specs.Taboos.{taboo_after}
@@ -44,7 +44,7 @@ line_file Cut = []
 -- A line outside definitions, as it was read there: its number, whether it ends with a brace, and what it says; or the
 -- fault that its reading told.
 pub data OutsideLine : Type 0 where
-  stands : ℕ → Bool → Said → OutsideLine
+  stands : ℕ → Bool → LineSaid → OutsideLine
   spoiled : Fault → OutsideLine
   file_ends : OutsideLine
   breaks_off : OutsideLine
@@ -68,7 +68,7 @@ behind p (e ∷ es) = if p e then es else behind p es
 
 -- ---- lines outside definitions
 
-abbrev pub set_of : Said → Option Set
+abbrev pub set_of : LineSaid → Option Set
 set_of (says.Sets v) = Some v
 set_of (says.OwnerPassed v) = Some v
 set_of s = None
@@ -143,7 +143,7 @@ outside_line Cut = breaks_off
 
 -- ---- notices and faults
 
-abbrev pub notice_of : Path → ℕ → Said → Option Notice
+abbrev pub notice_of : Path → ℕ → LineSaid → Option Notice
 notice_of file at (says.Passed word) = Some (record { file = file; line = at; word = Some word })
 notice_of file at (says.OwnerPassed v) = Some (record { file = file; line = at; word = None })
 notice_of file at s = None
@@ -196,11 +196,11 @@ ends Cut = true
 
 -- A line in a definition, as it is read there: its file and number, and what it says; or the fault that its reading told.
 pub data InsideLine : Type 0 where
-  states : Path → ℕ → Said → InsideLine
+  states : Path → ℕ → LineSaid → InsideLine
   broken : Fault → InsideLine
   left_open : InsideLine
 
-abbrev pub script_of : Said → Option Phase
+abbrev pub script_of : LineSaid → Option Phase
 script_of (says.Script phase text stray) = Some phase
 script_of s = None
 
@@ -212,12 +212,12 @@ line_script e = None
 abbrev pub scripts_in : List ConfLine → List Phase
 scripts_in lines = filter_map (line_script) lines
 
-abbrev pub script_sets : Option ConfKind → Phase → List ℕ → Said
+abbrev pub script_sets : Option ConfKind → Phase → List ℕ → LineSaid
 script_sets None p text = says.Sets (set.Script p text)
 script_sets (Some k) p text = says.Bad k
 
 -- what a line of a definition says where these scripts stand before it
-abbrev pub said_behind : List Phase → Said → Said
+abbrev pub said_behind : List Phase → LineSaid → LineSaid
 said_behind earlier (says.Script p text stray) = script_sets (script_fault earlier p stray) p text
 said_behind earlier s = s
 
@@ -233,7 +233,7 @@ abbrev pub body_of : List ConfLine → List ConfLine → List InsideLine
 body_of earlier [] = []
 body_of earlier (e ∷ es) = within earlier e ∷ body_of (earlier ++ e ∷ []) es
 
-abbrev pub is_bad_line : Said → Bool
+abbrev pub is_bad_line : LineSaid → Bool
 is_bad_line (says.Bad k) = true
 is_bad_line s = false
 
@@ -251,7 +251,7 @@ abbrev pub notice_in : InsideLine → Option Notice
 notice_in (states file at s) = notice_of file at s
 notice_in w = None
 
-abbrev pub line_fault : Path → ℕ → Said → Option Fault
+abbrev pub line_fault : Path → ℕ → LineSaid → Option Fault
 line_fault file at says.Unknown = Some (conf file kind.Unknown at)
 line_fault file at (says.Bad k) = Some (conf file k at)
 line_fault file at s = None

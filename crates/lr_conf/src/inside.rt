@@ -2,7 +2,7 @@
 ghost use Rattle.std.specs.Prelude.{◌≡◌, ◌<◌, [], None, length};
 ghost use Rattle.lr_conf.specs.Rules.{format_of, rule_of};
 ghost use Rattle.lr_conf.specs.declared.place.Place.TheVariants as place;
-ghost use Rattle.lr_forms.specs.declared.said.Said.TheVariants as says;
+ghost use Rattle.lr_forms.specs.declared.said.LineSaid.TheVariants as says;
 ghost use Rattle.lr_conf.specs.Internal.Draft.{SaysInside, Closes, SameRest, file_of_draft, files_of, first_of, state_of};
 
 use crate::draft::Draft;
@@ -11,7 +11,7 @@ use crate::place::Place;
 use crate::rule::{format_of, rule_of};
 use crate::scripts::script_fault;
 use crate::stop::{Include, LayerStop};
-use lr_forms::{Said, Set};
+use lr_forms::{LineSaid, Set};
 use lr_rules::{ConfKind, Format, Listed, Path, Phase, Rule, Text};
 use std::mem;
 
@@ -124,25 +124,25 @@ impl Draft {
     }
 
     /// A line in a definition that doesn't end it.
-    pub(crate) fn inside(&mut self, at: u32, said: Said) -> Result<Option<Include>, LayerStop>
+    pub(crate) fn inside(&mut self, at: u32, said: LineSaid) -> Result<Option<Include>, LayerStop>
         requires place { self.old.place ≡ place.Good }
         requires files { 0 < length (files_of self.old) }
         ensures { SaysInside self.old self.new (file_of_draft self.old) at said result }
     {
         match said {
-            Said::Sets(set) => self.set_inside(at, set),
-            Said::OwnerPassed(set) => self.set_owned(at, set),
-            Said::Script { phase, text, stray } => self.script(at, phase, text, stray),
-            Said::Passed(word) => self.pass_inside(at, word),
-            Said::Unknown => Err(LayerStop::Conf(at, ConfKind::Unknown)),
-            Said::Bad(kind) => self.drop_for(at, kind),
-            Said::Names(_names) => Ok(None),
-            Said::Include(_path) => Ok(None),
-            Said::Taboo {
+            LineSaid::Sets(set) => self.set_inside(at, set),
+            LineSaid::OwnerPassed(set) => self.set_owned(at, set),
+            LineSaid::Script { phase, text, stray } => self.script(at, phase, text, stray),
+            LineSaid::Passed(word) => self.pass_inside(at, word),
+            LineSaid::Unknown => Err(LayerStop::Conf(at, ConfKind::Unknown)),
+            LineSaid::Bad(kind) => self.drop_for(at, kind),
+            LineSaid::Names(_names) => Ok(None),
+            LineSaid::Include(_path) => Ok(None),
+            LineSaid::Taboo {
                 patterns: _,
                 items: _items,
             } => Ok(None),
-            Said::Open | Said::Close | Said::Quiet | Said::BadNames(_) => Ok(None),
+            LineSaid::Open | LineSaid::Close | LineSaid::Quiet | LineSaid::BadNames(_) => Ok(None),
         }
     }
 }

@@ -1,7 +1,7 @@
 // Lines outside definitions.
 ghost use Rattle.std.specs.Prelude.{◌≡◌, ◌<◌, [], ◌++◌, Some, None, OnOk, OnErr, IfOk, length};
 ghost use Rattle.lr_conf.specs.declared.place.Place.TheVariants as place;
-ghost use Rattle.lr_forms.specs.declared.said.Said.TheVariants as says;
+ghost use Rattle.lr_forms.specs.declared.said.LineSaid.TheVariants as says;
 ghost use Rattle.lr_conf.specs.Meaning.{stands, or_line};
 ghost use Rattle.lr_conf.specs.Internal.Draft.{Speaks, Noticed, Banned, SameRest, Aside, Unchanged, Settled, answer_of};
 ghost use Rattle.lr_conf.specs.Internal.Draft.{file_of_draft, files_of, without_names, state_of};
@@ -12,7 +12,7 @@ use crate::fields::set_field;
 use crate::place::Place;
 use crate::stop::{Include, LayerStop};
 use crate::taboo::change_list;
-use lr_forms::{Said, Set};
+use lr_forms::{LineSaid, Set};
 use lr_rules::{ConfKind, Listed, Memory, Notice, Path, Text};
 use lr_words::TabooItems;
 use std::mem;
@@ -267,27 +267,27 @@ impl Draft {
         &mut self,
         at: u32,
         brace: bool,
-        said: Said,
+        said: LineSaid,
     ) -> Result<Option<Include>, LayerStop>
         requires place { self.old.place ≡ place.Outside }
         requires files { 0 < length (files_of self.old) }
         ensures { Speaks self.old self.new (file_of_draft self.old) (stands at brace said) result }
     {
         match said {
-            Said::Names(names) => self.names(at, brace, names),
-            Said::Open => self.open(at, brace),
-            Said::Unknown => self.aside(at, brace, ConfKind::Unknown),
-            Said::BadNames(kind) => self.aside(at, brace, kind),
-            Said::Bad(kind) => self.leave(at, brace, Some(kind)),
-            Said::Quiet => self.leave(at, brace, None),
-            Said::Close => self.lone_close(at, brace),
-            Said::Sets(set) => self.sets(at, brace, set),
-            Said::OwnerPassed(set) => self.sets_owned(at, brace, set),
-            Said::Passed(word) => self.pass_over(at, brace, word),
+            LineSaid::Names(names) => self.names(at, brace, names),
+            LineSaid::Open => self.open(at, brace),
+            LineSaid::Unknown => self.aside(at, brace, ConfKind::Unknown),
+            LineSaid::BadNames(kind) => self.aside(at, brace, kind),
+            LineSaid::Bad(kind) => self.leave(at, brace, Some(kind)),
+            LineSaid::Quiet => self.leave(at, brace, None),
+            LineSaid::Close => self.lone_close(at, brace),
+            LineSaid::Sets(set) => self.sets(at, brace, set),
+            LineSaid::OwnerPassed(set) => self.sets_owned(at, brace, set),
+            LineSaid::Passed(word) => self.pass_over(at, brace, word),
             // A script stands in definitions alone: no line says one here.
-            Said::Script { text: _text, .. } => self.leave(at, brace, None),
-            Said::Include(path) => self.include(at, brace, path),
-            Said::Taboo { patterns, items } => self.taboos(at, brace, patterns, items),
+            LineSaid::Script { text: _text, .. } => self.leave(at, brace, None),
+            LineSaid::Include(path) => self.include(at, brace, path),
+            LineSaid::Taboo { patterns, items } => self.taboos(at, brace, patterns, items),
         }
     }
 }

@@ -31,8 +31,8 @@ use Rattle.lr_forms.specs.declared.form.Value.{Value}
 use Rattle.lr_forms.specs.declared.form.Value.TheVariants as value
 use Rattle.lr_forms.specs.declared.set.Set.{Set}
 use Rattle.lr_forms.specs.declared.set.Set.TheVariants as set
-use Rattle.lr_forms.specs.declared.said.Said.{Said}
-use Rattle.lr_forms.specs.declared.said.Said.TheVariants as says
+use Rattle.lr_forms.specs.declared.said.LineSaid.{LineSaid}
+use Rattle.lr_forms.specs.declared.said.LineSaid.TheVariants as says
 use Rattle.lr_forms.specs.Forms.{form_of}
 use Rattle.lr_forms.specs.Values.{setting, value_of, sets_or_bad, one_says, weekday_given, day_says, mode_of, setting_make, made, make_says, included, include_says, taboo_or_bad}
 use Rattle.lr_forms.specs.Says.{directive_of, checks, first_fault, means, or_bad, by_directive, texts, words_say, log_names, name_faults, named, names_say, nested, phase_named, script_in, item_says}
@@ -65,7 +65,7 @@ value_meets value.DateFormat w = setting_meets (λ ps. is_format (record { piece
 
 -- ---- lines
 
-abbrev Fine : Said → Type 0
+abbrev Fine : LineSaid → Type 0
 Fine s = said_meets s ≡ true
 
 of_setting : (r : Result Set ConfKind) → Meets r → Fine (sets_or_bad r)
@@ -168,7 +168,7 @@ means_fine form.Include word vs ok = include_fine vs
 means_fine (form.Taboo patterns) word vs ok = barred_fine patterns (taboo_value vs)
 means_fine f word vs ok = refl
 
-or_bad_fine : (o : Option ConfKind) (s : Said) → Fine s → Fine (or_bad o s)
+or_bad_fine : (o : Option ConfKind) (s : LineSaid) → Fine s → Fine (or_bad o s)
 or_bad_fine None s h = h
 or_bad_fine (Some k) s h = refl
 
@@ -177,7 +177,7 @@ directive_fine inside brace stray word vs None = refl
 directive_fine inside brace stray word vs (Some d) =
     or_bad_fine (first_fault (checks inside brace stray (form_of d) vs)) (means (form_of d) word vs) (means_fine (form_of d) word vs (form_fine d))
 
-either : (b : Bool) (s t : Said) → Fine s → Fine t → Fine (cond b s t)
+either : (b : Bool) (s t : LineSaid) → Fine s → Fine t → Fine (cond b s t)
 either true s t h k = h
 either false s t h k = k
 

@@ -20,14 +20,14 @@ use Rattle.lr_forms.specs.declared.form.Form.{Form}
 use Rattle.lr_forms.specs.declared.form.Form.TheVariants as form
 use Rattle.lr_forms.specs.declared.set.Set.{Set}
 use Rattle.lr_forms.specs.declared.set.Set.TheVariants as set
-use Rattle.lr_forms.specs.declared.said.Said.{Said}
-use Rattle.lr_forms.specs.declared.said.Said.TheVariants as says
+use Rattle.lr_forms.specs.declared.said.LineSaid.{LineSaid}
+use Rattle.lr_forms.specs.declared.said.LineSaid.TheVariants as says
 use Rattle.lr_forms.specs.Forms.{form_of}
 use Rattle.lr_forms.specs.Values.{setting, value_of, sets_or_bad, weekday_given, mode_of, setting_make, made, included, taboo_or_bad}
 use Rattle.lr_forms.specs.Says.{directive_of, checks, first_fault, means, or_bad, by_directive, texts, words_say, log_names, name_faults, named, names_say, nested, phase_named, script_in, item_says}
 use Rattle.lr_forms.specs.Limits.{NamesSome}
 
-either : (b : Bool) (s t : Said) → NamesSome s → NamesSome t → NamesSome (cond b s t)
+either : (b : Bool) (s t : LineSaid) → NamesSome s → NamesSome t → NamesSome (cond b s t)
 either true s t h k = h
 either false s t h k = k
 
@@ -61,7 +61,7 @@ means_some form.Include word (w ∷ ws) = included_some (include_value w)
 means_some (form.Taboo patterns) word vs = barred_some patterns (taboo_value vs)
 means_some f word vs = tt
 
-or_bad_some : (o : Option ConfKind) (s : Said) → NamesSome s → NamesSome (or_bad o s)
+or_bad_some : (o : Option ConfKind) (s : LineSaid) → NamesSome s → NamesSome (or_bad o s)
 or_bad_some None s h = h
 or_bad_some (Some k) s h = tt
 

@@ -6,8 +6,8 @@ use Rattle.lr_rules.specs.Limits.{is_small, is_size, is_count, is_criterion, is_
 use Rattle.lr_rules.specs.Limits.{is_format, is_log_word}
 use Rattle.lr_forms.specs.declared.set.Set.{Set}
 use Rattle.lr_forms.specs.declared.set.Set.TheVariants as set
-use Rattle.lr_forms.specs.declared.said.Said.{Said}
-use Rattle.lr_forms.specs.declared.said.Said.TheVariants as says
+use Rattle.lr_forms.specs.declared.said.LineSaid.{LineSaid}
+use Rattle.lr_forms.specs.declared.said.LineSaid.TheVariants as says
 
 -- the value meets the limit of a rule for its field
 abbrev pub set_meets : Set → Bool
@@ -28,13 +28,13 @@ set_meets (set.DateFormat pieces) = is_format (record { pieces = pieces; back = 
 set_meets v = true
 
 -- what is set meets its limit, and names are names of logs
-abbrev pub said_meets : Said → Bool
+abbrev pub said_meets : LineSaid → Bool
 said_meets (says.Sets v) = set_meets v
 said_meets (says.OwnerPassed v) = set_meets v
 said_meets (says.Names ws) = list_all is_log_word ws
 said_meets s = true
 
 -- where it names logs, it names one at least
-abbrev pub NamesSome : Said → Type 0
+abbrev pub NamesSome : LineSaid → Type 0
 NamesSome (says.Names ws) = ws ≢ []
 NamesSome s = Unit {0}

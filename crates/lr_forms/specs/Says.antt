@@ -18,8 +18,8 @@ use Rattle.lr_words.specs.Lists.{taboo_value}
 use Rattle.lr_words.specs.Names.{log_name_value}
 use Rattle.lr_forms.specs.declared.form.Form.{Form}
 use Rattle.lr_forms.specs.declared.form.Form.TheVariants as form
-use Rattle.lr_forms.specs.declared.said.Said.{Said}
-use Rattle.lr_forms.specs.declared.said.Said.TheVariants as says
+use Rattle.lr_forms.specs.declared.said.LineSaid.{LineSaid}
+use Rattle.lr_forms.specs.declared.said.LineSaid.TheVariants as says
 use Rattle.lr_forms.specs.Forms.{form_of}
 use Rattle.lr_forms.specs.Values.{one_says, day_says, make_says, include_says, taboo_says}
 
@@ -105,7 +105,7 @@ checks inside brace stray f vs =
 -- ---- meanings
 
 -- what a line says to which none of those faults applies
-abbrev pub means : Form → List ℕ → List (List ℕ) → Said
+abbrev pub means : Form → List ℕ → List (List ℕ) → LineSaid
 means form.Passed word vs = says.Passed word
 means (form.Plain s) word vs = says.Sets s
 means (form.One v) word vs = one_says v vs
@@ -115,11 +115,11 @@ means form.Include word vs = include_says vs
 means (form.Taboo patterns) word vs = taboo_says patterns vs
 means f word vs = says.Quiet
 
-abbrev pub or_bad : Option ConfKind → Said → Said
+abbrev pub or_bad : Option ConfKind → LineSaid → LineSaid
 or_bad None s = s
 or_bad (Some k) s = says.Bad k
 
-abbrev pub by_directive : Bool → Bool → Bool → List ℕ → List (List ℕ) → Option Directive → Said
+abbrev pub by_directive : Bool → Bool → Bool → List ℕ → List (List ℕ) → Option Directive → LineSaid
 by_directive inside brace stray word vs None = says.Unknown
 by_directive inside brace stray word vs (Some d) = or_bad (first_fault (checks inside brace stray (form_of d) vs))
     (means (form_of d) word vs)
@@ -128,7 +128,7 @@ abbrev pub texts : List Word → List (List ℕ)
 texts ws = map (λ w. w.text) ws
 
 -- a line whose first sign begins no name
-abbrev pub words_say : Bool → Bool → Bool → List Word → Said
+abbrev pub words_say : Bool → Bool → Bool → List Word → LineSaid
 words_say inside brace stray [] = if inside then says.Bad kind.NestedBrace else says.Open
 words_say inside brace stray (w ∷ ws) =
     if inside && brace then says.Bad kind.NestedBrace
@@ -145,13 +145,13 @@ abbrev pub name_faults : List Word → List ConfKind
 name_faults ws = filter_map (λ w. result_err (log_name_value w.text)) ws
 
 -- all the names, where none has a fault; else the first fault, by which the line names none
-abbrev pub named : List ConfKind → List (List ℕ) → Said
+abbrev pub named : List ConfKind → List (List ℕ) → LineSaid
 named [] names = says.Names names
 named (k ∷ ks) names = says.BadNames k
 
 -- A line of names, outside definitions: it names them all, or has the first fault that applies. One without a name,
 -- which no text has, is stray.
-abbrev pub names_say : Bool → List Word → Said
+abbrev pub names_say : Bool → List Word → LineSaid
 names_say stray [] = says.BadNames kind.Stray
 names_say stray (w ∷ ws) =
     if stray then says.BadNames kind.Stray
@@ -159,7 +159,7 @@ names_say stray (w ∷ ws) =
 
 -- ---- lines
 
-abbrev pub nested : Bool → ConfKind → Said
+abbrev pub nested : Bool → ConfKind → LineSaid
 nested brace k = says.Bad (if brace then kind.NestedBrace else k)
 
 -- when a script with this word runs
@@ -176,17 +176,17 @@ phase_named None = None
 phase_named (Some d) = phase_of d
 
 -- A script, which stands in a definition. A text gives none with another word.
-abbrev pub script_in : Bool → List ℕ → Bool → Option Phase → Said
+abbrev pub script_in : Bool → List ℕ → Bool → Option Phase → LineSaid
 script_in inside text stray None = says.Unknown
 script_in inside text stray (Some p) = if inside then says.Script p text stray else says.Bad kind.OutsideSet
 
-abbrev pub script_says : Bool → Bool → Bool → List ℕ → List ℕ → Said
+abbrev pub script_says : Bool → Bool → Bool → List ℕ → List ℕ → LineSaid
 script_says inside brace stray word text =
     if inside && brace then says.Bad kind.NestedBrace
     else script_in inside text stray (phase_named (directive_of word))
 
 -- what a line says
-abbrev pub item_says : Bool → Item → Said
+abbrev pub item_says : Bool → Item → LineSaid
 item_says inside (item.Close line) = says.Close
 item_says inside (item.Script word text brace stray line) = script_says inside brace stray word.text text
 item_says inside (item.Line ws names brace stray line) =

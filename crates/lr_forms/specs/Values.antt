@@ -15,8 +15,8 @@ use Rattle.lr_forms.specs.declared.form.Value.{Value}
 use Rattle.lr_forms.specs.declared.form.Value.TheVariants as value
 use Rattle.lr_forms.specs.declared.set.Set.{Set}
 use Rattle.lr_forms.specs.declared.set.Set.TheVariants as set
-use Rattle.lr_forms.specs.declared.said.Said.{Said}
-use Rattle.lr_forms.specs.declared.said.Said.TheVariants as says
+use Rattle.lr_forms.specs.declared.said.LineSaid.{LineSaid}
+use Rattle.lr_forms.specs.declared.said.LineSaid.TheVariants as says
 
 -- ---- one value
 
@@ -40,12 +40,12 @@ value_of value.Olddir w = setting (λ dir. set.Olddir (Some dir)) (olddir_value 
 value_of value.Mail w = setting (λ address. set.Mail (Some address)) (address_value w)
 value_of value.DateFormat w = setting set.DateFormat (format_value w)
 
-abbrev pub sets_or_bad : Result Set ConfKind → Said
+abbrev pub sets_or_bad : Result Set ConfKind → LineSaid
 sets_or_bad (Ok v) = says.Sets v
 sets_or_bad (Err k) = says.Bad k
 
 -- without a word, which is a fault before, it says nothing
-abbrev pub one_says : Value → List (List ℕ) → Said
+abbrev pub one_says : Value → List (List ℕ) → LineSaid
 one_says v [] = says.Quiet
 one_says v (w ∷ ws) = sets_or_bad (value_of v w)
 
@@ -56,7 +56,7 @@ abbrev pub weekday_given : List (List ℕ) → Result ℕ ConfKind
 weekday_given [] = Ok 0
 weekday_given (w ∷ ws) = weekday_value w
 
-abbrev pub day_says : List (List ℕ) → Said
+abbrev pub day_says : List (List ℕ) → LineSaid
 day_says ws = sets_or_bad (setting (λ day. set.Criterion (criterion.Weekly day)) (weekday_given ws))
 
 -- ---- files and directories that are made
@@ -71,29 +71,29 @@ setting_make true m = set.CreateOlddir m
 setting_make false m = set.Create m
 
 -- it is made with this mode, and a word that isn't the mode is passed over
-abbrev pub made : Bool → ℕ → Result (Option ℕ) ConfKind → Said
+abbrev pub made : Bool → ℕ → Result (Option ℕ) ConfKind → LineSaid
 made olddir words (Ok mode) =
     if names_owner words mode then says.OwnerPassed (setting_make olddir (make.Yes mode))
     else says.Sets (setting_make olddir (make.Yes mode))
 made olddir words (Err k) = says.Bad k
 
-abbrev pub make_says : Bool → List (List ℕ) → Said
+abbrev pub make_says : Bool → List (List ℕ) → LineSaid
 make_says olddir ws = made olddir (length ws) (mode_of ws)
 
 -- ---- other files, and which of them are read
 
-abbrev pub included : Result Path ConfKind → Said
+abbrev pub included : Result Path ConfKind → LineSaid
 included (Ok path) = says.Include path
 included (Err k) = says.Bad k
 
 -- without a word, which is a fault before, it says nothing
-abbrev pub include_says : List (List ℕ) → Said
+abbrev pub include_says : List (List ℕ) → LineSaid
 include_says [] = says.Quiet
 include_says (w ∷ ws) = included (include_value w)
 
-abbrev pub taboo_or_bad : Bool → Result TabooItems ConfKind → Said
+abbrev pub taboo_or_bad : Bool → Result TabooItems ConfKind → LineSaid
 taboo_or_bad patterns (Ok items) = says.Taboo patterns items
 taboo_or_bad patterns (Err k) = says.Bad k
 
-abbrev pub taboo_says : Bool → List (List ℕ) → Said
+abbrev pub taboo_says : Bool → List (List ℕ) → LineSaid
 taboo_says patterns ws = taboo_or_bad patterns (taboo_value ws)

@@ -26,5 +26,5 @@ mod value;
 
 pub use laws::lines_meet_limits;
 pub use reading::say;
-pub use said::{Said, closes, has_brace, line_of};
+pub use said::{LineSaid, closes, has_brace, line_of};
 pub use set::Set;

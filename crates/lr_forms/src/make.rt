@@ -3,7 +3,7 @@ ghost use Rattle.std.specs.Prelude.{◌≡◌};
 ghost use Rattle.lr_forms.specs.Says.{texts};
 ghost use Rattle.lr_forms.specs.Values.{mode_of, setting_make, made, make_says};
 
-use crate::said::Said;
+use crate::said::LineSaid;
 use crate::set::Set;
 use lr_lex::Word;
 use lr_rules::{ConfKind, Make};
@@ -28,24 +28,24 @@ fn making(olddir: bool, make: Make) -> Set
     }
 }
 
-fn made(olddir: bool, words: usize, mode: Result<Option<u32>, ConfKind>) -> Said
+fn made(olddir: bool, words: usize, mode: Result<Option<u32>, ConfKind>) -> LineSaid
     ensures { result ≡ made olddir words mode }
 {
     match mode {
-        Err(kind) => Said::Bad(kind),
+        Err(kind) => LineSaid::Bad(kind),
         Ok(mode) => {
             let set = making(olddir, Make::Yes(mode));
             if names_owner(words, mode) {
-                Said::OwnerPassed(set)
+                LineSaid::OwnerPassed(set)
             } else {
-                Said::Sets(set)
+                LineSaid::Sets(set)
             }
         }
     }
 }
 
 /// What `createolddir`, or else `create`, says.
-pub(crate) fn make_says(olddir: bool, values: &[Word]) -> Said
+pub(crate) fn make_says(olddir: bool, values: &[Word]) -> LineSaid
     ensures { result ≡ make_says olddir (texts values.now) }
 {
     made(olddir, values.len(), mode_of(values))

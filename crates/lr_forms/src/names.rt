@@ -4,7 +4,7 @@ ghost use Rattle.std.specs.Result.{result_ok, result_err};
 ghost use Rattle.lr_words.specs.Names.{log_name_value};
 ghost use Rattle.lr_forms.specs.Says.{log_names, name_faults, named, names_say};
 
-use crate::said::Said;
+use crate::said::LineSaid;
 use lr_lex::Word;
 use lr_rules::{ConfKind, Listed, Memory, Text};
 use lr_words::log_name;
@@ -29,24 +29,24 @@ fn add_name(
 }
 
 /// All the names, or the first fault of one.
-fn named(alloc: Global, words: &[Word]) -> Result<Said, Memory>
+fn named(alloc: Global, words: &[Word]) -> Result<LineSaid, Memory>
     ensures { IfOk result (λ s. s ≡ named (name_faults words.now) (log_names words.now)) }
 {
     let mut names = Listed::new(alloc);
     for word in words {
         if let Some(kind) = add_name(alloc, &mut names, word.text.bytes())? {
-            return Ok(Said::BadNames(kind));
+            return Ok(LineSaid::BadNames(kind));
         }
     }
-    Ok(Said::Names(names))
+    Ok(LineSaid::Names(names))
 }
 
 /// What a line of names says, outside definitions.
-pub(crate) fn names_say(alloc: Global, words: &[Word], stray: bool) -> Result<Said, Memory>
+pub(crate) fn names_say(alloc: Global, words: &[Word], stray: bool) -> Result<LineSaid, Memory>
     ensures { IfOk result (λ s. s ≡ names_say stray words.now) }
 {
     if stray || words.is_empty() {
-        Ok(Said::BadNames(ConfKind::Stray))
+        Ok(LineSaid::BadNames(ConfKind::Stray))
     } else {
         named(alloc, words)
     }

@@ -7,7 +7,7 @@ use crate::form::{Form, form_of};
 use crate::make::make_says;
 use crate::names::names_say;
 use crate::row::directive_of;
-use crate::said::Said;
+use crate::said::LineSaid;
 use crate::script::script_says;
 use crate::taboo::{include_says, taboo_says};
 use crate::value::{day_says, one_says};
@@ -15,18 +15,18 @@ use lr_lex::{Item, Word};
 use lr_rules::{ConfKind, Listed, Memory, Text};
 use std::alloc::Global;
 
-fn means(alloc: Global, form: Form, word: Text, values: &[Word]) -> Result<Said, Memory>
+fn means(alloc: Global, form: Form, word: Text, values: &[Word]) -> Result<LineSaid, Memory>
     ensures { IfOk result (λ s. s ≡ means form word (texts values.now)) }
 {
     match form {
-        Form::Passed => Ok(Said::Passed(word)),
-        Form::Plain(set) => Ok(Said::Sets(set)),
+        Form::Passed => Ok(LineSaid::Passed(word)),
+        Form::Plain(set) => Ok(LineSaid::Sets(set)),
         Form::One(value) => one_says(alloc, value, values),
         Form::Day => Ok(day_says(values)),
         Form::Make { olddir } => Ok(make_says(olddir, values)),
         Form::Include => include_says(alloc, values),
         Form::Taboo { patterns } => taboo_says(alloc, patterns, values),
-        _ => Ok(Said::Quiet),
+        _ => Ok(LineSaid::Quiet),
     }
 }
 
@@ -50,14 +50,14 @@ fn directive_says(
     stray: bool,
     word: Text,
     values: &[Word],
-) -> Result<Said, Memory>
+) -> Result<LineSaid, Memory>
     ensures { IfOk result (λ s. s ≡ by_directive inside brace stray word (texts values.now) (directive_of word)) }
 {
     let Some(directive) = directive_of(word.bytes()) else {
-        return Ok(Said::Unknown);
+        return Ok(LineSaid::Unknown);
     };
     match fault_of(alloc, inside, brace, stray, directive, values)? {
-        Some(kind) => Ok(Said::Bad(kind)),
+        Some(kind) => Ok(LineSaid::Bad(kind)),
         None => means(alloc, form_of(directive), word, values),
     }
 }
@@ -69,35 +69,35 @@ fn words_say(
     inside: bool,
     brace: bool,
     stray: bool,
-) -> Result<Said, Memory>
+) -> Result<LineSaid, Memory>
     ensures { IfOk result (λ s. s ≡ words_say inside brace stray words) }
 {
     let Some((word, values)) = split_first(words.into_vec()) else {
         return Ok(if inside {
-            Said::Bad(ConfKind::NestedBrace)
+            LineSaid::Bad(ConfKind::NestedBrace)
         } else {
-            Said::Open
+            LineSaid::Open
         });
     };
     if inside && brace {
-        return Ok(Said::Bad(ConfKind::NestedBrace));
+        return Ok(LineSaid::Bad(ConfKind::NestedBrace));
     }
     directive_says(alloc, inside, brace, stray, word.text, values.as_slice())
 }
 
 /// The fault of a line that may stand in no definition, where it stands in one.
-fn nested(brace: bool, kind: ConfKind) -> Said
+fn nested(brace: bool, kind: ConfKind) -> LineSaid
     ensures { result ≡ nested brace kind }
 {
-    Said::Bad(if brace { ConfKind::NestedBrace } else { kind })
+    LineSaid::Bad(if brace { ConfKind::NestedBrace } else { kind })
 }
 
 /// What a line says, inside a definition or outside. The first fault that applies is the line's.
-pub fn say(alloc: Global, item: Item, inside: bool) -> Result<Said, Memory>
+pub fn say(alloc: Global, item: Item, inside: bool) -> Result<LineSaid, Memory>
     ensures { IfOk result (λ s. s ≡ item_says inside item) }
 {
     match item {
-        Item::Close { .. } => Ok(Said::Close),
+        Item::Close { .. } => Ok(LineSaid::Close),
         Item::Script {
             word,
             text,

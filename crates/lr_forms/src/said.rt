@@ -9,7 +9,7 @@ use lr_words::TabooItems;
 
 /// What a line says by itself, inside a definition or outside.
 #[derive(Drop)]
-pub enum Said {
+pub enum LineSaid {
     /// A directive that sets a field.
     Sets(Set),
     /// A directive that sets a field, with words behind it that name an owner or a group and are passed over.

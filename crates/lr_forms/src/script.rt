@@ -3,7 +3,7 @@ ghost use Rattle.std.specs.Prelude.{◌≡◌};
 ghost use Rattle.lr_forms.specs.Says.{directive_of, phase_of, script_in, script_says};
 
 use crate::row::directive_of;
-use crate::said::Said;
+use crate::said::LineSaid;
 use lr_rules::{ConfKind, Phase, Text};
 use lr_tables::Directive;
 
@@ -20,30 +20,36 @@ fn phase_of(directive: Directive) -> Option<Phase>
     }
 }
 
-fn script_in(inside: bool, text: Text, stray: bool, phase: Option<Phase>) -> Said
+fn script_in(inside: bool, text: Text, stray: bool, phase: Option<Phase>) -> LineSaid
     ensures { result ≡ script_in inside text stray phase }
 {
     match phase {
-        None => Said::Unknown,
+        None => LineSaid::Unknown,
         Some(phase) => {
             if inside {
-                Said::Script { phase, text, stray }
+                LineSaid::Script { phase, text, stray }
             } else {
-                Said::Bad(ConfKind::OutsideSet)
+                LineSaid::Bad(ConfKind::OutsideSet)
             }
         }
     }
 }
 
 /// What a script says by itself.
-pub(crate) fn script_says(inside: bool, brace: bool, stray: bool, word: &[u8], text: Text) -> Said
+pub(crate) fn script_says(
+    inside: bool,
+    brace: bool,
+    stray: bool,
+    word: &[u8],
+    text: Text,
+) -> LineSaid
     ensures { result ≡ script_says inside brace stray word.now text }
 {
     if inside && brace {
-        return Said::Bad(ConfKind::NestedBrace);
+        return LineSaid::Bad(ConfKind::NestedBrace);
     }
     match directive_of(word) {
         Some(directive) => script_in(inside, text, stray, phase_of(directive)),
-        None => Said::Unknown,
+        None => LineSaid::Unknown,
     }
 }

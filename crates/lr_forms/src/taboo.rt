@@ -4,7 +4,7 @@ ghost use Rattle.lr_forms.specs.Says.{texts};
 ghost use Rattle.lr_forms.specs.Values.{included, include_says, taboo_says};
 ghost use Rattle.lr_words.specs.Names.{include_value};
 
-use crate::said::Said;
+use crate::said::LineSaid;
 use lr_lex::Word;
 use lr_rules::{Memory, Text};
 use lr_words::{include_path, taboo_items};
@@ -29,31 +29,31 @@ pub(crate) fn texts_of(alloc: Global, words: &[Word]) -> Result<Vec<Text>, Memor
 }
 
 /// What `tabooext` or `taboopat` says.
-pub(crate) fn taboo_says(alloc: Global, patterns: bool, values: &[Word]) -> Result<Said, Memory>
+pub(crate) fn taboo_says(alloc: Global, patterns: bool, values: &[Word]) -> Result<LineSaid, Memory>
     ensures { IfOk result (λ s. s ≡ taboo_says patterns (texts values.now)) }
 {
     let texts = texts_of(alloc, values)?;
     match taboo_items(alloc, texts.as_slice())? {
-        Ok(items) => Ok(Said::Taboo { patterns, items }),
-        Err(kind) => Ok(Said::Bad(kind)),
+        Ok(items) => Ok(LineSaid::Taboo { patterns, items }),
+        Err(kind) => Ok(LineSaid::Bad(kind)),
     }
 }
 
-fn included(alloc: Global, word: &[u8]) -> Result<Said, Memory>
+fn included(alloc: Global, word: &[u8]) -> Result<LineSaid, Memory>
     ensures { IfOk result (λ s. s ≡ included (include_value word.now)) }
 {
     match include_path(alloc, word)? {
-        Ok(path) => Ok(Said::Include(path)),
-        Err(kind) => Ok(Said::Bad(kind)),
+        Ok(path) => Ok(LineSaid::Include(path)),
+        Err(kind) => Ok(LineSaid::Bad(kind)),
     }
 }
 
 /// What `include` says.
-pub(crate) fn include_says(alloc: Global, values: &[Word]) -> Result<Said, Memory>
+pub(crate) fn include_says(alloc: Global, values: &[Word]) -> Result<LineSaid, Memory>
     ensures { IfOk result (λ s. s ≡ include_says (texts values.now)) }
 {
     match values {
-        [] => Ok(Said::Quiet),
+        [] => Ok(LineSaid::Quiet),
         [word, ..] => included(alloc, word.text.bytes()),
     }
 }

@@ -9,7 +9,7 @@ ghost use Rattle.lr_forms.specs.Says.{texts};
 ghost use Rattle.lr_forms.specs.Values.{setting, value_of, sets_or_bad, one_says, weekday_given, day_says};
 
 use crate::form::Value;
-use crate::said::Said;
+use crate::said::LineSaid;
 use crate::set::Set;
 use lr_lex::Word;
 use lr_rules::{ConfKind, Criterion, Memory, Text};
@@ -150,21 +150,21 @@ fn value_of(alloc: Global, value: Value, word: &Text) -> Result<Result<Set, Conf
     }
 }
 
-fn sets_or_bad(set: Result<Set, ConfKind>) -> Said
+fn sets_or_bad(set: Result<Set, ConfKind>) -> LineSaid
     ensures { result ≡ sets_or_bad set }
 {
     match set {
-        Ok(set) => Said::Sets(set),
-        Err(kind) => Said::Bad(kind),
+        Ok(set) => LineSaid::Sets(set),
+        Err(kind) => LineSaid::Bad(kind),
     }
 }
 
 /// What a directive says that takes one word.
-pub(crate) fn one_says(alloc: Global, value: Value, values: &[Word]) -> Result<Said, Memory>
+pub(crate) fn one_says(alloc: Global, value: Value, values: &[Word]) -> Result<LineSaid, Memory>
     ensures { IfOk result (λ s. s ≡ one_says value (texts values.now)) }
 {
     match values {
-        [] => Ok(Said::Quiet),
+        [] => Ok(LineSaid::Quiet),
         [word, ..] => {
             let set = value_of(alloc, value, &word.text)?;
             Ok(sets_or_bad(set))
@@ -184,11 +184,11 @@ fn day_of(values: &[Word]) -> Result<u8, ConfKind>
 }
 
 /// What `weekly` says.
-pub(crate) fn day_says(values: &[Word]) -> Said
+pub(crate) fn day_says(values: &[Word]) -> LineSaid
     ensures { result ≡ day_says (texts values.now) }
 {
     match day_of(values) {
-        Ok(day) => Said::Sets(Set::Criterion(Criterion::Weekly(day))),
-        Err(kind) => Said::Bad(kind),
+        Ok(day) => LineSaid::Sets(Set::Criterion(Criterion::Weekly(day))),
+        Err(kind) => LineSaid::Bad(kind),
     }
 }

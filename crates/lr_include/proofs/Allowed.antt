@@ -15,8 +15,8 @@ use Rattle.lr_rules.specs.Path.{path_fault, joined}
 use Rattle.lr_lex.specs.Items.{Told}
 use Rattle.lr_conf.specs.declared.fields.Fields.{Fields}
 use Rattle.lr_forms.specs.declared.set.Set.{Set}
-use Rattle.lr_forms.specs.declared.said.Said.{Said}
-use Rattle.lr_forms.specs.declared.said.Said.TheVariants as says
+use Rattle.lr_forms.specs.declared.said.LineSaid.{LineSaid}
+use Rattle.lr_forms.specs.declared.said.LineSaid.TheVariants as says
 use Rattle.lr_conf.specs.Fields.{fields_of, last_or}
 use Rattle.lr_conf.specs.declared.stop.Include.{Include}
 use Rattle.lr_conf.specs.Meaning.{ConfLine, Read, Spoiled, End, Cut, OutsideLine, stands, spoiled, Meaning, conf, nothing, line_file, first_pending, words_pending, words_with, settings, opened_at, opens_definition, outside_line, before, through, behind, ends, InsideLine, states, broken, left_open, within, body_of, drops, set_in, line_fault, fault_in, broken_fault, spoilt_fault, only_faults, at_line, left_names, stray_at, own_fault, line_faults, of_end, of_body, of_opening, meaning}
@@ -26,8 +26,8 @@ use Rattle.lr_include.specs.declared.part.TextEnd.TheVariants as end
 use Rattle.lr_include.specs.declared.visit.Visit.{Visit}
 use Rattle.lr_include.specs.declared.visit.Visit.TheVariants as visit
 use Rattle.lr_include.specs.declared.task.Ask.{Ask}
-use Rattle.lr_include.specs.declared.task.Piece.{Piece}
-use Rattle.lr_include.specs.declared.task.Piece.TheVariants as piece
+use Rattle.lr_include.specs.declared.task.ReadPiece.{ReadPiece}
+use Rattle.lr_include.specs.declared.task.ReadPiece.TheVariants as piece
 use Rattle.lr_include.specs.declared.task.Task.{Task}
 use Rattle.lr_include.specs.declared.task.Task.TheVariants as task
 use Rattle.lr_include.specs.Lines.{conf_kind}
@@ -69,7 +69,7 @@ Faults calls m = Each (IsAllowed calls) m.faults
 
 -- ---- lines
 
-said_fine : (calls : Bool) (file : Path) (at : ℕ) (v : Said) → Given (IsAllowed calls) (line_fault file at v)
+said_fine : (calls : Bool) (file : Path) (at : ℕ) (v : LineSaid) → Given (IsAllowed calls) (line_fault file at v)
 said_fine calls file at says.Unknown = tt
 said_fine calls file at (says.Bad k) = tt
 said_fine calls file at v = tt
@@ -170,7 +170,7 @@ meaning_fine calls (e ∷ es) false out ok =
 
 -- ---- stages
 
-abbrev FinePiece : Bool → Piece → Type 0
+abbrev FinePiece : Bool → ReadPiece → Type 0
 FinePiece calls (piece.Break f) = IsAllowed calls f
 FinePiece calls p = Unit {0}
 
@@ -181,13 +181,13 @@ FineTask calls t = Unit {0}
 abbrev FineStage : Bool → Stage → Type 0
 FineStage calls s = Each (IsFine calls) s.lines × Each (FineTask calls) s.todo
 
-lines_in_fine : (calls : Bool) (file : Path) (p : Piece) → FinePiece calls p → Each (IsFine calls) (lines_in file p)
+lines_in_fine : (calls : Bool) (file : Path) (p : ReadPiece) → FinePiece calls p → Each (IsFine calls) (lines_in file p)
 lines_in_fine calls file (piece.Item i) ok = (tt, tt)
 lines_in_fine calls file (piece.Fault at k) ok = (tt, tt)
 lines_in_fine calls file piece.End ok = (tt, tt)
 lines_in_fine calls file (piece.Break f) ok = (ok, (tt, tt))
 
-lines_now_fine : (calls : Bool) (inside : List Path) (p : Piece) → FinePiece calls p → Each (IsFine calls) (lines_now inside p)
+lines_now_fine : (calls : Bool) (inside : List Path) (p : ReadPiece) → FinePiece calls p → Each (IsFine calls) (lines_now inside p)
 lines_now_fine calls [] p ok = tt
 lines_now_fine calls (file ∷ files) p ok = lines_in_fine calls (last_or [] (file ∷ files)) p ok
 
@@ -195,13 +195,13 @@ asks_fine : (calls : Bool) (file : Path) (is : List Include) → Each (FineTask 
 asks_fine calls file [] = tt
 asks_fine calls file (i ∷ is) = (tt, asks_fine calls file is)
 
-asks_in_fine : (calls : Bool) (file : Path) (lines : List ConfLine) (p : Piece) → Each (FineTask calls) (asks_in file lines p)
+asks_in_fine : (calls : Bool) (file : Path) (lines : List ConfLine) (p : ReadPiece) → Each (FineTask calls) (asks_in file lines p)
 asks_in_fine calls file lines (piece.Item i) = asks_fine calls file (asked_at lines (Read file i))
 asks_in_fine calls file lines (piece.Fault at k) = tt
 asks_in_fine calls file lines piece.End = tt
 asks_in_fine calls file lines (piece.Break f) = tt
 
-asks_now_fine : (calls : Bool) (inside : List Path) (lines : List ConfLine) (p : Piece) → Each (FineTask calls) (asks_now inside lines p)
+asks_now_fine : (calls : Bool) (inside : List Path) (lines : List ConfLine) (p : ReadPiece) → Each (FineTask calls) (asks_now inside lines p)
 asks_now_fine calls [] lines p = tt
 asks_now_fine calls (file ∷ files) lines p = asks_in_fine calls (last_or [] (file ∷ files)) lines p
 
@@ -235,7 +235,7 @@ last_fine calls file told size end.Whole ok = tt
 last_fine calls file told size end.TooMany ok = tt
 last_fine calls file told size end.Failed ok = ok refl
 
-tasks_fine : (calls : Bool) (ps : List Piece) → Each (FinePiece calls) ps → Each (FineTask calls) (map task.Line ps)
+tasks_fine : (calls : Bool) (ps : List ReadPiece) → Each (FinePiece calls) ps → Each (FineTask calls) (map task.Line ps)
 tasks_fine calls [] ok = tt
 tasks_fine calls (p ∷ ps) ok = (ok.0, tasks_fine calls ps ok.1)
 

@@ -12,8 +12,8 @@ use Rattle.lr_rules.specs.declared.fault.Fault.{Fault}
 use Rattle.lr_rules.specs.declared.fault.Fault.TheVariants as fault
 use Rattle.lr_rules.specs.Path.{path_fault, joined}
 use Rattle.lr_lex.specs.Items.{Told}
-use Rattle.lr_forms.specs.declared.said.Said.{Said}
-use Rattle.lr_forms.specs.declared.said.Said.TheVariants as says
+use Rattle.lr_forms.specs.declared.said.LineSaid.{LineSaid}
+use Rattle.lr_forms.specs.declared.said.LineSaid.TheVariants as says
 use Rattle.lr_forms.specs.declared.set.Set.{Set}
 use Rattle.lr_conf.specs.declared.fields.Fields.{Fields}
 use Rattle.lr_conf.specs.Fields.{fields_of, last_or}
@@ -26,8 +26,8 @@ use Rattle.lr_include.specs.declared.visit.Visit.{Visit}
 use Rattle.lr_include.specs.declared.visit.Visit.TheVariants as visit
 use Rattle.lr_include.specs.Visits.{ShowsVisit, look_failed as unseen, nothing as saw_nothing, exposed as saw_exposed, directory as saw_dir, file as saw_file}
 use Rattle.lr_include.specs.declared.task.Ask.{Ask}
-use Rattle.lr_include.specs.declared.task.Piece.{Piece}
-use Rattle.lr_include.specs.declared.task.Piece.TheVariants as piece
+use Rattle.lr_include.specs.declared.task.ReadPiece.{ReadPiece}
+use Rattle.lr_include.specs.declared.task.ReadPiece.TheVariants as piece
 use Rattle.lr_include.specs.declared.task.Task.{Task}
 use Rattle.lr_include.specs.declared.task.Task.TheVariants as task
 use Rattle.lr_include.specs.Lines.{conf_kind}
@@ -92,7 +92,7 @@ body_total : (earlier es : List ConfLine) → total calls_within (body_of earlie
 body_total earlier [] = refl
 body_total earlier (e ∷ es) = let a = within_calls earlier e in let more = body_total (earlier ++ e ∷ []) es in omega (arith, a, more)
 
-said_calls : (file : Path) (at : ℕ) (v : Said) → given call_in (line_fault file at v) ≡ 0
+said_calls : (file : Path) (at : ℕ) (v : LineSaid) → given call_in (line_fault file at v) ≡ 0
 said_calls file at says.Unknown = refl
 said_calls file at (says.Bad k) = refl
 said_calls file at v = refl
@@ -234,7 +234,7 @@ meaning_calls es = (sides es []).0
 
 -- ---- stages
 
-abbrev calls_piece : Piece → ℕ
+abbrev calls_piece : ReadPiece → ℕ
 calls_piece (piece.Break f) = call_in f
 calls_piece p = 0
 
@@ -243,7 +243,7 @@ calls_task (task.Line p) = calls_piece p
 calls_task t = 0
 
 -- how many files it ends
-abbrev ends_piece : Piece → ℕ
+abbrev ends_piece : ReadPiece → ℕ
 ends_piece piece.End = 1
 ends_piece (piece.Break f) = 1
 ends_piece p = 0
@@ -257,7 +257,7 @@ record Sums (n : ℕ) (s : Stage) : Type 0 where
   calls : total calls_line s.lines + total calls_task s.todo ≡ n
   ends_are : total ends_task s.todo ≡ length s.inside
 
-lines_calls : (inside : List Path) (p : Piece) → ends_piece p ≤ length inside → total calls_line (lines_now inside p) ≡ calls_piece p
+lines_calls : (inside : List Path) (p : ReadPiece) → ends_piece p ≤ length inside → total calls_line (lines_now inside p) ≡ calls_piece p
 lines_calls [] (piece.Item i) le = refl
 lines_calls [] (piece.Fault at k) le = refl
 lines_calls [] piece.End le = refl
@@ -270,7 +270,7 @@ lines_calls (file ∷ files) (piece.Break f) le = omega arith
 one_less : (xs : List Path) → 1 ≤ length xs → length (take (length xs - 1) xs) + 1 ≡ length xs
 one_less xs le = let a = length-take (length xs - 1) xs in omega (arith, a, le)
 
-open_calls : (inside : List Path) (p : Piece) → ends_piece p ≤ length inside → length (open_behind inside p) + ends_piece p ≡ length inside
+open_calls : (inside : List Path) (p : ReadPiece) → ends_piece p ≤ length inside → length (open_behind inside p) + ends_piece p ≡ length inside
 open_calls inside (piece.Item i) le = omega arith
 open_calls inside (piece.Fault at k) le = omega arith
 open_calls inside piece.End le = one_less inside le
@@ -280,7 +280,7 @@ map_none : (w : Task → ℕ) → ((a : Ask) → w (task.Ask a) ≡ 0) → (file
 map_none w h file [] = refl
 map_none w h file (i ∷ is) = let a = h (record { file = file; line = i.line; path = i.path }) in let more = map_none w h file is in omega (arith, a, more)
 
-asks_none : (w : Task → ℕ) → ((a : Ask) → w (task.Ask a) ≡ 0) → (inside : List Path) (lines : List ConfLine) (p : Piece) → total w (asks_now inside lines p) ≡ 0
+asks_none : (w : Task → ℕ) → ((a : Ask) → w (task.Ask a) ≡ 0) → (inside : List Path) (lines : List ConfLine) (p : ReadPiece) → total w (asks_now inside lines p) ≡ 0
 asks_none w h [] lines p = refl
 asks_none w h (file ∷ files) lines (piece.Item i) = map_none w h (last_or [] (file ∷ files)) (asked_at lines (Read (last_or [] (file ∷ files)) i))
 asks_none w h (file ∷ files) lines (piece.Fault at k) = refl
@@ -310,7 +310,7 @@ settled_sums n s (task.Name a ∷ todo) e f = record { calls = e; ends_are = f }
 
 -- ---- visits
 
-option_none : (w : Task → ℕ) → ((p : Piece) → ends_piece p ≡ 0 → calls_piece p ≡ 0 → w (task.Line p) ≡ 0) → (ts : List Told) → total w (map task.Line (filter_map piece_of ts)) ≡ 0
+option_none : (w : Task → ℕ) → ((p : ReadPiece) → ends_piece p ≡ 0 → calls_piece p ≡ 0 → w (task.Line p) ≡ 0) → (ts : List Told) → total w (map task.Line (filter_map piece_of ts)) ≡ 0
 option_none w h [] = refl
 option_none w h (Ok i ∷ ts) = let a = h (piece.Item i) refl refl in let more = option_none w h ts in omega (arith, a, more)
 option_none w h (Err f ∷ ts) = by (conf_kind f.kind) (option_none w h ts)

@@ -36,8 +36,8 @@ use Rattle.lr_host.specs.Counted.{RoseBy}
 use Rattle.lr_include.specs.Allowed.{failed_in}
 use Rattle.lr_include.specs.declared.course.Course.{Course}
 use Rattle.lr_include.specs.declared.task.Ask.{Ask}
-use Rattle.lr_include.specs.declared.task.Piece.{Piece}
-use Rattle.lr_include.specs.declared.task.Piece.TheVariants as piece
+use Rattle.lr_include.specs.declared.task.ReadPiece.{ReadPiece}
+use Rattle.lr_include.specs.declared.task.ReadPiece.TheVariants as piece
 use Rattle.lr_include.specs.declared.task.Task.{Task}
 use Rattle.lr_include.specs.declared.task.Task.TheVariants as task
 use Rattle.lr_include.specs.Stages.{Stage, piece_of, line_tasks, ask_of, asked_at, lines_in, lines_now, open_behind, asks_in, asks_now, past_piece, before_asks, settled_from, settled_stage, is_shallow, room_for, telling, telling_exposed, name_task, name_tasks, behind_names, after_ask, after_name, IsTaboo, visited, at_visits, ShowsNext, ShowsVisits, begun, visits_mean, Reads}
@@ -111,11 +111,11 @@ on_top : (file : Path) (includes : List Include) (o : Option Include) (old new :
 on_top file includes o old new is e = ap reverse e ∙ subst (λ (xs : List Include). reverse (old ++ map (ask_of file) xs) ≡ map (ask_of file) xs ++ reverse old) (sym is) (one_on_top file o old)
 
 -- the file that is read now
-lines_of_open : (inside : List Path) (p : Piece) → ((inside ≡ []) → ⊥) → lines_now inside p ≡ lines_in (last_or [] inside) p
+lines_of_open : (inside : List Path) (p : ReadPiece) → ((inside ≡ []) → ⊥) → lines_now inside p ≡ lines_in (last_or [] inside) p
 lines_of_open [] p some = absurd (some refl)
 lines_of_open (f ∷ fs) p some = refl
 
-asks_of_open : (inside : List Path) (lines : List ConfLine) (p : Piece) → ((inside ≡ []) → ⊥) → asks_now inside lines p ≡ asks_in (last_or [] inside) lines p
+asks_of_open : (inside : List Path) (lines : List ConfLine) (p : ReadPiece) → ((inside ≡ []) → ⊥) → asks_now inside lines p ≡ asks_in (last_or [] inside) lines p
 asks_of_open [] lines p some = absurd (some refl)
 asks_of_open (f ∷ fs) lines p some = refl
 
@@ -129,7 +129,7 @@ some_file : (L : Layer) → 0 < length (entered L) → (entered L ≡ []) → �
 some_file L pos e = let none : length (entered L) ≡ 0 = ap length e in absurd (omega (arith, none, pos))
 
 -- it is enough to know it of the files that are entered
-by_entered : (old new : Course) (p : Piece) → ((lines : List ConfLine) → Knows old.layer old.faults.items lines (entered old.layer) → TookPiece old new p lines (entered old.layer)) → TakesPiece old new p
+by_entered : (old new : Course) (p : ReadPiece) → ((lines : List ConfLine) → Knows old.layer old.faults.items lines (entered old.layer) → TookPiece old new p lines (entered old.layer)) → TakesPiece old new p
 by_entered old new p f lines inside k =
     subst (λ (files : List Path). TookPiece old new p lines files) k.files (f lines (subst (λ (files : List Path). Knows old.layer old.faults.items lines files) (sym k.files) k))
 
@@ -266,20 +266,20 @@ are_asks : (file : Path) (includes : List Include) → (map (ask_of file) includ
 are_asks file [] = inl refl
 are_asks file (i ∷ is) = inr (record { file = file; line = i.line; path = i.path }, map (ask_of file) is, refl)
 
-asks_are : (inside : List Path) (lines : List ConfLine) (p : Piece) → (asks_now inside lines p ≡ []) ⊎ ((a : Ask) × (rest : List Task) × (asks_now inside lines p ≡ task.Ask a ∷ rest))
+asks_are : (inside : List Path) (lines : List ConfLine) (p : ReadPiece) → (asks_now inside lines p ≡ []) ⊎ ((a : Ask) × (rest : List Task) × (asks_now inside lines p ≡ task.Ask a ∷ rest))
 asks_are [] lines p = inl refl
 asks_are (f ∷ fs) lines (piece.Item i) = are_asks (last_or [] (f ∷ fs)) (asked_at lines (Read (last_or [] (f ∷ fs)) i))
 asks_are (f ∷ fs) lines (piece.Fault at kind) = inl refl
 asks_are (f ∷ fs) lines piece.End = inl refl
 asks_are (f ∷ fs) lines (piece.Break e) = inl refl
 
-behind_piece : (s : Stage) (p : Piece) → settled_stage (record s { todo = task.Line p ∷ s.todo }) ≡ settled_stage (record (past_piece s p) { todo = asks_now s.inside s.lines p ++ s.todo })
+behind_piece : (s : Stage) (p : ReadPiece) → settled_stage (record s { todo = task.Line p ∷ s.todo }) ≡ settled_stage (record (past_piece s p) { todo = asks_now s.inside s.lines p ++ s.todo })
 behind_piece s p =
     ap (before_asks (asks_now s.inside s.lines p) (record (past_piece s p) { todo = asks_now s.inside s.lines p ++ s.todo })) (settled_any (past_piece s p) (task.Line p ∷ s.todo) s.todo)
     ∙ piece_settled (past_piece s p) (asks_now s.inside s.lines p) s.todo (asks_are s.inside s.lines p)
 
 -- a piece was taken in
-pub line_turned : (old new : Course) (p : Piece) (s : Stage) (o : Option Journal) (b : ℕ) → TakesPiece old new p → StandsAt old s → GoesOn (record s { todo = task.Line p ∷ s.todo }) new o o b b
+pub line_turned : (old new : Course) (p : ReadPiece) (s : Stage) (o : Option Journal) (b : ℕ) → TakesPiece old new p → StandsAt old s → GoesOn (record s { todo = task.Line p ∷ s.todo }) new o o b b
 line_turned old new p s o b t st =
     let k = t s.lines s.inside st.knows in
     record {

@@ -15,7 +15,7 @@ use Rattle.lr_host.specs.declared.journal.Journal.{Journal}
 use Rattle.lr_host.specs.Told.{Left}
 use Rattle.lr_include.specs.declared.visit.Visit.{Visit}
 use Rattle.lr_include.specs.declared.course.Course.{Course}
-use Rattle.lr_include.specs.declared.task.Piece.{Piece}
+use Rattle.lr_include.specs.declared.task.ReadPiece.{ReadPiece}
 use Rattle.lr_host.specs.Counted.{RoseBy}
 use Rattle.lr_include.specs.Allowed.{failed_in}
 use Rattle.lr_include.specs.Stages.{Stage, ask_of, lines_now, open_behind, asks_now, at_visits, ShowsVisits}
@@ -36,14 +36,14 @@ pub record StandsAt (c : Course) (s : Stage) : Type 0 where
   pub todo : reverse c.todo.items ≡ s.todo
 
 -- A piece was taken in behind these lines.
-pub record TookPiece (old new : Course) (p : Piece) (lines : List ConfLine) (inside : List Path) : Type 0 where
+pub record TookPiece (old new : Course) (p : ReadPiece) (lines : List ConfLine) (inside : List Path) : Type 0 where
   pub knows : Knows new.layer new.faults.items (lines ++ lines_now inside p) (open_behind inside p)
   pub files : new.files ≡ old.files
   pub bytes : new.bytes ≡ old.bytes
   pub exposed : new.exposed ≡ old.exposed
   pub todo : reverse new.todo.items ≡ asks_now inside lines p ++ reverse old.todo.items
 
-abbrev pub TakesPiece : Course → Course → Piece → Type 0
+abbrev pub TakesPiece : Course → Course → ReadPiece → Type 0
 TakesPiece old new p = (lines : List ConfLine) (inside : List Path) → Knows old.layer old.faults.items lines inside
     → TookPiece old new p lines inside
 

@@ -23,8 +23,8 @@ use Rattle.lr_include.specs.declared.visit.Visit.{Visit}
 use Rattle.lr_include.specs.declared.visit.Visit.TheVariants as visit
 use Rattle.lr_include.specs.Visits.{ShowsVisit}
 use Rattle.lr_include.specs.declared.task.Ask.{Ask}
-use Rattle.lr_include.specs.declared.task.Piece.{Piece}
-use Rattle.lr_include.specs.declared.task.Piece.TheVariants as piece
+use Rattle.lr_include.specs.declared.task.ReadPiece.{ReadPiece}
+use Rattle.lr_include.specs.declared.task.ReadPiece.TheVariants as piece
 use Rattle.lr_include.specs.declared.task.Task.{Task}
 use Rattle.lr_include.specs.declared.task.Task.TheVariants as task
 use Rattle.lr_include.specs.Lines.{conf_kind}
@@ -42,19 +42,19 @@ pub record Stage : Type 0 where
 -- ---- lines
 
 -- the lines that a piece of a file gives
-abbrev pub lines_in : Path → Piece → List ConfLine
+abbrev pub lines_in : Path → ReadPiece → List ConfLine
 lines_in file (piece.Item i) = Read file i ∷ []
 lines_in file (piece.Fault at k) = Spoiled (conf file k at) ∷ []
 lines_in file piece.End = End file ∷ []
 lines_in file (piece.Break f) = Spoiled f ∷ Cut ∷ []
 
 -- those of the file that is read now; none where there is none, which doesn't come
-abbrev pub lines_now : List Path → Piece → List ConfLine
+abbrev pub lines_now : List Path → ReadPiece → List ConfLine
 lines_now [] p = []
 lines_now (file ∷ files) p = lines_in (last_or [] (file ∷ files)) p
 
 -- the files that are being read behind it
-abbrev pub open_behind : List Path → Piece → List Path
+abbrev pub open_behind : List Path → ReadPiece → List Path
 open_behind inside (piece.Item i) = inside
 open_behind inside (piece.Fault at k) = inside
 open_behind inside p = take (length inside - 1) inside
@@ -66,17 +66,17 @@ asked_at lines e = drop (length (asked false lines)) (asked false (lines ++ e �
 abbrev pub ask_of : Path → Include → Task
 ask_of file i = task.Ask (record { file = file; line = i.line; path = i.path })
 
-abbrev pub asks_in : Path → List ConfLine → Piece → List Task
+abbrev pub asks_in : Path → List ConfLine → ReadPiece → List Task
 asks_in file lines (piece.Item i) = map (ask_of file) (asked_at lines (Read file i))
 asks_in file lines p = []
 
 -- what is read in the place of the piece
-abbrev pub asks_now : List Path → List ConfLine → Piece → List Task
+abbrev pub asks_now : List Path → List ConfLine → ReadPiece → List Task
 asks_now [] lines p = []
 asks_now (file ∷ files) lines p = asks_in (last_or [] (file ∷ files)) lines p
 
 -- behind a piece of the file that is read now
-abbrev pub past_piece : Stage → Piece → Stage
+abbrev pub past_piece : Stage → ReadPiece → Stage
 past_piece s p = record s { lines = s.lines ++ lines_now s.inside p; inside = open_behind s.inside p }
 
 -- where something is asked for, what comes next waits
@@ -116,16 +116,16 @@ limit_kind s = if is_shallow s then kind.TooManyFiles else kind.TooDeep
 -- ---- what a visit gave
 
 -- the fault of a line; want of memory is none of these
-abbrev pub kind_piece : ℕ → Option ConfKind → Option Piece
+abbrev pub kind_piece : ℕ → Option ConfKind → Option ReadPiece
 kind_piece at None = None
 kind_piece at (Some k) = Some (piece.Fault at k)
 
-abbrev pub piece_of : Told → Option Piece
+abbrev pub piece_of : Told → Option ReadPiece
 piece_of (Ok i) = Some (piece.Item i)
 piece_of (Err f) = kind_piece f.line (conf_kind f.kind)
 
 -- the end of the file, or the place where its reading breaks off
-abbrev pub last_piece : Path → TextEnd → Piece
+abbrev pub last_piece : Path → TextEnd → ReadPiece
 last_piece file end.Whole = piece.End
 last_piece file end.TooMany = piece.Break (conf file kind.TooBig 0)
 last_piece file end.Failed = piece.Break (fault.Call call.Read file)

@@ -48,6 +48,6 @@ pub use laws::{
 };
 pub use part::TextEnd;
 pub use reading::Reading;
-pub use task::{Ask, Piece, Task};
+pub use task::{Ask, ReadPiece, Task};
 pub use text::{ReadStop, read_text};
 pub use visit::{Visit, visit_path};

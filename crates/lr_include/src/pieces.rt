@@ -6,19 +6,19 @@ ghost use Rattle.lr_include.specs.Stages.{piece_of, last_piece};
 
 use crate::kind::conf_kind;
 use crate::part::TextEnd;
-use crate::task::Piece;
+use crate::task::ReadPiece;
 use lr_lex::{Item, LexFault};
 use lr_rules::{CallKind, ConfKind, Fault, Memory, Path};
 use std::alloc::Global;
 
 /// The piece of an item or of the fault of a line.
-pub(crate) fn piece_of(told: Result<Item, LexFault>) -> Option<Piece>
+pub(crate) fn piece_of(told: Result<Item, LexFault>) -> Option<ReadPiece>
     ensures { result ≡ piece_of told }
 {
     match told {
-        Ok(item) => Some(Piece::Item(item)),
+        Ok(item) => Some(ReadPiece::Item(item)),
         Err(fault) => match conf_kind(fault.kind) {
-            Some(kind) => Some(Piece::Fault(fault.line, kind)),
+            Some(kind) => Some(ReadPiece::Fault(fault.line, kind)),
             None => None,
         },
     }
@@ -35,12 +35,12 @@ fn too_big(alloc: Global, file: &Path) -> Result<Fault, Memory>
 }
 
 /// The end of the file, or the place where its reading breaks off.
-pub(crate) fn last_piece(alloc: Global, file: &Path, how: TextEnd) -> Result<Piece, Memory>
+pub(crate) fn last_piece(alloc: Global, file: &Path, how: TextEnd) -> Result<ReadPiece, Memory>
     ensures { IfOk result (λ p. p ≡ last_piece file.now how) }
 {
     match how {
-        TextEnd::Whole => Ok(Piece::End),
-        TextEnd::TooMany => Ok(Piece::Break(too_big(alloc, file)?)),
-        TextEnd::Failed => Ok(Piece::Break(Fault::Call(CallKind::Read, file.copy(alloc)?))),
+        TextEnd::Whole => Ok(ReadPiece::End),
+        TextEnd::TooMany => Ok(ReadPiece::Break(too_big(alloc, file)?)),
+        TextEnd::Failed => Ok(ReadPiece::Break(Fault::Call(CallKind::Read, file.copy(alloc)?))),
     }
 }

@@ -3,11 +3,11 @@ ghost use Rattle.std.specs.Prelude.{◌≡◌, ◌<◌, ◌∷◌, ◌++◌, [],
 ghost use Rattle.lr_rules.specs.declared.fault.ConfKind.TheVariants as kinds;
 ghost use Rattle.lr_conf.specs.Meaning.{conf};
 ghost use Rattle.lr_conf.specs.Fold.{entered, file_of_layer};
-ghost use Rattle.lr_include.specs.declared.task.Piece.TheVariants as piece;
+ghost use Rattle.lr_include.specs.declared.task.ReadPiece.TheVariants as piece;
 ghost use Rattle.lr_include.specs.Course.{SameRest, CourseTells, TellsAnswer, TakesPiece, ClosesFile, ToldFault};
 
 use crate::course::Course;
-use crate::task::{Ask, Piece, Task};
+use crate::task::{Ask, ReadPiece, Task};
 use lr_conf::{Include, LayerStop};
 use lr_lex::Item;
 use lr_rules::{ConfKind, Fault, Memory};
@@ -126,20 +126,20 @@ impl Course {
         Ok(())
     }
 
-    fn take_open(&mut self, piece: Piece) -> Result<(), Memory>
+    fn take_open(&mut self, piece: ReadPiece) -> Result<(), Memory>
         requires { 0 < length (entered self.old.layer) }
         ensures { OnOk result (TakesPiece self.old self.new piece) }
     {
         match piece {
-            Piece::Item(item) => self.take_item(item),
-            Piece::Fault(line, kind) => self.take_fault(line, kind),
-            Piece::End => self.take_end(),
-            Piece::Break(fault) => self.take_break(fault),
+            ReadPiece::Item(item) => self.take_item(item),
+            ReadPiece::Fault(line, kind) => self.take_fault(line, kind),
+            ReadPiece::End => self.take_end(),
+            ReadPiece::Break(fault) => self.take_break(fault),
         }
     }
 
     /// Takes a piece of the file in that is read.
-    pub(crate) fn take_piece(&mut self, piece: Piece) -> Result<(), Memory>
+    pub(crate) fn take_piece(&mut self, piece: ReadPiece) -> Result<(), Memory>
         ensures { OnOk result (TakesPiece self.old self.new piece) }
     {
         if self.layer.depth() > 0 {

@@ -12,7 +12,7 @@ pub struct Ask {
 
 /// A piece of a file.
 #[derive(Drop)]
-pub enum Piece {
+pub enum ReadPiece {
     Item(Item),
     /// A line with a fault that its reading told.
     Fault(u32, ConfKind),
@@ -26,7 +26,7 @@ pub enum Piece {
 #[derive(Drop)]
 pub enum Task {
     /// A piece of the file that is read.
-    Line(Piece),
+    Line(ReadPiece),
     /// A path that is asked for.
     Ask(Ask),
     /// The path of a name in a directory.

@@ -22,7 +22,8 @@ pub fn put_first(buffer: &mut [u8]) -> usize
 pub fn add_line(table: &State, k: usize, buffer: &mut [u8], held: usize) -> usize
     requires in_range { k < length table.now }
     requires room { held + 8448 ≤ length buffer.old }
-    ensures line { (e : StateEntry) → slice_get table.now k ≡ Some e → take result buffer.new ≡ take held buffer.old ++ entry_line e }
+    ensures line { (e : StateEntry) → slice_get table.now k ≡ Some e
+        → take result buffer.new ≡ take held buffer.old ++ entry_line e }
     ensures same { length buffer.new ≡ length buffer.old }
     ensures bound { result ≤ length buffer.old }
 {

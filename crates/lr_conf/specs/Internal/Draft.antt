@@ -10,8 +10,8 @@ use Rattle.lr_rules.specs.declared.fault.Phase.{Phase}
 use Rattle.lr_rules.specs.declared.rule.Rule.{Rule}
 use Rattle.lr_conf.specs.declared.fields.Fields.{Fields}
 use Rattle.lr_forms.specs.declared.set.Set.TheVariants as set
-use Rattle.lr_forms.specs.declared.said.Said.{Said}
-use Rattle.lr_forms.specs.declared.said.Said.TheVariants as says
+use Rattle.lr_forms.specs.declared.said.LineSaid.{LineSaid}
+use Rattle.lr_forms.specs.declared.said.LineSaid.TheVariants as says
 use Rattle.lr_conf.specs.declared.place.Place.{Place}
 use Rattle.lr_conf.specs.declared.place.Place.TheVariants.{Outside, Good, Dropped}
 use Rattle.lr_conf.specs.declared.stop.Include.{Include}
@@ -49,7 +49,7 @@ abbrev pub without_names : State → State
 without_names s = record s { words = []; first = None }
 
 -- the state behind what a line says outside definitions, its brace aside
-abbrev pub spoken : State → ℕ → Said → State
+abbrev pub spoken : State → ℕ → LineSaid → State
 spoken s at (says.Names ws) = record s { words = s.words ++ ws; first = Some (or_line s.first at) }
 spoken s at says.Open = s
 spoken s at says.Unknown = s
@@ -85,7 +85,7 @@ abbrev pub scripted : State → Phase → List ℕ → Option ConfKind → State
 scripted s p text None = record s { fields = with_set s.fields (set.Script p text); scripts = s.scripts ++ p ∷ [] }
 scripted s p text (Some k) = record s { place = Dropped }
 
-abbrev pub with_said : State → Said → State
+abbrev pub with_said : State → LineSaid → State
 with_said s (says.Sets v) = record s { fields = with_set s.fields v }
 with_said s (says.OwnerPassed v) = record s { fields = with_set s.fields v }
 with_said s (says.Script p text stray) = scripted s p text (script_fault s.scripts p stray)
@@ -110,7 +110,7 @@ step Dropped s e = dropped s e
 
 -- ---- what a line gives
 
-abbrev pub said_inside : Path → ℕ → Said → Meaning
+abbrev pub said_inside : Path → ℕ → LineSaid → Meaning
 said_inside file at v =
     record { rules = []; notices = option_to_list (notice_of file at v); faults = option_to_list (line_fault file at v) }
 
@@ -218,7 +218,8 @@ TookIn old new file e (Err fault) = (lines : List ConfLine) → coming_from old 
 
 -- the file for which the answer asks is that of the line
 abbrev pub AsksIn : Draft → Draft → ConfLine → Result (Option Include) LayerStop → Type 0
-AsksIn old new e (Ok include) = (lines : List ConfLine) → asking_from old (e ∷ lines) ≡ option_to_list include ++ asking_from new lines
+AsksIn old new e (Ok include) =
+    (lines : List ConfLine) → asking_from old (e ∷ lines) ≡ option_to_list include ++ asking_from new lines
 AsksIn old new e (Err stop.Memory) = (lines : List ConfLine) → asking_from new lines ≡ asking_from old lines
 AsksIn old new e (Err fault) = (lines : List ConfLine) → asking_from old (e ∷ lines) ≡ include_of fault ++ asking_from new lines
 
@@ -325,14 +326,14 @@ Closes old new file (Err stop.Memory) = Unchanged old new
 Closes old new file (Err fault) = ⊥
 
 -- a line in a definition that doesn't end it was taken in
-pub record SaidInside (old : Draft) (new : Draft) (file : Path) (at : ℕ) (v : Said) (faults : List Fault) : Type 0 where
+pub record SaidInside (old : Draft) (new : Draft) (file : Path) (at : ℕ) (v : LineSaid) (faults : List Fault) : Type 0 where
   pub state : state_of new ≡ with_said (state_of old) v
   pub rules : new.rules.items ≡ old.rules.items
   pub notices : new.notices.items ≡ old.notices.items ++ option_to_list (notice_of file at (said_behind old.scripts.items v))
   pub faults_are : option_to_list (line_fault file at (said_behind old.scripts.items v)) ≡ faults
   pub table : SameTable old new
 
-abbrev pub SaysInside : Draft → Draft → Path → ℕ → Said → Result (Option Include) LayerStop → Type 0
+abbrev pub SaysInside : Draft → Draft → Path → ℕ → LineSaid → Result (Option Include) LayerStop → Type 0
 SaysInside old new file at v (Ok None) = SaidInside old new file at v []
 SaysInside old new file at v (Ok (Some include)) = ⊥
 SaysInside old new file at v (Err stop.Memory) = Unchanged old new
