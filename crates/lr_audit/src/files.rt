@@ -8,23 +8,8 @@ ghost use Rattle.lr_audit.specs.Files.{paths_of_names, file_path, list_fault, Ad
 
 use lr_family::{Listing, StandStop};
 use lr_host::{Host, Kind, Seen};
-use lr_rules::{CallKind, Fault, Memory, Path, PathFault, Text};
+use lr_rules::{CallKind, Fault, Memory, Path, Text};
 use std::alloc::Global;
-
-// Bytes that are no path are passed over: nothing has them on a disk.
-fn passed_over(fault: PathFault) -> Result<(), Memory>
-    ensures { OnOk result (fault ≢ PathFault.Memory) }
-{
-    match fault {
-        PathFault::Memory => Err(Memory),
-        PathFault::NotUtf8 => Ok(()),
-        PathFault::BadByte => Ok(()),
-        PathFault::TooLong => Ok(()),
-        PathFault::Relative => Ok(()),
-        PathFault::EmptyPart => Ok(()),
-        PathFault::DotPart => Ok(()),
-    }
-}
 
 // Adds the path of a name in the directory, where it is one.
 fn add_path(alloc: Global, paths: &mut Vec<Path>, dir: &Path, name: &Text) -> Result<(), Memory>
@@ -32,7 +17,7 @@ fn add_path(alloc: Global, paths: &mut Vec<Path>, dir: &Path, name: &Text) -> Re
 {
     match dir.join(alloc, name.bytes()) {
         Ok(path) => Ok(paths.push(path)?),
-        Err(fault) => passed_over(fault),
+        Err(fault) => fault.passed_over(),
     }
 }
 

@@ -1,28 +1,13 @@
 // The paths that one part of a word gives in a directory.
-ghost use Rattle.std.specs.Prelude.{◌≢◌, OnOk, IfOk};
+ghost use Rattle.std.specs.Prelude.{OnOk, IfOk};
 ghost use Rattle.lr_rules.specs.Match.{literal_path};
 ghost use Rattle.lr_glob.specs.Gathers.{Gathers, AddsPaths};
 ghost use Rattle.lr_glob.specs.Parts.{JoinOf, PickOf};
 
 use lr_match::matches;
-use lr_rules::{Memory, Path, PathFault, Text};
+use lr_rules::{Memory, Path, Text};
 use lr_words::literal;
 use std::alloc::Global;
-
-/// Bytes that are no path are passed over: nothing has them on a disk.
-pub(crate) fn passed_over(fault: PathFault) -> Result<(), Memory>
-    ensures { OnOk result (fault ≢ PathFault.Memory) }
-{
-    match fault {
-        PathFault::Memory => Err(Memory),
-        PathFault::NotUtf8 => Ok(()),
-        PathFault::BadByte => Ok(()),
-        PathFault::TooLong => Ok(()),
-        PathFault::Relative => Ok(()),
-        PathFault::EmptyPart => Ok(()),
-        PathFault::DotPart => Ok(()),
-    }
-}
 
 // Adds the path of this name in the directory, where that is a path.
 fn add_join(alloc: Global, dir: &Path, name: &[u8], into: &mut Vec<Path>) -> Result<(), Memory>
@@ -30,7 +15,7 @@ fn add_join(alloc: Global, dir: &Path, name: &[u8], into: &mut Vec<Path>) -> Res
 {
     match dir.join(alloc, name) {
         Ok(path) => Ok(into.push(path)?),
-        Err(fault) => passed_over(fault),
+        Err(fault) => fault.passed_over(),
     }
 }
 

@@ -13,7 +13,6 @@ ghost use Rattle.lr_glob.specs.Words.{WordGave, Halted, Comes, Stopped, NotSough
 
 use crate::found::{Found, GlobStop};
 use crate::lead::{lead, parts_of};
-use crate::picking::passed_over;
 use crate::sights::{look_at_each, whole_ones};
 use lr_host::{Host, Seen, put_in_order};
 use lr_rules::{CallKind, Memory, Path, PathFault, Text, is_absolute};
@@ -162,7 +161,7 @@ fn look_at_literal<H: Host>(alloc: Global, host: &mut H, path: Path) -> Result<V
 fn no_path(fault: PathFault) -> Result<Option<Path>, Memory>
     ensures { IfOk result (λ path. (path ≡ None) × (fault ≢ PathFault.Memory)) }
 {
-    passed_over(fault)?;
+    fault.passed_over()?;
     Ok(None)
 }
 

@@ -1,5 +1,5 @@
 // An absolute path: `/`, or parts that each stand behind one `/`.
-ghost use Rattle.std.specs.Prelude.{◌≡◌, ◌≤◌, ◌↔◌, [], ◌++◌, length, MatchResult, OnOk, IfOk, IsTrue, None, string_bytes};
+ghost use Rattle.std.specs.Prelude.{◌≡◌, ◌≢◌, ◌≤◌, ◌↔◌, [], ◌++◌, length, MatchResult, OnOk, IfOk, IsTrue, None, string_bytes};
 ghost use Rattle.std.specs.Str.{bytes_eq};
 ghost use Rattle.lr_rules.specs.Path.{path_fault, word_fault, cleaned, behind_slash, kept_parts, is_kept, joined, last_of};
 ghost use Rattle.lr_rules.specs.Path.{parent_of, last_start_of, IsRefusal};
@@ -33,6 +33,23 @@ pub enum PathFault {
     DotPart,
     #[error("Memory")]
     Memory,
+}
+
+impl PathFault {
+    /// Bytes that are no path are passed over, where nothing on a disk can have them; want of memory isn't.
+    pub fn passed_over(self) -> Result<(), Memory>
+        ensures { OnOk result (self ≢ PathFault.Memory) }
+    {
+        match self {
+            PathFault::Memory => Err(Memory),
+            PathFault::NotUtf8 => Ok(()),
+            PathFault::BadByte => Ok(()),
+            PathFault::TooLong => Ok(()),
+            PathFault::Relative => Ok(()),
+            PathFault::EmptyPart => Ok(()),
+            PathFault::DotPart => Ok(()),
+        }
+    }
 }
 
 /// An absolute path, in UTF-8, of at most 4,096 bytes and without newlines. Contracts see its bytes.
@@ -175,6 +192,19 @@ impl Path {
         }
     }
 
+    /// The path with these bytes behind it.
+    pub fn with_end(&self, alloc: Global, end: &[u8]) -> Result<Path, Memory>
+        requires { path_fault self.now ≡ None → path_fault (self.now ++ end.now) ≡ None }
+        ensures path { IfOk result (λ path. (path ≡ self.now ++ end.now) × (path_fault path ≡ None)) }
+        ensures known { path_fault self.now ≡ None }
+    {
+        let bytes = bytes_with_end(alloc, self.bytes(), end)?;
+        match Path::from_vec(bytes) {
+            Ok(path) => Ok(path),
+            Err(why) => Err(lacks_memory(why)),
+        }
+    }
+
     fn from_vec(bytes: Vec<u8>) -> Result<Path, PathFault>
         ensures { MatchResult result (λ path. (path ≡ bytes.items) × (path_fault path ≡ None))
             (IsRefusal (path_fault bytes.items)) }
@@ -211,6 +241,23 @@ impl Path {
     {
         self.text.as_bytes() == other.text.as_bytes()
     }
+}
+
+// The first bytes and the others behind them.
+fn bytes_with_end(alloc: Global, bytes: &[u8], end: &[u8]) -> Result<Vec<u8>, AllocError>
+    ensures { IfOk result (λ all. all.items ≡ bytes.now ++ end.now) }
+{
+    let mut all = bytes.to_vec(alloc)?;
+    all.extend_from_slice(end)?;
+    Ok(all)
+}
+
+// Of bytes that are a path a refusal is want of memory.
+fn lacks_memory(why: PathFault) -> Memory
+    requires { why ≡ PathFault.Memory }
+{
+    let _why = why;
+    Memory
 }
 
 // The text of a name in a directory.
