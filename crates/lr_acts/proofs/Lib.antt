@@ -7,5 +7,4 @@ mod Naming
 mod Parts
 mod Programs
 pub mod Taking
-pub mod Texts
 mod Unnaming

@@ -10,7 +10,7 @@ use Rattle.lr_host.proofs.Each.{each_none, each_one, each_maybe}
 use Rattle.lr_copy.proofs.EachOfBytes.{each_all, each_broke}
 use Rattle.lr_plan.specs.declared.step.Step.{Step}
 use Rattle.lr_plan.specs.declared.step.Step.TheVariants as step
-use Rattle.lr_plan.specs.Appending.{Appended, no_more, piece_more, AppendBroke, at_piece, in_piece, piece_on}
+use Rattle.lr_host.specs.Appending.{Appended, no_more, piece_more, AppendBroke, at_piece, in_piece, piece_on}
 use Rattle.lr_chain.specs.declared.directory.DirStop.TheVariants as unmade
 use Rattle.lr_plan.specs.Outcomes.{Succeeds, Fails, ProgramFailed, badly, not_run, maybe_run}
 

@@ -1,7 +1,7 @@
 -- What is read and appended, piece by piece.
-use Rattle.std.proofs.Common.{◌≡◌, refl, sym, ◌∙◌, ap, subst, ℕ, ◌+◌, ◌-◌, ◌≤◌, ◌<◌, arith, List, [], ◌∷◌, ◌++◌, take, drop, length, append_assoc, append-nil, Option}
+use Rattle.std.proofs.Common.{◌≡◌, refl, sym, ◌∙◌, ap, subst, ℕ, ◌+◌, ◌≤◌, ◌<◌, arith, List, [], ◌∷◌, ◌++◌, take, length, append_assoc, append-nil, Option}
 use Rattle.std.specs.Prelude.{filter}
-use Rattle.std.proofs.lemmas.List.{take-append-drop, take_all, drop_all, length-append, length-drop, drop-drop, length-take-le}
+use Rattle.std.proofs.lemmas.List.{length-append, length-take-le}
 use Rattle.std.proofs.lemmas.List.Elements.{filter-append}
 use Rattle.lr_rules.specs.declared.path.Path.{Path}
 use Rattle.lr_host.specs.declared.entry.Entry.{Entry}
@@ -10,48 +10,25 @@ use Rattle.lr_host.specs.declared.journal.Journal.{Journal}
 use Rattle.lr_host.specs.Reading.{text, AreJoined}
 use Rattle.lr_host.proofs.Reading.{text_both}
 use Rattle.lr_host.specs.Steps.{is_naming}
+use Rattle.lr_host.specs.Appending.{Appended, no_more, piece_more, AppendBroke}
 use Rattle.lr_host.specs.Told.{Left}
 use Rattle.lr_host.proofs.Left.{left_first, left_then, left_as}
 use Rattle.lr_copy.specs.declared.job.BytesStop.TheVariants as broke
-use Rattle.lr_copy.specs.Bytes.{Copying, none_read, read_more, took_more, appended, Takes, none_taken, piece_taken, TakesPart, TakesBroke, AllBytes, BytesBroke}
+use Rattle.lr_copy.specs.Bytes.{Copying, none_read, read_more, took_more, appended, AllBytes, BytesBroke}
 
--- ---- appends
+-- ---- what names nothing
 
--- they name nothing
 named_both : (xs ys : List Entry) → filter is_naming xs ≡ [] → filter is_naming ys ≡ [] → filter is_naming (xs ++ ys) ≡ []
 named_both xs ys a b = filter-append is_naming xs ys ∙ (ap (λ zs. zs ++ filter is_naming ys) a ∙ b)
-
-pub none_named : (to : Path) (owed left : List ℕ) (ts : List Entry) → Takes to owed left ts → filter is_naming ts ≡ []
-none_named to owed _ _ none_taken = refl
-none_named to owed left _ (piece_taken {ts = ts} piece _ t) = named_both ts (Appends to piece ∷ []) (none_named to owed (piece ++ left) ts t) refl
-
-pub rest_is : (at : ℕ) (xs : List ℕ) → take (length xs - at) (drop at xs) ≡ drop at xs
-rest_is at xs = let l : length (drop at xs) ≡ length xs - at = length-drop at xs in take_all (length xs - at) (drop at xs) (omega (arith, l))
-
--- one piece more
-pub piece_more : (to : Path) (bytes : List ℕ) (at count : ℕ) (ts us : List Entry) → Takes to bytes (drop at bytes) ts → us ≡ Appends to (take count (take (length bytes - at) (drop at bytes))) ∷ [] → Takes to bytes (drop (at + count) bytes) (ts ++ us)
-piece_more to bytes at count ts us t e =
-    let piece = take count (drop at bytes) in
-    let left = drop count (drop at bytes) in
-    let same : us ≡ Appends to piece ∷ [] = e ∙ ap (λ (xs : List ℕ). Appends to (take count xs) ∷ []) (rest_is at bytes) in
-    let more : Takes to bytes left (ts ++ Appends to piece ∷ []) = piece_taken piece left (subst (λ (xs : List ℕ). Takes to bytes xs ts) (sym (take-append-drop count (drop at bytes))) t) in
-    subst (λ (vs : List Entry). Takes to bytes (drop (at + count) bytes) (ts ++ vs)) (sym same) (subst (λ (xs : List ℕ). Takes to bytes xs (ts ++ Appends to piece ∷ [])) (drop-drop count at bytes) more)
-
--- all was taken
-pub all_taken : (to : Path) (bytes : List ℕ) (at : ℕ) (ts : List Entry) → length bytes ≤ at → Takes to bytes (drop at bytes) ts → Takes to bytes [] ts
-all_taken to bytes at ts le t = subst (λ (xs : List ℕ). Takes to bytes xs ts) (drop_all at bytes le) t
-
--- an append failed
-pub part_broke : (to : Path) (bytes : List ℕ) (at : ℕ) (ts us : List Entry) → Takes to bytes (drop at bytes) ts → TakesPart to (take (length bytes - at) (drop at bytes)) us → TakesBroke to bytes (ts ++ us)
-part_broke to bytes at ts us t h = (drop at bytes, record { front = ts; back = us; joined = refl; first = t; second = subst (λ (xs : List ℕ). TakesPart to xs us) (rest_is at bytes) h })
 
 -- ---- reads and appends
 
 -- appends behind a copy so far
-pub takes_on : (from to : Path) (bytes owed left : List ℕ) (ts us : List Entry) → Copying from to bytes owed ts → Takes to owed left us → Copying from to bytes left (ts ++ us)
-takes_on from to bytes owed _ ts _ c none_taken = subst (Copying from to bytes owed) (sym (append-nil ts)) c
-takes_on from to bytes owed left ts _ c (piece_taken {ts = us} piece _ t) =
-    subst (Copying from to bytes left) (append_assoc ts us (Appends to piece ∷ [])) (took_more piece left (takes_on from to bytes owed (piece ++ left) ts us c t))
+takes_on : (from to : Path) (bytes owed rest : List ℕ) (ts us : List Entry) → Copying from to bytes (owed ++ rest) ts → Appended to owed us → Copying from to bytes rest (ts ++ us)
+takes_on from to bytes _ rest ts _ c no_more = subst (Copying from to bytes rest) (sym (append-nil ts)) c
+takes_on from to bytes _ rest ts _ c (piece_more piece owed {ts = us} a) =
+    subst (Copying from to bytes rest) (append_assoc ts (Appends to piece ∷ []) us)
+    (takes_on from to bytes owed rest (ts ++ Appends to piece ∷ []) us (took_more piece (owed ++ rest) (subst (λ (xs : List ℕ). Copying from to bytes xs ts) (append_assoc piece owed rest) c)) a)
 
 -- so many bytes were read, and these of them are owed
 abbrev pub Owes : Path → Path → ℕ → List ℕ → List Entry → Type 0
@@ -74,27 +51,16 @@ owes_more from to count more into le small some l r = left_then l r (λ ts us h 
     at_end bytes us e is = is ∙ ap (λ (k : ℕ). Reads from k (take more into) ∷ []) e
 
 -- they were appended
-pub owes_none : (from to : Path) (count : ℕ) (piece : List ℕ) {o m n : Option Journal} → Left (Owes from to count piece) o m → Left (Takes to piece []) m n → Left (Owes from to count []) o n
-owes_none from to count piece l t = left_then l t (λ ts us h k. (h.0, h.1, takes_on from to h.0 piece [] ts us h.2 k))
+pub owes_none : (from to : Path) (count : ℕ) (piece : List ℕ) {o m n : Option Journal} → Left (Owes from to count piece) o m → Left (Appended to piece) m n → Left (Owes from to count []) o n
+owes_none from to count piece l t = left_then l t (λ ts us h k. (h.0, h.1, takes_on from to h.0 piece [] ts us (subst (λ (xs : List ℕ). Copying from to h.0 xs ts) (sym (append-nil piece)) h.2) k))
 
 -- a read failed
 pub read_broke : (from to : Path) (limit count : ℕ) {o m n : Option Journal} → count ≤ limit → Left (Owes from to count []) o m → Left (λ ts. ts ≡ []) m n → Left (BytesBroke from to limit broke.Read) o n
 read_broke from to limit count le l r = left_then l r (λ ts us h e. (h.0, subst (λ (k : ℕ). k ≤ limit) h.1 le, subst (λ (vs : List Entry). Copying from to h.0 [] (ts ++ vs)) (sym e) (subst (Copying from to h.0 []) (sym (append-nil ts)) h.2)))
 
 -- an append failed
-pub append_broke : (from to : Path) (limit count : ℕ) (piece : List ℕ) {o m n : Option Journal} → count ≤ limit → Left (Owes from to count piece) o m → Left (TakesBroke to piece) m n → Left (BytesBroke from to limit broke.Append) o n
-append_broke from to limit count piece le l t = left_then l t (λ ts us h k. (
-  h.0,
-  k.0,
-  subst (λ (n : ℕ). n ≤ limit) h.1 le,
-  record {
-    front = ts ++ k.1.front;
-    back = k.1.back;
-    joined = ap (λ (vs : List Entry). ts ++ vs) k.1.joined ∙ sym (append_assoc ts k.1.front k.1.back);
-    first = takes_on from to h.0 piece k.0 ts k.1.front h.2 k.1.first;
-    second = k.1.second;
-  },
-))
+pub append_broke : (from to : Path) (limit count : ℕ) (piece : List ℕ) {o m n : Option Journal} → count ≤ limit → Left (Owes from to count piece) o m → Left (AppendBroke to piece) m n → Left (BytesBroke from to limit broke.Append) o n
+append_broke from to limit count piece le l t = left_then l t (λ ts us h k. (h.0, piece, subst (λ (n : ℕ). n ≤ limit) h.1 le, record { front = ts; back = us; joined = refl; first = h.2; second = k }))
 
 -- more than the limit was read
 pub too_long : (from to : Path) (limit count : ℕ) (piece : List ℕ) {o n : Option Journal} → limit < count → Left (Owes from to count piece) o n → Left (BytesBroke from to limit broke.TooLong) o n

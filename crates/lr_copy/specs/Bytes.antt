@@ -1,9 +1,10 @@
 -- The bytes of one file that are read and go behind those of another.
-use Rattle.std.specs.Prelude.{◌≡◌, ◌≢◌, ◌⊎◌, ◌≤◌, ◌<◌, ℕ, List, [], ◌∷◌, ◌++◌, length, take}
+use Rattle.std.specs.Prelude.{◌≡◌, ◌≢◌, ◌≤◌, ◌<◌, ℕ, List, [], ◌∷◌, ◌++◌, length}
 use Rattle.lr_rules.specs.declared.path.Path.{Path}
 use Rattle.lr_host.specs.declared.entry.Entry.{Entry}
 use Rattle.lr_host.specs.declared.entry.Entry.TheVariants.{Reads, Appends}
 use Rattle.lr_host.specs.Told.{Then, Are, Counts, Rose}
+use Rattle.lr_host.specs.Appending.{AppendBroke}
 use Rattle.lr_copy.specs.declared.job.BytesStop.{BytesStop}
 use Rattle.lr_copy.specs.declared.job.BytesStop.TheVariants as broke
 
@@ -23,20 +24,6 @@ pub data Copying (from to : Path) : List ℕ → List ℕ → List Entry → Typ
   took_more : {bytes : List ℕ} {ts : List Entry} (piece owed : List ℕ) → Copying from to bytes (piece ++ owed) ts
       → Copying from to bytes owed (ts ++ Appends to piece ∷ [])
 
--- a first part of what was owed was appended, in pieces, and this is left of it
-pub data Takes (to : Path) (owed : List ℕ) : List ℕ → List Entry → Type 0 where
-  none_taken : Takes to owed owed []
-  piece_taken : {ts : List Entry} (piece left : List ℕ) → Takes to owed (piece ++ left) ts
-      → Takes to owed left (ts ++ Appends to piece ∷ [])
-
--- an append of these bytes failed: a first part of them stands, or nothing
-abbrev pub TakesPart : Path → List ℕ → List Entry → Type 0
-TakesPart to bytes ts = (ts ≡ []) ⊎ ((count : ℕ) × (count ≤ length bytes) × (ts ≡ Appends to (take count bytes) ∷ []))
-
--- appends of these bytes broke off
-abbrev pub TakesBroke : Path → List ℕ → List Entry → Type 0
-TakesBroke to owed ts = (left : List ℕ) × Then (Takes to owed left) (TakesPart to left) ts
-
 -- So many bytes of the one file were read, from its first to its end, where a read gave nothing, and just these were appended to
 -- the other; they aren't more than the limit.
 pub record AllBytes (from to : Path) (limit count : ℕ) (ts : List Entry) : Type 0 where
@@ -50,7 +37,7 @@ pub record AllBytes (from to : Path) (limit count : ℕ) (ts : List Entry) : Typ
 abbrev pub BytesBroke : Path → Path → ℕ → BytesStop → List Entry → Type 0
 BytesBroke from to limit broke.Read ts = (bytes : List ℕ) × (length bytes ≤ limit) × Copying from to bytes [] ts
 BytesBroke from to limit broke.Append ts = (bytes owed : List ℕ) × (length bytes ≤ limit)
-    × Then (Copying from to bytes owed) (TakesPart to owed) ts
+    × Then (Copying from to bytes owed) (AppendBroke to owed) ts
 BytesBroke from to limit broke.TooLong ts = (bytes owed : List ℕ) × (limit < length bytes) × Copying from to bytes owed ts
 
 -- A call fails only where faults rose.

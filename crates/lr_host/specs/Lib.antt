@@ -1,3 +1,4 @@
+pub mod Appending
 pub mod Below
 pub mod Counted
 pub mod Fits

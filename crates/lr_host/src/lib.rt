@@ -1,6 +1,7 @@
 //! The disk as contracts see it: its journal, and the calls of the tool.
 #![tactic(auto)]
 
+mod append;
 mod entry;
 mod host;
 mod journal;
@@ -9,6 +10,7 @@ mod ordered;
 mod sink;
 mod thing;
 
+pub use append::append_all;
 pub use entry::Entry;
 pub use host::{CallFault, Host, ListFault, RunFault};
 pub use journal::{Journal, OpenFile, Opening};

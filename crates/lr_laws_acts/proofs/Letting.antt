@@ -26,7 +26,7 @@ use Rattle.lr_plan.specs.declared.plan.SetPlan.{SetPlan}
 use Rattle.lr_plan.specs.declared.step.SetSteps.{SetSteps}
 use Rattle.lr_plan.specs.declared.step.Step.{Step}
 use Rattle.lr_plan.specs.declared.step.Step.TheVariants as step
-use Rattle.lr_plan.specs.Appending.{Appended, no_more, piece_more, AppendBroke, at_piece, in_piece, piece_on}
+use Rattle.lr_host.specs.Appending.{Appended, no_more, piece_more, AppendBroke, at_piece, in_piece, piece_on}
 use Rattle.lr_plan.specs.Course.{Part, Nothing, Course, Unbroken, Both, Every}
 use Rattle.lr_plan.specs.Cut.{CourseCut, ListCut, LogsCut, in_each, in_last, SetCut, in_first as in_first_cut, in_logs, SetsCut}
 use Rattle.lr_plan.specs.Done.{LogsThen, LogsDone, is_rotated, if_rotated, SetDone, broke_off, went_on, SetsDone}

@@ -14,7 +14,7 @@ use Rattle.lr_plan.specs.declared.step.SetSteps.{SetSteps}
 use Rattle.lr_plan.specs.declared.step.Step.{Step}
 use Rattle.lr_plan.specs.declared.step.Step.TheVariants.{Runs, Removes, MakesDir, Renames, Creates, Takes, Copies, Appends, SyncsFile, SyncsDir, Truncates, Rotated}
 use Rattle.lr_copy.specs.Bytes.{Copying, none_read, read_more, took_more, AllBytes}
-use Rattle.lr_plan.specs.Appending.{Appended, no_more, piece_more}
+use Rattle.lr_host.specs.Appending.{Appended, no_more, piece_more}
 use Rattle.lr_plan.specs.Course.{Course}
 use Rattle.lr_plan.specs.Done.{EachDone, LogsDone, SetDone, broke_off, went_on, SetsDone, if_rotated, is_rotated}
 use Rattle.lr_plan.specs.Outcomes.{Succeeds, marks_of}

@@ -1,4 +1,3 @@
-pub mod Appending
 pub mod Asked
 pub mod Asking
 pub mod Course

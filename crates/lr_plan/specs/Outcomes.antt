@@ -18,7 +18,7 @@ use Rattle.lr_chain.specs.Directory.{DirMade, DirStopped}
 use Rattle.lr_copy.specs.declared.job.BytesStop.{BytesStop}
 use Rattle.lr_copy.specs.declared.job.BytesStop.TheVariants as broke
 use Rattle.lr_copy.specs.Bytes.{AllBytes, BytesBroke}
-use Rattle.lr_plan.specs.Appending.{Appended, AppendBroke}
+use Rattle.lr_host.specs.Appending.{Appended, AppendBroke}
 use Rattle.lr_plan.specs.declared.mark.Mark.{Mark}
 use Rattle.lr_plan.specs.declared.mark.Mark.TheVariants as mark
 use Rattle.lr_plan.specs.declared.step.Step.{Step}

@@ -24,7 +24,7 @@ use Rattle.lr_laws.proofs.Whole.{whole_at}
 use Rattle.lr_due.specs.declared.answer.Due.{Due}
 use Rattle.lr_plan.specs.Asked.{Asked}
 use Rattle.lr_plan.specs.declared.looks.LogLook.{LogLook}
-use Rattle.lr_plan.specs.Appending.{Appended, no_more, piece_more}
+use Rattle.lr_host.specs.Appending.{Appended, no_more, piece_more}
 use Rattle.lr_plan.specs.declared.mark.Mark.{Mark}
 use Rattle.lr_plan.specs.Done.{SetsDone, rotated_logs}
 use Rattle.lr_plan.specs.Planned.{decision}

@@ -13,7 +13,7 @@ use Rattle.lr_host.proofs.Each.{each_append, each_as}
 use Rattle.lr_plan.specs.declared.mark.Mark.{Mark}
 use Rattle.lr_plan.specs.declared.step.Step.{Step}
 use Rattle.lr_plan.specs.declared.step.Step.TheVariants.{Removes, Renames, Takes, Appends, SyncsFile, SyncsDir}
-use Rattle.lr_plan.specs.Appending.{Appended, no_more, piece_more, AppendBroke, at_piece, in_piece, piece_on}
+use Rattle.lr_host.specs.Appending.{Appended, no_more, piece_more, AppendBroke, at_piece, in_piece, piece_on}
 use Rattle.lr_plan.specs.Course.{Course}
 use Rattle.lr_plan.specs.Outcomes.{Succeeds, Fails}
 use Rattle.lr_plan.specs.Steps.{state_steps, step_if}

@@ -7,6 +7,7 @@ use Rattle.lr_rules.specs.StatePath.{state_part}
 use Rattle.lr_host.specs.declared.entry.Entry.{Entry}
 use Rattle.lr_host.specs.declared.journal.Journal.{Journal}
 use Rattle.lr_host.specs.Told.{Left, Each, Counts, Onward}
+use Rattle.lr_host.proofs.Each.{each_append}
 use Rattle.lr_host.proofs.Left.{left_first, left_then, left_as}
 use Rattle.lr_plan.specs.declared.mark.Mark.{Mark}
 use Rattle.lr_plan.specs.declared.step.Step.{Step}
@@ -21,7 +22,6 @@ use Rattle.lr_acts.specs.Making.{FaultCause}
 use Rattle.lr_acts.proofs.Taking.{made_taken, failed_taken, same_taken, taken_of_more, taken_on}
 use Rattle.lr_writing.specs.Target.{StateTarget}
 use Rattle.lr_writing.specs.Writes.{IsShort, Writes, ComesTo, part_steps, name_steps}
-use Rattle.lr_writing.proofs.Buffers.{short_on}
 use Rattle.lr_writing.proofs.Causes.{caused_later}
 
 -- ---- one step
@@ -73,7 +73,7 @@ comes_nothing o a = record { entries = left_first (Writes [] []) o ((refl, refl,
 -- the ones were made, and then the others
 pub comes_on : (xs ys : List Step) (fs : List Fault) {o m n : Option Journal} {a b c : Counts} → ComesTo xs [] o m a b → ComesTo ys fs m n b c → ComesTo (xs ++ ys) fs o n a c
 comes_on xs ys fs {o = o} {n = n} {a = a} {b = b} {c = c} p q = record {
-  entries = left_then p.entries q.entries (λ ts us h k. (course_then xs ys [] [] [] fs ts us (refl, h.0) k.0, short_on ts us h.1 k.1));
+  entries = left_then p.entries q.entries (λ ts us h k. (course_then xs ys [] [] [] fs ts us (refl, h.0) k.0, each_append IsShort ts us h.1 k.1));
   caused = caused_later n fs a b c p.entries p.onward q.caused;
   taken = taken_on xs ys [] fs p.entries q.entries p.taken q.taken;
   onward = onward_on a b c p.onward q.onward;

@@ -22,7 +22,7 @@ use Rattle.lr_plan.specs.declared.step.Step.TheVariants.{Renames, Takes, Appends
 use Rattle.lr_plan.specs.Asking.{CanMake}
 use Rattle.lr_plan.specs.Steps.{state_steps}
 use Rattle.lr_writing.specs.Fits.{AreDirectories, StateHasPlace, CanBegin}
-use Rattle.lr_writing.proofs.Buffers.{none_named}
+use Rattle.lr_host.proofs.Appending.{none_named}
 
 -- ---- what entries do to facts of names
 

@@ -4,7 +4,7 @@ use Rattle.lr_rules.specs.declared.path.Path.{Path}
 use Rattle.lr_host.specs.declared.entry.Entry.{Entry}
 use Rattle.lr_host.specs.declared.journal.Journal.{Journal}
 use Rattle.lr_host.specs.Told.{Left, Each}
-use Rattle.lr_plan.specs.Appending.{Appended, AppendBroke}
+use Rattle.lr_host.specs.Appending.{Appended, AppendBroke}
 use Rattle.lr_writing.specs.Writes.{IsShort}
 
 -- the text was appended, in pieces that are no longer than the buffer; a first part of it was

@@ -7,7 +7,7 @@ use Rattle.lr_host.specs.declared.entry.Entry.{Entry}
 use Rattle.lr_host.specs.declared.entry.Entry.TheVariants.{Renames, Makes, Appends, Truncates, Unlinks, SyncsFile, SyncsDir}
 use Rattle.lr_host.specs.declared.entry.Entry.TheVariants.{MakesDir}
 use Rattle.lr_host.specs.Told.{Each, Maybe}
-use Rattle.lr_plan.specs.Appending.{Appended}
+use Rattle.lr_host.specs.Appending.{Appended}
 
 -- an entry of the tool that changes neither what the path names nor the bytes of a file at that path
 abbrev pub Spares : Path → Entry → Type 0

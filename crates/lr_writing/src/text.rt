@@ -6,28 +6,9 @@ ghost use Rattle.lr_state.specs.Written.{table_text};
 ghost use Rattle.lr_writing.specs.Buffer.{Wrote, WriteBroke, HoldsBack};
 
 use crate::buffer::{add_line, put_first};
-use lr_host::{CallFault, Host};
+use lr_host::{CallFault, Host, append_all};
 use lr_rules::Path;
 use lr_state::State;
-
-// Appends all of these bytes, piece by piece.
-fn append_all<H: Host>(host: &mut H, path: &Path, bytes: &[u8]) -> Result<(), CallFault>
-    requires file { Can (H.told host.old) (entry.Appends path.now []) }
-    requires short { length bytes.now ≤ 65_536 }
-    ensures told { OnOk result (Left (Wrote path.now bytes.now) (H.told host.old) (H.told host.new)) }
-    ensures broke { OnErr result (Left (WriteBroke path.now bytes.now) (H.told host.old) (H.told host.new)) }
-    ensures cause { OnErr result (Rose (H.counts host.old).faults (H.counts host.new).faults) }
-    ensures counts { Onward (H.counts host.old) (H.counts host.new) }
-{
-    let mut at = 0;
-    while at < bytes.len() {
-        let Ok(count) = host.append(path, &bytes[at..]) else {
-            return Err(CallFault::Failed);
-        };
-        at += count;
-    }
-    Ok(())
-}
 
 // Appends what the buffer holds where there is no room for one more line, of at most 8,448 bytes; the answer is how much
 // it holds then.

@@ -2,7 +2,8 @@ use Rattle.std.proofs.Common.{ap, arith, [], take, rules, ◌+◌}
 use Rattle.std.specs.Prelude.{filter}
 use Rattle.lr_host.specs.Steps.{is_naming}
 use Rattle.lr_host.proofs.Left.{can_stay}
-use Rattle.lr_copy.proofs.Pieces.{owes_first, owes_more, owes_none, read_broke, append_broke, too_long, copies_all, none_named}
+use Rattle.lr_host.proofs.Appending.{none_named}
+use Rattle.lr_copy.proofs.Pieces.{owes_first, owes_more, owes_none, read_broke, append_broke, too_long, copies_all}
 use Rattle.lr_copy.proofs.bytes.copy_bytes.Goals as goal
 
 pub loop-count-init : goal.loop-count-init
@@ -33,8 +34,8 @@ loop-count-preserved g c =
     let to = c.args.to.now in
     let piece = take c.in-Ok.count c.read.new.into in record {
       told = owes_none from to (c.loop-count.copied + c.in-Ok.count) piece (owes_more from to c.loop-count.copied c.in-Ok.count c.read.new.into c.in-Ok.ensures.bound (omega (arith, c.read.auto.into, c.loop-count.invariant.short)) (search rules) c.loop-count.invariant.told c.in-Ok.ensures.told) c.in-Ok-append_all.ensures.told;
-      read = can_stay (can_stay c.loop-count.invariant.read c.in-Ok.ensures.told (λ ts t. ap (filter is_naming) t)) c.in-Ok-append_all.ensures.told (λ ts t. none_named to piece [] ts t);
-      append = can_stay (can_stay c.loop-count.invariant.append c.in-Ok.ensures.told (λ ts t. ap (filter is_naming) t)) c.in-Ok-append_all.ensures.told (λ ts t. none_named to piece [] ts t);
+      read = can_stay (can_stay c.loop-count.invariant.read c.in-Ok.ensures.told (λ ts t. ap (filter is_naming) t)) c.in-Ok-append_all.ensures.told (λ ts t. none_named to piece ts t);
+      append = can_stay (can_stay c.loop-count.invariant.append c.in-Ok.ensures.told (λ ts t. ap (filter is_naming) t)) c.in-Ok-append_all.ensures.told (λ ts t. none_named to piece ts t);
       room = omega (arith, c.read.auto.into, c.loop-count.invariant.room);
       short = omega (arith, c.read.auto.into, c.loop-count.invariant.short);
       within = omega (arith, c.if-count-limit.false, c.loop-count.invariant.within);

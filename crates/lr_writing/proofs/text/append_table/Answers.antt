@@ -1,11 +1,13 @@
-use Rattle.std.proofs.Common.{◌≡◌, ◌<◌, ◌++◌, Err, sym, ◌∙◌, subst, take, drop, length, rules, arith}
+use Rattle.std.proofs.Common.{◌≡◌, ◌≤◌, ◌<◌, ◌++◌, Err, sym, ◌∙◌, subst, take, drop, length, rules, arith}
 use Rattle.std.specs.Prelude.{OnErr}
 use Rattle.std.specs.List.{flat_map}
+use Rattle.std.proofs.lemmas.List.{length-take}
+use Rattle.lr_host.specs.Appending.{Appended, AppendBroke}
 use Rattle.lr_host.specs.Told.{Left}
 use Rattle.lr_state.specs.Written.{entry_line, table_text}
 use Rattle.lr_state.proofs.Lengths.{entry-at}
 use Rattle.lr_writing.specs.Buffer.{Wrote, WriteBroke, HoldsBack}
-use Rattle.lr_writing.proofs.Buffers.{holds_all, holds_more, holds_on, holds_end, holds_broke, holds_stay, broke_more, if_ok, if_err}
+use Rattle.lr_writing.proofs.Buffers.{holds_all, holds_more, holds_on, holds_end, holds_broke, holds_stay, broke_more, wrote, write_broke, if_ok, if_err}
 use Rattle.lr_writing.proofs.Tables.{text_next, text_rest, text_all}
 use Rattle.lr_writing.proofs.text.append_table.Goals as goal
 
@@ -54,8 +56,9 @@ returns-clause-told g c =
     let table = c.args.table.now in
     let path = c.args.path.now in
     let end : at.k ≡ length table = omega arith in
-    if_ok c.append_all.result (Left (Wrote path (take at.held at.buffer)) (g.H.Host.told at.host) (g.H.Host.told c.append_all.new.host)) (Left (Wrote path (table_text table)) (g.H.Host.told c.args.host.now) (g.H.Host.told c.append_all.new.host))
-    (λ l. subst (λ xs. Left (Wrote path xs) (g.H.Host.told c.args.host.now) (g.H.Host.told c.append_all.new.host)) (text_all table at.k end) (holds_end path (table_text (take at.k table)) (take at.held at.buffer) at.invariant.told l))
+    let short : length (take at.held at.buffer) ≤ 65_536 = grind (arith, length-take) in
+    if_ok c.append_all.result (Left (Appended path (take at.held at.buffer)) (g.H.Host.told at.host) (g.H.Host.told c.append_all.new.host)) (Left (Wrote path (table_text table)) (g.H.Host.told c.args.host.now) (g.H.Host.told c.append_all.new.host))
+    (λ l. subst (λ xs. Left (Wrote path xs) (g.H.Host.told c.args.host.now) (g.H.Host.told c.append_all.new.host)) (text_all table at.k end) (holds_end path (table_text (take at.k table)) (take at.held at.buffer) at.invariant.told (wrote path (take at.held at.buffer) short l)))
     c.append_all.ensures.told
 
 pub returns-clause-broke : goal.returns-clause-broke
@@ -64,6 +67,7 @@ returns-clause-broke g c =
     let table = c.args.table.now in
     let path = c.args.path.now in
     let end : at.k ≡ length table = omega arith in
-    if_err c.append_all.result (Left (WriteBroke path (take at.held at.buffer)) (g.H.Host.told at.host) (g.H.Host.told c.append_all.new.host)) (Left (WriteBroke path (table_text table)) (g.H.Host.told c.args.host.now) (g.H.Host.told c.append_all.new.host))
-    (λ l. subst (λ xs. Left (WriteBroke path xs) (g.H.Host.told c.args.host.now) (g.H.Host.told c.append_all.new.host)) (text_all table at.k end) (holds_broke path (table_text (take at.k table)) (take at.held at.buffer) at.invariant.told l))
+    let short : length (take at.held at.buffer) ≤ 65_536 = grind (arith, length-take) in
+    if_err c.append_all.result (Left (AppendBroke path (take at.held at.buffer)) (g.H.Host.told at.host) (g.H.Host.told c.append_all.new.host)) (Left (WriteBroke path (table_text table)) (g.H.Host.told c.args.host.now) (g.H.Host.told c.append_all.new.host))
+    (λ l. subst (λ xs. Left (WriteBroke path xs) (g.H.Host.told c.args.host.now) (g.H.Host.told c.append_all.new.host)) (text_all table at.k end) (holds_broke path (table_text (take at.k table)) (take at.held at.buffer) at.invariant.told (write_broke path (take at.held at.buffer) short l)))
     c.append_all.ensures.broke

@@ -1,10 +1,10 @@
--- The entries of a text that is appended in pieces.
+-- The entries of bytes that are appended in pieces.
 use Rattle.std.specs.Prelude.{ℕ, List, [], ◌∷◌, ◌++◌}
 use Rattle.lr_rules.specs.declared.path.Path.{Path}
 use Rattle.lr_host.specs.declared.entry.Entry.{Entry}
 use Rattle.lr_host.specs.declared.entry.Entry.TheVariants as entry
 
--- this text was appended, in pieces
+-- these bytes were appended, in pieces
 pub data Appended (to : Path) : List ℕ → List Entry → Type 0 where
   no_more : Appended to [] []
   piece_more : (piece text : List ℕ) {ts : List Entry} → Appended to text ts
