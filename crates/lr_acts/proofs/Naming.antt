@@ -20,7 +20,7 @@ use Rattle.lr_plan.specs.Outcomes.{Succeeds, Fails, marks_of}
 use Rattle.lr_acts.specs.Making.{StepNames}
 use Rattle.lr_acts.specs.Named.{PathIsNamed, WasNamed, untold, at_moment, TakesName, KeepName, CreatesAt, OneCreates, LastsBehind, TellCreated, KeepsNames}
 use Rattle.lr_acts.proofs.Keeping.{KeepsName, writer_keeps, left_keeps}
-use Rattle.lr_acts.proofs.Unnaming.{unnames, OfUnnaming, each_made, each_failed}
+use Rattle.lr_acts.proofs.Unnaming.{unnames, OfUnnaming, left_made, left_failed}
 
 -- ---- a file that was made
 
@@ -57,10 +57,10 @@ keeps_own x (step.Renames from to) k = k
 keeps_own x _ k = tt
 
 succeeds_keep : (x : Path) (s : Step) (ts : List Entry) → (TakesName x s → ⊥) → Succeeds s ts → Each (KeepsName x) ts
-succeeds_keep x s ts k w = each_made (KeepsName x) (keeps_other x) s ts (keeps_own x s k) w
+succeeds_keep x s ts k w = left_made (KeepsName x) (keeps_other x) s ts (keeps_own x s k) w
 
 fails_keep : (x : Path) (s : Step) (f : Fault) (ts : List Entry) → (TakesName x s → ⊥) → Fails s f ts → Each (KeepsName x) ts
-fails_keep x s f ts k h = each_failed (KeepsName x) (keeps_other x) s f ts (keeps_own x s k) h
+fails_keep x s f ts k h = left_failed (KeepsName x) (keeps_other x) s f ts (keeps_own x s k) h
 
 -- ---- steps
 

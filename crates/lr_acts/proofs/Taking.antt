@@ -22,7 +22,7 @@ use Rattle.lr_acts.specs.Making.{FaultCause}
 use Rattle.lr_acts.specs.Named.{PathIsNamed, WasNamed, untold, at_moment}
 use Rattle.lr_acts.specs.Taken.{SparesPath, WasTaken, no_journal, at_last, TakesAt, OneTakes, RemovesAt, NoneRemoves, LastTaken, TakenOnly}
 use Rattle.lr_acts.proofs.Naming.{was_wider}
-use Rattle.lr_acts.proofs.Unnaming.{unnames, OfUnnaming, each_made, each_failed}
+use Rattle.lr_acts.proofs.Unnaming.{unnames, OfUnnaming, left_made, left_failed}
 
 -- ---- at a moment
 
@@ -84,7 +84,7 @@ made_taken s left = record {
   taken = λ x l i. absurd i;
   named = λ x i. absurd i;
   planned = λ x i. absurd i;
-  spared = λ x k. left_as left (λ ts w. each_made (SparesPath x) (spares_other x) s ts (spares_own x s k.0) w);
+  spared = λ x k. left_as left (λ ts w. left_made (SparesPath x) (spares_other x) s ts (spares_own x s k.0) w);
 }
 
 pub failed_taken : (s : Step) (f : Fault) {o n : Option Journal} (a b : Counts) → Left (Fails s f) o n → FaultCause f a b o n → TakenOnly (s ∷ []) (f ∷ []) o n
@@ -92,7 +92,7 @@ failed_taken s f {o} {n} a b left cause = record {
   taken = λ x l i. was x i;
   named = λ x i. was_of x (was x i);
   planned = λ x i. left_as left (λ ts h. inl (taker x s f ts (same x i) h));
-  spared = λ x k. left_as left (λ ts h. each_failed (SparesPath x) (spares_other x) s f ts (spares_own x s k.0) h);
+  spared = λ x k. left_as left (λ ts h. left_failed (SparesPath x) (spares_other x) s f ts (spares_own x s k.0) h);
 }
   where
     same : (x : Path) → IsIn (fault.Taken x) (f ∷ []) → f ≡ fault.Taken x

@@ -17,20 +17,18 @@ use Rattle.lr_host.proofs.Each.{each_last}
 use Rattle.lr_scripts.specs.declared.command.Command.{Command}
 use Rattle.lr_scripts.specs.declared.removal.Removal.{Removal}
 use Rattle.lr_chain.specs.declared.ready.Move.{Move}
-use Rattle.lr_chain.specs.declared.directory.DirStop.TheVariants as unmade
 use Rattle.lr_copy.specs.declared.job.Job.{Job}
-use Rattle.lr_copy.proofs.EachOfBytes.{each_all, each_broke}
 use Rattle.lr_plan.specs.declared.mark.Mark.{Mark}
 use Rattle.lr_plan.specs.declared.plan.LogPlan.{LogPlan}
 use Rattle.lr_plan.specs.declared.plan.SetPlan.{SetPlan}
 use Rattle.lr_plan.specs.declared.step.SetSteps.{SetSteps}
 use Rattle.lr_plan.specs.declared.step.Step.{Step}
 use Rattle.lr_plan.specs.declared.step.Step.TheVariants as step
-use Rattle.lr_host.specs.Appending.{Appended, no_more, piece_more, AppendBroke, at_piece, in_piece, piece_on}
 use Rattle.lr_plan.specs.Course.{Part, Nothing, Course, Unbroken, Both, Every}
 use Rattle.lr_plan.specs.Cut.{CourseCut, ListCut, LogsCut, in_each, in_last, SetCut, in_first as in_first_cut, in_logs, SetsCut}
 use Rattle.lr_plan.specs.Done.{LogsThen, LogsDone, is_rotated, if_rotated, SetDone, broke_off, went_on, SetsDone}
-use Rattle.lr_plan.specs.Outcomes.{Succeeds, Fails, badly, not_run, maybe_run}
+use Rattle.lr_plan.specs.Outcomes.{Succeeds, Fails}
+use Rattle.lr_plan.proofs.Leaving.{OfEach, each_made, each_failed}
 use Rattle.lr_plan.specs.Steps.{program, removal, removals, directory, move, step_if, copy, transfer, anew, leaves_path, made_anew, finishing, rotation_of, retirement_of, steps_of_log, shared_steps, by_logs, steps_of_set, state_steps}
 use Rattle.lr_laws_acts.specs.LetGo.{CopiedFrom, UnlinksCopied, CopyStepsFrom, RemoveCopied, IsLettingSet, LetGoCopied, AreElsewhere, MayLetGo, MayAllLetGo}
 use Rattle.lr_laws_acts.specs.Steps.{named_steps}
@@ -56,24 +54,6 @@ module _ (x : Path) where
   abbrev N : Entry → Type 0
   N e = Spares x e
 
-  none_at_all : (ts : List Entry) → ts ≡ [] → Each N ts
-  none_at_all ts is = subst (Each N) (sym is) tt
-
-  one_none : (e : Entry) (ts : List Entry) → N e → ts ≡ e ∷ [] → Each N ts
-  one_none e ts i is = subst (Each N) (sym is) (i, tt)
-
-  maybe_none : (e : Entry) (ts : List Entry) → N e → (ts ≡ []) ⊎ (ts ≡ e ∷ []) → Each N ts
-  maybe_none e ts i h = ⊎_elim (λ none. none_at_all ts none) (λ one. one_none e ts i one) h
-
-  appended_none : (to : Path) (text : List ℕ) (ts : List Entry) → Appended to text ts → Each N ts
-  appended_none to _ _ no_more = tt
-  appended_none to _ _ (piece_more piece text {ts = ts} a) = (tt, appended_none to text ts a)
-
-  append_broke_none : (to : Path) (text : List ℕ) (ts : List Entry) → AppendBroke to text ts → Each N ts
-  append_broke_none to _ _ (at_piece text) = tt
-  append_broke_none to _ _ (in_piece piece text) = (tt, tt)
-  append_broke_none to _ _ (piece_on piece text {ts = ts} b) = (tt, append_broke_none to text ts b)
-
   -- ---- one step
 
   -- the step removes no path
@@ -81,37 +61,19 @@ module _ (x : Path) where
   NoRemoval (step.Removes path) = ⊥
   NoRemoval _ = Unit {0}
 
-  made_none : (s : Step) (ts : List Entry) → NoRemoval s → Succeeds s ts → Each N ts
-  made_none (step.Runs phase on command) ts i w = one_none _ ts tt w
-  made_none (step.Removes path) ts i w = absurd i
-  made_none (step.MakesDir path mode) ts i w = ⊎_elim (λ one. one_none (entry.MakesDir path mode) ts tt one) (λ s. one_none (entry.Look path s.seen) ts tt s.look) w
-  made_none (step.Renames from to) ts i w = one_none (entry.Renames from to) ts tt w
-  made_none (step.Creates path mode) ts i w = maybe_none (entry.Makes path mode) ts tt w
-  made_none (step.Takes path mode) ts i w = one_none (entry.Makes path mode) ts tt w
-  made_none (step.Copies from to limit) ts i w = each_all N from to (λ k piece short. tt) (λ piece. tt) limit w.0 ts w.1
-  made_none (step.Appends path text) ts i w = appended_none path text ts w
-  made_none (step.SyncsFile path) ts i w = one_none (entry.SyncsFile path) ts tt w
-  made_none (step.SyncsDir path) ts i w = one_none (entry.SyncsDir path) ts tt w
-  made_none (step.Truncates path) ts i w = one_none (entry.Truncates path) ts tt w
-  made_none (step.Rotated log) ts i w = none_at_all ts w
-
-  failed_none : (s : Step) (f : Fault) (ts : List Entry) → NoRemoval s → Fails s f ts → Each N ts
-  failed_none (step.Runs phase on command) f ts i (badly end ne is one) = one_none _ ts tt one
-  failed_none (step.Runs phase on command) f ts i (not_run is none) = none_at_all ts none
-  failed_none (step.Runs phase on command) f ts i (maybe_run end is one) = one_none _ ts tt one
-  failed_none (step.Removes path) f ts i h = absurd i
-  failed_none (step.MakesDir path mode) f ts i (unmade.Make, is, made) = maybe_none (entry.MakesDir path mode) ts tt made
-  failed_none (step.MakesDir path mode) f ts i (unmade.Look, is, none) = none_at_all ts none
-  failed_none (step.MakesDir path mode) f ts i (unmade.NotDir, is, s) = one_none (entry.Look path s.seen) ts tt s.look
-  failed_none (step.Renames from to) f ts i h = maybe_none (entry.Renames from to) ts tt h.1
-  failed_none (step.Creates path mode) f ts i h = maybe_none (entry.Makes path mode) ts tt h.1
-  failed_none (step.Takes path mode) f ts i h = ⊎_elim (λ c. maybe_none (entry.Makes path mode) ts tt c.1) (λ t. none_at_all ts t.1) h
-  failed_none (step.Copies from to limit) f ts i h = each_broke N from to (λ k piece short. tt) (λ piece. tt) limit h.0 ts h.2
-  failed_none (step.Appends path text) f ts i h = append_broke_none path text ts h.1
-  failed_none (step.SyncsFile path) f ts i h = maybe_none (entry.SyncsFile path) ts tt h.1
-  failed_none (step.SyncsDir path) f ts i h = maybe_none (entry.SyncsDir path) ts tt h.1
-  failed_none (step.Truncates path) f ts i h = maybe_none (entry.Truncates path) ts tt h.1
-  failed_none (step.Rotated log) f ts i h = absurd h
+  no_removal : (s : Step) → NoRemoval s → OfEach N s
+  no_removal (step.Runs phase on command) i = λ end. tt
+  no_removal (step.Removes path) i = absurd i
+  no_removal (step.MakesDir path mode) i = (tt, λ seen. tt)
+  no_removal (step.Renames from to) i = tt
+  no_removal (step.Creates path mode) i = tt
+  no_removal (step.Takes path mode) i = tt
+  no_removal (step.Copies from to limit) i = (λ place piece short. tt, λ piece. tt)
+  no_removal (step.Appends path text) i = λ piece. tt
+  no_removal (step.SyncsFile path) i = tt
+  no_removal (step.SyncsDir path) i = tt
+  no_removal (step.Truncates path) i = tt
+  no_removal (step.Rotated log) i = tt
 
   -- the entries unlink the path: so the step removes it, and nothing stands before that
   abbrev IsLetBy : Step → List Entry → Type 0
@@ -128,11 +90,11 @@ module _ (x : Path) where
 
   made_let : (s : Step) (before after ts : List Entry) → Succeeds s ts → ts ≡ before ++ (entry.Unlinks x ∷ after) → IsLetBy s before
   made_let (step.Removes path) before after ts w is = is_let path before after ts w is
-  made_let s before after ts w is = absurd (not_let before after ts (made_none s ts tt w) is)
+  made_let s before after ts w is = absurd (not_let before after ts (each_made N s ts (no_removal s tt) w) is)
 
   failed_let : (s : Step) (f : Fault) (before after ts : List Entry) → Fails s f ts → ts ≡ before ++ (entry.Unlinks x ∷ after) → IsLetBy s before
   failed_let (step.Removes path) f before after ts h is = ⊎_elim (λ none. absurd (not_in_none (entry.Unlinks x) before after (sym none ∙ is))) (λ one. is_let path before after ts one is) h.1
-  failed_let s f before after ts h is = absurd (not_let before after ts (failed_none s f ts tt h) is)
+  failed_let s f before after ts h is = absurd (not_let before after ts (each_failed N s f ts (no_removal s tt) h) is)
 
   -- ---- many
 

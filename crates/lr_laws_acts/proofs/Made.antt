@@ -9,74 +9,34 @@ use Rattle.lr_host.proofs.Each.{each_last}
 use Rattle.lr_copy.specs.declared.job.Job.{Job}
 use Rattle.lr_copy.specs.Copying.{clearing}
 use Rattle.lr_copy.specs.Stops.{EmptiesNone}
-use Rattle.lr_copy.proofs.EachOfBytes.{each_all, each_broke}
 use Rattle.lr_laws_family.specs.Whole.{Named}
 use Rattle.lr_plan.specs.declared.mark.Mark.{Mark}
 use Rattle.lr_plan.specs.declared.step.Step.{Step}
 use Rattle.lr_plan.specs.declared.step.Step.TheVariants as step
-use Rattle.lr_host.specs.Appending.{Appended, no_more, piece_more, AppendBroke, at_piece, in_piece, piece_on}
 use Rattle.lr_plan.specs.Course.{Course}
-use Rattle.lr_chain.specs.declared.directory.DirStop.TheVariants as unmade
-use Rattle.lr_plan.specs.Outcomes.{Succeeds, Fails, badly, not_run, maybe_run}
+use Rattle.lr_plan.specs.Outcomes.{Succeeds, Fails}
+use Rattle.lr_plan.proofs.Leaving.{OfEach, each_made, each_failed}
 use Rattle.lr_plan.specs.Steps.{step_if}
 use Rattle.lr_laws_acts.specs.Steps.{named_steps}
 use Rattle.lr_laws_acts.proofs.Lists.{Stands, in_first, in_second, stands, not_in_none, only_one}
 use Rattle.lr_laws_acts.proofs.Steps.{IsNoCut}
 
--- ---- entries that empty none
-
-none_at_all : (ts : List Entry) → ts ≡ [] → Each EmptiesNone ts
-none_at_all ts is = subst (Each EmptiesNone) (sym is) tt
-
-one_none : (e : Entry) (ts : List Entry) → EmptiesNone e → ts ≡ e ∷ [] → Each EmptiesNone ts
-one_none e ts i is = subst (Each EmptiesNone) (sym is) (i, tt)
-
-maybe_none : (e : Entry) (ts : List Entry) → EmptiesNone e → (ts ≡ []) ⊎ (ts ≡ e ∷ []) → Each EmptiesNone ts
-maybe_none e ts i h = ⊎_elim (λ none. none_at_all ts none) (λ one. one_none e ts i one) h
-
-appended_none : (to : Path) (text : List ℕ) (ts : List Entry) → Appended to text ts → Each EmptiesNone ts
-appended_none to _ _ no_more = tt
-appended_none to _ _ (piece_more piece text {ts = ts} a) = (tt, appended_none to text ts a)
-
-append_broke_none : (to : Path) (text : List ℕ) (ts : List Entry) → AppendBroke to text ts → Each EmptiesNone ts
-append_broke_none to _ _ (at_piece text) = tt
-append_broke_none to _ _ (in_piece piece text) = (tt, tt)
-append_broke_none to _ _ (piece_on piece text {ts = ts} b) = (tt, append_broke_none to text ts b)
-
 -- ---- one step
 
 -- any other step than a truncation empties none
-made_none : (s : Step) (ts : List Entry) → IsNoCut s → Succeeds s ts → Each EmptiesNone ts
-made_none (step.Runs phase on command) ts i w = one_none _ ts tt w
-made_none (step.Removes path) ts i w = one_none (entry.Unlinks path) ts tt w
-made_none (step.MakesDir path mode) ts i w = ⊎_elim (λ one. one_none (entry.MakesDir path mode) ts tt one) (λ s. one_none (entry.Look path s.seen) ts tt s.look) w
-made_none (step.Renames from to) ts i w = one_none (entry.Renames from to) ts tt w
-made_none (step.Creates path mode) ts i w = maybe_none (entry.Makes path mode) ts tt w
-made_none (step.Takes path mode) ts i w = one_none (entry.Makes path mode) ts tt w
-made_none (step.Copies from to limit) ts i w = each_all EmptiesNone from to (λ k piece short. tt) (λ piece. tt) limit w.0 ts w.1
-made_none (step.Appends path text) ts i w = appended_none path text ts w
-made_none (step.SyncsFile path) ts i w = one_none (entry.SyncsFile path) ts tt w
-made_none (step.SyncsDir path) ts i w = one_none (entry.SyncsDir path) ts tt w
-made_none (step.Truncates path) ts i w = absurd i
-made_none (step.Rotated log) ts i w = none_at_all ts w
-
-failed_none : (s : Step) (f : Fault) (ts : List Entry) → IsNoCut s → Fails s f ts → Each EmptiesNone ts
-failed_none (step.Runs phase on command) f ts i (badly end ne is one) = one_none _ ts tt one
-failed_none (step.Runs phase on command) f ts i (not_run is none) = none_at_all ts none
-failed_none (step.Runs phase on command) f ts i (maybe_run end is one) = one_none _ ts tt one
-failed_none (step.Removes path) f ts i h = maybe_none (entry.Unlinks path) ts tt h.1
-failed_none (step.MakesDir path mode) f ts i (unmade.Make, is, made) = maybe_none (entry.MakesDir path mode) ts tt made
-failed_none (step.MakesDir path mode) f ts i (unmade.Look, is, none) = none_at_all ts none
-failed_none (step.MakesDir path mode) f ts i (unmade.NotDir, is, s) = one_none (entry.Look path s.seen) ts tt s.look
-failed_none (step.Renames from to) f ts i h = maybe_none (entry.Renames from to) ts tt h.1
-failed_none (step.Creates path mode) f ts i h = maybe_none (entry.Makes path mode) ts tt h.1
-failed_none (step.Takes path mode) f ts i h = ⊎_elim (λ c. maybe_none (entry.Makes path mode) ts tt c.1) (λ t. none_at_all ts t.1) h
-failed_none (step.Copies from to limit) f ts i h = each_broke EmptiesNone from to (λ k piece short. tt) (λ piece. tt) limit h.0 ts h.2
-failed_none (step.Appends path text) f ts i h = append_broke_none path text ts h.1
-failed_none (step.SyncsFile path) f ts i h = maybe_none (entry.SyncsFile path) ts tt h.1
-failed_none (step.SyncsDir path) f ts i h = maybe_none (entry.SyncsDir path) ts tt h.1
-failed_none (step.Truncates path) f ts i h = absurd i
-failed_none (step.Rotated log) f ts i h = absurd h
+no_cut : (s : Step) → IsNoCut s → OfEach EmptiesNone s
+no_cut (step.Runs phase on command) i = λ end. tt
+no_cut (step.Removes path) i = tt
+no_cut (step.MakesDir path mode) i = (tt, λ seen. tt)
+no_cut (step.Renames from to) i = tt
+no_cut (step.Creates path mode) i = tt
+no_cut (step.Takes path mode) i = tt
+no_cut (step.Copies from to limit) i = (λ place piece short. tt, λ piece. tt)
+no_cut (step.Appends path text) i = λ piece. tt
+no_cut (step.SyncsFile path) i = tt
+no_cut (step.SyncsDir path) i = tt
+no_cut (step.Truncates path) i = absurd i
+no_cut (step.Rotated log) i = tt
 
 -- the entries have a truncation of the log: so the step is that, and nothing stands before it
 abbrev IsCutOf : Path → Step → List Entry → Type 0
@@ -93,11 +53,11 @@ is_cut path log before after ts one is = let k = only_one (entry.Truncates log) 
 
 made_cut : (s : Step) (log : Path) (before after ts : List Entry) → Succeeds s ts → ts ≡ before ++ (entry.Truncates log ∷ after) → IsCutOf log s before
 made_cut (step.Truncates path) log before after ts w is = is_cut path log before after ts w is
-made_cut s log before after ts w is = absurd (not_cut log before after ts (made_none s ts tt w) is)
+made_cut s log before after ts w is = absurd (not_cut log before after ts (each_made EmptiesNone s ts (no_cut s tt) w) is)
 
 failed_cut : (s : Step) (f : Fault) (log : Path) (before after ts : List Entry) → Fails s f ts → ts ≡ before ++ (entry.Truncates log ∷ after) → IsCutOf log s before
 failed_cut (step.Truncates path) f log before after ts h is = ⊎_elim (λ none. absurd (not_in_none (entry.Truncates log) before after (sym none ∙ is))) (λ one. is_cut path log before after ts one is) h.1
-failed_cut s f log before after ts h is = absurd (not_cut log before after ts (failed_none s f ts tt h) is)
+failed_cut s f log before after ts h is = absurd (not_cut log before after ts (each_failed EmptiesNone s f ts (no_cut s tt) h) is)
 
 -- ---- many
 

@@ -1,5 +1,5 @@
 -- The acts of steps that were made, one behind another.
-use Rattle.std.proofs.Common.{◌≡◌, ◌⊎◌, inl, inr, ℕ, Bool, true, false, cond, refl, sym, ◌∙◌, ap, subst, List, [], ◌∷◌, ◌++◌, append_assoc, append-nil, length}
+use Rattle.std.proofs.Common.{◌≡◌, ◌⊎◌, inl, inr, ℕ, Bool, true, false, cond, refl, sym, ◌∙◌, ap, subst, List, [], ◌∷◌, ◌++◌, append_assoc}
 use Rattle.std.specs.Prelude.{filter}
 use Rattle.std.specs.List.{flat_map, list_any}
 use Rattle.std.proofs.lemmas.Grind.{flat_map-append}
@@ -7,14 +7,16 @@ use Rattle.std.proofs.lemmas.List.Elements.{filter-append}
 use Rattle.lr_rules.specs.declared.fault.Fault.{Fault}
 use Rattle.lr_rules.specs.declared.path.Path.{Path}
 use Rattle.lr_host.specs.declared.entry.Entry.{Entry}
-use Rattle.lr_host.specs.declared.entry.Entry.TheVariants as entry
 use Rattle.lr_acts.specs.Making.{all_of_each, all_of_set, all_of_sets}
 use Rattle.lr_plan.specs.declared.mark.Mark.{Mark}
 use Rattle.lr_plan.specs.declared.step.SetSteps.{SetSteps}
 use Rattle.lr_plan.specs.declared.step.Step.{Step}
 use Rattle.lr_plan.specs.declared.step.Step.TheVariants.{Runs, Removes, MakesDir, Renames, Creates, Takes, Copies, Appends, SyncsFile, SyncsDir, Truncates, Rotated}
-use Rattle.lr_copy.specs.Bytes.{Copying, none_read, read_more, took_more, AllBytes}
-use Rattle.lr_host.specs.Appending.{Appended, no_more, piece_more}
+use Rattle.lr_host.specs.Appending.{Appended}
+use Rattle.lr_host.proofs.Appending.{each_appended}
+use Rattle.lr_host.proofs.Each.{none_pass}
+use Rattle.lr_copy.specs.Bytes.{AllBytes}
+use Rattle.lr_copy.proofs.EachOfBytes.{each_all}
 use Rattle.lr_plan.specs.Course.{Course}
 use Rattle.lr_plan.specs.Done.{EachDone, LogsDone, SetDone, broke_off, went_on, SetsDone, if_rotated, is_rotated}
 use Rattle.lr_plan.specs.Outcomes.{Succeeds, marks_of}
@@ -25,19 +27,11 @@ use Rattle.lr_laws_acts.proofs.ActsWhole.{nil_split}
 -- ---- one step
 
 -- reads and appends are no acts
-copying_none : (from to : Path) (bytes owed : List ℕ) (ts : List Entry) → Copying from to bytes owed ts → filter is_act ts ≡ []
-copying_none from to _ _ _ none_read = refl
-copying_none from to _ _ _ (read_more {bytes = bytes} {ts = ts} c piece some short) = filter-append is_act ts (entry.Reads from (length bytes) piece ∷ []) ∙ (append-nil (filter is_act ts) ∙ copying_none from to bytes [] ts c)
-copying_none from to bytes _ _ (took_more {ts = ts} piece owed c) = filter-append is_act ts (entry.Appends to piece ∷ []) ∙ (append-nil (filter is_act ts) ∙ copying_none from to bytes (piece ++ owed) ts c)
-
 copied_none : (from to : Path) (limit count : ℕ) (ts : List Entry) → AllBytes from to limit count ts → filter is_act ts ≡ []
-copied_none from to limit count ts h =
-    ap (filter is_act) (h.entries.joined ∙ ap (λ us. h.entries.front ++ us) h.entries.second)
-    ∙ (filter-append is_act h.entries.front (entry.Reads from (length h.bytes) [] ∷ []) ∙ (append-nil (filter is_act h.entries.front) ∙ copying_none from to h.bytes [] h.entries.front h.entries.first))
+copied_none from to limit count ts h = none_pass is_act ts (each_all (λ e. is_act e ≡ false) from to (λ place piece short. refl) (λ piece. refl) limit count ts h)
 
 appended_none : (to : Path) (text : List ℕ) (ts : List Entry) → Appended to text ts → filter is_act ts ≡ []
-appended_none to _ _ no_more = refl
-appended_none to _ _ (piece_more piece text {ts = ts} a) = appended_none to text ts a
+appended_none to text ts a = none_pass is_act ts (each_appended (λ e. is_act e ≡ false) to text ts (λ piece short. refl) a)
 
 step_acts : (s : Step) (ts : List Entry) → Succeeds s ts → StepActs s (filter is_act ts)
 step_acts (Runs phase on command) ts h = ap (filter is_act) h

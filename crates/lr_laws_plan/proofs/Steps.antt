@@ -1,26 +1,24 @@
 -- A step by which a path was taken is the one that needs it, and left no entry; what the other steps leave.
-use Rattle.std.proofs.Common.{◌≡◌, ◌⊎◌, inl, inr, ⊎_elim, ℕ, Bool, true, false, cond, refl, sym, subst, List, [], ◌∷◌, ◌++◌, Option}
+use Rattle.std.proofs.Common.{◌≡◌, ◌⊎◌, inl, inr, ⊎_elim, Bool, true, false, cond, refl, sym, subst, List, [], ◌∷◌, ◌++◌}
 use Rattle.std.specs.List.{list_any}
 use Rattle.lr_rules.specs.declared.path.Path.{Path}
 use Rattle.lr_rules.specs.declared.fault.Fault.{Fault}
 use Rattle.lr_rules.specs.declared.fault.Fault.TheVariants as fault
 use Rattle.lr_host.specs.declared.entry.Entry.{Entry}
-use Rattle.lr_host.specs.declared.entry.Entry.TheVariants as entry
 use Rattle.lr_host.specs.Lists.{IsIn}
 use Rattle.lr_host.specs.Told.{Each}
-use Rattle.lr_host.proofs.Each.{each_append, each_maybe, each_one, each_none}
+use Rattle.lr_host.proofs.Each.{each_append, each_none}
 use Rattle.lr_host.proofs.Lists.{in_append}
 use Rattle.lr_copy.specs.declared.job.BytesStop.TheVariants as broke
-use Rattle.lr_copy.proofs.EachOfBytes.{each_all, each_broke}
 use Rattle.lr_plan.specs.declared.mark.Mark.{Mark}
 use Rattle.lr_plan.specs.declared.step.SetSteps.{SetSteps}
 use Rattle.lr_plan.specs.declared.step.Step.{Step}
 use Rattle.lr_plan.specs.declared.step.Step.TheVariants as step
-use Rattle.lr_host.specs.Appending.{Appended, no_more, piece_more, AppendBroke, at_piece, in_piece, piece_on}
 use Rattle.lr_plan.specs.Course.{Course}
 use Rattle.lr_plan.specs.Done.{EachDone, LogsDone, SetDone, broke_off, went_on, SetsDone, is_rotated}
 use Rattle.lr_chain.specs.declared.directory.DirStop.TheVariants as unmade
-use Rattle.lr_plan.specs.Outcomes.{Succeeds, Fails, ProgramFailed, badly, not_run, maybe_run, bytes_fault}
+use Rattle.lr_plan.specs.Outcomes.{Succeeds, Fails, badly, not_run, maybe_run, bytes_fault}
+use Rattle.lr_plan.proofs.Leaving.{OfEach, each_made, each_failed}
 use Rattle.lr_acts.specs.Making.{all_of_each, all_of_set, all_of_sets}
 use Rattle.lr_acts.specs.Taken.{TakesAt, OneTakes, RemovesAt, NoneRemoves, LastTaken}
 use Rattle.lr_acts.proofs.Taking.{one_later, one_first}
@@ -132,54 +130,27 @@ module _ (x : Path) where
   abbrev P : Entry → Type 0
   P = Avoids x
 
-  appended_avoids : (to : Path) (text : List ℕ) (ts : List Entry) → Appended to text ts → Each P ts
-  appended_avoids to _ _ no_more = tt
-  appended_avoids to _ _ (piece_more piece text {ts = ts} a) = (tt, appended_avoids to text ts a)
-
-  broke_avoids : (to : Path) (text : List ℕ) (ts : List Entry) → AppendBroke to text ts → Each P ts
-  broke_avoids to _ _ (at_piece text) = tt
-  broke_avoids to _ _ (in_piece piece text) = (tt, tt)
-  broke_avoids to _ _ (piece_on piece text {ts = ts} a) = (tt, broke_avoids to text ts a)
+  of_none : (s : Step) → (NamesAt x s → ⊥) → OfEach P s
+  of_none (step.Runs phase on command) k = λ end. tt
+  of_none (step.Removes path) k = tt
+  of_none (step.MakesDir path mode) k = (k, λ seen. tt)
+  of_none (step.Renames from to) k = k
+  of_none (step.Creates path mode) k = k
+  of_none (step.Takes path mode) k = k
+  of_none (step.Copies from to limit) k = (λ place piece short. tt, λ piece. tt)
+  of_none (step.Appends path text) k = λ piece. tt
+  of_none (step.SyncsFile path) k = tt
+  of_none (step.SyncsDir path) k = tt
+  of_none (step.Truncates path) k = tt
+  of_none (step.Rotated log) k = tt
 
   -- of a step that was made
   made_avoids : (s : Step) (ts : List Entry) → (NamesAt x s → ⊥) → Succeeds s ts → Each P ts
-  made_avoids (step.Runs phase on command) ts k w = each_one P w tt
-  made_avoids (step.Removes path) ts k w = each_one P w tt
-  made_avoids (step.MakesDir path mode) ts k w = ⊎_elim (λ made. each_one P made k) (λ saw. each_one P saw.look tt) w
-  made_avoids (step.Renames from to) ts k w = each_one P w k
-  made_avoids (step.Creates path mode) ts k w = each_maybe P (entry.Makes path mode) w k
-  made_avoids (step.Takes path mode) ts k w = each_one P w k
-  made_avoids (step.Copies from to limit) ts k w = each_all P from to (λ k piece short. tt) (λ piece. tt) limit w.0 ts w.1
-  made_avoids (step.Appends path text) ts k w = appended_avoids path text ts w
-  made_avoids (step.SyncsFile path) ts k w = each_one P w tt
-  made_avoids (step.SyncsDir path) ts k w = each_one P w tt
-  made_avoids (step.Truncates path) ts k w = each_one P w tt
-  made_avoids (step.Rotated log) ts k w = each_none P w
-
-  program_avoids : (phase : _) (on : List ℕ) (command : _) (f : Fault) (ts : List Entry) → ProgramFailed phase on command f ts → Each P ts
-  program_avoids phase on command f ts (badly end ne is one) = each_one P one tt
-  program_avoids phase on command f ts (not_run is none) = each_none P none
-  program_avoids phase on command f ts (maybe_run end is one) = each_one P one tt
-
-  dir_avoids : (path : Path) (mode : Option ℕ) (f : Fault) (ts : List Entry) → (path ≡ x → ⊥) → Fails (step.MakesDir path mode) f ts → Each P ts
-  dir_avoids path mode f ts k (unmade.Make, is, made) = each_maybe P (entry.MakesDir path mode) made k
-  dir_avoids path mode f ts k (unmade.Look, is, none) = each_none P none
-  dir_avoids path mode f ts k (unmade.NotDir, is, saw) = each_one P saw.look tt
+  made_avoids s ts k w = each_made P s ts (of_none s k) w
 
   -- of one that failed
   failed_avoids : (s : Step) (f : Fault) (ts : List Entry) → (NamesAt x s → ⊥) → Fails s f ts → Each P ts
-  failed_avoids (step.Runs phase on command) f ts k h = program_avoids phase on command f ts h
-  failed_avoids (step.Removes path) f ts k h = each_maybe P (entry.Unlinks path) h.1 tt
-  failed_avoids (step.MakesDir path mode) f ts k h = dir_avoids path mode f ts k h
-  failed_avoids (step.Renames from to) f ts k h = each_maybe P (entry.Renames from to) h.1 k
-  failed_avoids (step.Creates path mode) f ts k h = each_maybe P (entry.Makes path mode) h.1 k
-  failed_avoids (step.Takes path mode) f ts k h = ⊎_elim (λ c. each_maybe P (entry.Makes path mode) c.1 k) (λ taken. each_none P taken.1) h
-  failed_avoids (step.Copies from to limit) f ts k h = each_broke P from to (λ k piece short. tt) (λ piece. tt) limit h.0 ts h.2
-  failed_avoids (step.Appends path text) f ts k h = broke_avoids path text ts h.1
-  failed_avoids (step.SyncsFile path) f ts k h = each_maybe P (entry.SyncsFile path) h.1 tt
-  failed_avoids (step.SyncsDir path) f ts k h = each_maybe P (entry.SyncsDir path) h.1 tt
-  failed_avoids (step.Truncates path) f ts k h = each_maybe P (entry.Truncates path) h.1 tt
-  failed_avoids (step.Rotated log) f ts k h = absurd h
+  failed_avoids s f ts k h = each_failed P s f ts (of_none s k) h
 
 -- the step that fails so is the one that takes the path, and it left nothing
 pub takes_it : (x : Path) (s : Step) (f : Fault) (ts : List Entry) → f ≡ fault.Taken x → Fails s f ts → TakesAt x s × (ts ≡ [])

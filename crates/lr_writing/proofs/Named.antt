@@ -11,9 +11,11 @@ use Rattle.lr_host.specs.Told.{Each, Maybe}
 use Rattle.lr_plan.specs.declared.mark.Mark.{Mark}
 use Rattle.lr_plan.specs.declared.step.Step.{Step}
 use Rattle.lr_plan.specs.declared.step.Step.TheVariants.{Removes, Renames, Takes, Appends, SyncsFile, SyncsDir}
-use Rattle.lr_host.specs.Appending.{Appended, no_more, piece_more, AppendBroke, at_piece, in_piece, piece_on}
+use Rattle.lr_host.specs.Appending.{Appended}
+use Rattle.lr_host.proofs.Each.{each_append}
 use Rattle.lr_plan.specs.Course.{Course, StepThen}
-use Rattle.lr_plan.specs.Outcomes.{Succeeds, Fails, marks_of}
+use Rattle.lr_plan.specs.Outcomes.{marks_of}
+use Rattle.lr_plan.proofs.Leaving.{OfEach, OfAll, each_of_course}
 use Rattle.lr_plan.specs.Steps.{state_steps}
 use Rattle.lr_writing.specs.Named.{Spares, IsTextReady, StateIsNamed, NamedLast, not_named, named}
 use Rattle.lr_writing.specs.Writes.{part_steps, name_steps}
@@ -40,16 +42,6 @@ made x xs ms ts c = ⊎_elim (λ s. absurd (let t : [] ≡ s.fault ∷ [] = s.to
 
 -- ---- what is spared
 
-spared_on : (x : Path) (ts us : List Entry) → Each (Spares x) ts → Each (Spares x) us → Each (Spares x) (ts ++ us)
-spared_on x [] us a b = b
-spared_on x (t ∷ ts) us a b = (a.0, spared_on x ts us a.1 b)
-
-spared_one : (x : Path) (e : Entry) (ts : List Entry) → Spares x e → ts ≡ e ∷ [] → Each (Spares x) ts
-spared_one x e ts s t = subst (Each (Spares x)) (sym t) (s, tt)
-
-spared_maybe : (x : Path) (e : Entry) (ts : List Entry) → Spares x e → Maybe e ts → Each (Spares x) ts
-spared_maybe x e ts s t = ⊎_elim (λ none. subst (Each (Spares x)) (sym none) tt) (λ one. spared_one x e ts s one) t
-
 -- the step leaves the path alone
 abbrev IsAside : Path → Step → Type 0
 IsAside x (Removes y) = y ≢ x
@@ -63,35 +55,20 @@ abbrev AreAside : Path → List Step → Type 0
 AreAside x [] = Unit {0}
 AreAside x (s ∷ ss) = IsAside x s × AreAside x ss
 
-appended_spares : (x y : Path) (text : List ℕ) (ts : List Entry) → y ≢ x → Appended y text ts → Each (Spares x) ts
-appended_spares x y _ _ ne no_more = tt
-appended_spares x y _ _ ne (piece_more p text {ts = ts} a) = (ne, appended_spares x y text ts ne a)
+of_aside : (x : Path) (s : Step) → IsAside x s → OfEach (Spares x) s
+of_aside x (Removes y) ne = ne
+of_aside x (Takes y mode) ne = ne
+of_aside x (Appends y text) ne = λ piece. ne
+of_aside x (SyncsFile y) ne = tt
+of_aside x (SyncsDir y) ne = tt
+of_aside x _ ne = absurd ne
 
-broke_spares : (x y : Path) (text : List ℕ) (ts : List Entry) → y ≢ x → AppendBroke y text ts → Each (Spares x) ts
-broke_spares x y _ _ ne (at_piece text) = tt
-broke_spares x y _ _ ne (in_piece p text) = (ne, tt)
-broke_spares x y _ _ ne (piece_on p text {ts = ts} a) = (ne, broke_spares x y text ts ne a)
-
-made_spares : (x : Path) (s : Step) (ts : List Entry) → IsAside x s → Succeeds s ts → Each (Spares x) ts
-made_spares x (Removes y) ts ne h = spared_one x (entry.Unlinks y) ts ne h
-made_spares x (Takes y mode) ts ne h = spared_one x (entry.Makes y mode) ts ne h
-made_spares x (Appends y text) ts ne h = appended_spares x y text ts ne h
-made_spares x (SyncsFile y) ts ne h = spared_one x (entry.SyncsFile y) ts tt h
-made_spares x (SyncsDir y) ts ne h = spared_one x (entry.SyncsDir y) ts tt h
-made_spares x _ ts ne h = absurd ne
-
-failed_spares : (x : Path) (s : Step) (f : Fault) (ts : List Entry) → IsAside x s → Fails s f ts → Each (Spares x) ts
-failed_spares x (Removes y) f ts ne h = spared_maybe x (entry.Unlinks y) ts ne h.1
-failed_spares x (Takes y mode) f ts ne h = ⊎_elim (λ call. spared_maybe x (entry.Makes y mode) ts ne call.1) (λ taken. subst (Each (Spares x)) (sym taken.1) tt) h
-failed_spares x (Appends y text) f ts ne h = broke_spares x y text ts ne h.1
-failed_spares x (SyncsFile y) f ts ne h = spared_maybe x (entry.SyncsFile y) ts tt h.1
-failed_spares x (SyncsDir y) f ts ne h = spared_maybe x (entry.SyncsDir y) ts tt h.1
-failed_spares x _ f ts ne h = absurd ne
+all_aside : (x : Path) (ss : List Step) → AreAside x ss → OfAll (Spares x) ss
+all_aside x [] aside = tt
+all_aside x (s ∷ ss) aside = (of_aside x s aside.0, all_aside x ss aside.1)
 
 course_spares : (x : Path) (ss : List Step) (ms : List Mark) (fs : List Fault) (ts : List Entry) → AreAside x ss → Course ss ms fs ts → Each (Spares x) ts
-course_spares x [] ms fs ts aside c = subst (Each (Spares x)) (sym c.2) tt
-course_spares x (s ∷ ss) ms fs ts aside c = ⊎_elim (λ stop. failed_spares x s stop.fault ts aside.0 stop.failed)
-    (λ g. subst (Each (Spares x)) (sym g.entries.joined) (spared_on x g.entries.front g.entries.back (made_spares x s g.entries.front aside.0 g.entries.first) (course_spares x ss g.later fs g.entries.back aside.1 g.entries.second))) c
+course_spares x ss ms fs ts aside c = each_of_course (Spares x) ss ms fs ts (all_aside x ss aside) c
 
 part_aside : (state : Path) (stale : Bool) (text : List ℕ) → AreAside state (part_steps (state_part state) stale text)
 part_aside state true text = (part_apart state, (part_apart state, (part_apart state, (tt, tt))))
@@ -179,10 +156,10 @@ named_last state stale dirs text fs ts c =
         (λ g. named before g.entries.back (j ∙ ap (λ us. before ++ us) (g.entries.joined ∙ ap (λ us. us ++ g.entries.back) g.entries.first)) ready spared (behind g.entries.back g.later g.entries.second)) d
 
     second : (front back : List Entry) → ts ≡ front ++ back → Cleared (state_part state) text front → Each (Spares state) front → Split syncs names fs back → NamedLast state dirs text ts
-    second front back j w spared (stopped ms f e d) = not_named (subst (Each (Spares state)) (sym j) (spared_on state front back spared (course_spares state syncs ms fs back (syncs_aside state dirs) d)))
+    second front back j w spared (stopped ms f e d) = not_named (subst (Each (Spares state)) (sym j) (each_append (Spares state) front back spared (course_spares state syncs ms fs back (syncs_aside state dirs) d)))
     second front back j w spared (passed ms ns middle rest k d e) =
         last (front ++ middle) rest ns (j ∙ (ap (λ us. front ++ us) k ∙ sym (append_assoc front middle rest))) (is_ready state dirs text front middle w (syncs_are dirs ms middle d))
-        (spared_on state front middle spared (course_spares state syncs ms [] middle (syncs_aside state dirs) d)) e
+        (each_append (Spares state) front middle spared (course_spares state syncs ms [] middle (syncs_aside state dirs) d)) e
 
     first : Split parts (syncs ++ names) fs ts → NamedLast state dirs text ts
     first (stopped ms f e d) = not_named (course_spares state parts ms fs ts (part_aside state stale text) d)
@@ -214,7 +191,7 @@ named_whole state stale dirs text ts c =
     second front back j w spared (stopped ms f e d) = absurd (cc)
     second front back j w spared (passed ms ns middle rest k d e) =
         last (front ++ middle) rest ns (j ∙ (ap (λ us. front ++ us) k ∙ sym (append_assoc front middle rest))) (is_ready state dirs text front middle w (syncs_are dirs ms middle d))
-        (spared_on state front middle spared (course_spares state syncs ms [] middle (syncs_aside state dirs) d)) e
+        (each_append (Spares state) front middle spared (course_spares state syncs ms [] middle (syncs_aside state dirs) d)) e
 
     first : Split parts (syncs ++ names) [] ts → StateIsNamed state dirs text ts
     first (stopped ms f e d) = absurd (cc)
