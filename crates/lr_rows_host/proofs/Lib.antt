@@ -1,2 +1,3 @@
+mod CanCall
 mod CanCopy
 mod CanSetAside

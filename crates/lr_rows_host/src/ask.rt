@@ -1,69 +1,103 @@
 // The calls that a row can ask for, by their names.
 use crate::aside::set_log_aside;
-use crate::changes::{OnFile, append, begin, make, on_file, rename, sync_dir};
+use crate::calls::{
+    OnFile, append, begin, list, look, make, on_file, read, rename, run, run_with, sync_dir,
+};
 use crate::cut::{cut, cut_case};
 use crate::finishing::finish_log;
-use crate::looks::{Tally, count, list, look, read, run};
+use crate::tally::{Tally, count};
+use crate::telling::Telling;
 use lr_memhost::MemHost;
 use lr_rows_line::Trouble;
 use lr_rows_read::Cursor;
 
+// A call of any host.
 #[derive(Clone, Copy)]
-enum Ask {
+enum Call {
     Look,
     List,
     Read,
     Run,
-    Count(Tally),
+    RunWith,
     Rename,
     Make(bool),
     Append,
     OnFile(OnFile),
     SyncDir,
     Begin(bool),
+}
+
+static CALLS: [(&[u8], Call); 15] = [
+    (b"look", Call::Look),
+    (b"list", Call::List),
+    (b"read", Call::Read),
+    (b"run", Call::Run),
+    (b"run-with", Call::RunWith),
+    (b"rename", Call::Rename),
+    (b"make", Call::Make(false)),
+    (b"make-dir", Call::Make(true)),
+    (b"append", Call::Append),
+    (b"truncate", Call::OnFile(OnFile::Truncate)),
+    (b"unlink", Call::OnFile(OnFile::Unlink)),
+    (b"sync-file", Call::OnFile(OnFile::Sync)),
+    (b"sync-dir", Call::SyncDir),
+    (b"begin", Call::Begin(false)),
+    (b"begin-and-end", Call::Begin(true)),
+];
+
+fn answer<H: Telling>(host: &mut H, call: Call, cursor: &mut Cursor) -> Result<Vec<u8>, Trouble> {
+    match call {
+        Call::Look => look(host, cursor),
+        Call::List => list(host, cursor),
+        Call::Read => read(host, cursor),
+        Call::Run => run(host, cursor),
+        Call::RunWith => run_with(host, cursor),
+        Call::Rename => rename(host, cursor),
+        Call::Make(is_dir) => make(host, cursor, is_dir),
+        Call::Append => append(host, cursor),
+        Call::OnFile(what) => on_file(host, cursor, what),
+        Call::SyncDir => sync_dir(host, cursor),
+        Call::Begin(ends) => begin(host, cursor, ends),
+    }
+}
+
+/// What the host answers to the call that the word names, where it is one of a host; a line each.
+pub fn called<H: Telling>(
+    host: &mut H,
+    cursor: &mut Cursor,
+    word: &[u8],
+) -> Result<Option<Vec<u8>>, Trouble> {
+    for (name, call) in &CALLS {
+        if *name == word {
+            return Ok(Some(answer(host, *call, cursor)?));
+        }
+    }
+    Ok(None)
+}
+
+// What a row asks of the host in memory besides.
+#[derive(Clone, Copy)]
+enum Ask {
+    Count(Tally),
     Cut,
     CutCase,
     SetAside,
     Finish,
 }
 
-static ASKS: [(&[u8], Ask); 21] = [
-    (b"look", Ask::Look),
-    (b"list", Ask::List),
-    (b"read", Ask::Read),
-    (b"run", Ask::Run),
+static ASKS: [(&[u8], Ask); 7] = [
     (b"unsynced", Ask::Count(Tally::Unsynced)),
     (b"starved", Ask::Count(Tally::Starved)),
     (b"entries", Ask::Count(Tally::Entries)),
-    (b"rename", Ask::Rename),
-    (b"make", Ask::Make(false)),
-    (b"make-dir", Ask::Make(true)),
-    (b"append", Ask::Append),
-    (b"truncate", Ask::OnFile(OnFile::Truncate)),
-    (b"unlink", Ask::OnFile(OnFile::Unlink)),
-    (b"sync-file", Ask::OnFile(OnFile::Sync)),
-    (b"sync-dir", Ask::SyncDir),
-    (b"begin", Ask::Begin(false)),
-    (b"begin-and-end", Ask::Begin(true)),
     (b"cut", Ask::Cut),
     (b"cut-case", Ask::CutCase),
     (b"set-aside", Ask::SetAside),
     (b"finish", Ask::Finish),
 ];
 
-fn answer(host: &mut MemHost, ask: Ask, cursor: &mut Cursor) -> Result<Vec<u8>, Trouble> {
+fn told(host: &mut MemHost, ask: Ask, cursor: &mut Cursor) -> Result<Vec<u8>, Trouble> {
     match ask {
-        Ask::Look => look(host, cursor),
-        Ask::List => list(host, cursor),
-        Ask::Read => read(host, cursor),
-        Ask::Run => run(host, cursor),
         Ask::Count(what) => count(host, cursor.alloc, what),
-        Ask::Rename => rename(host, cursor),
-        Ask::Make(is_dir) => make(host, cursor, is_dir),
-        Ask::Append => append(host, cursor),
-        Ask::OnFile(what) => on_file(host, cursor, what),
-        Ask::SyncDir => sync_dir(host, cursor),
-        Ask::Begin(ends) => begin(host, cursor, ends),
         Ask::Cut => cut(host, cursor),
         Ask::CutCase => cut_case(cursor),
         Ask::SetAside => set_log_aside(host, cursor),
@@ -71,7 +105,7 @@ fn answer(host: &mut MemHost, ask: Ask, cursor: &mut Cursor) -> Result<Vec<u8>, 
     }
 }
 
-/// What the call that the word names answers, where it is one of these.
+/// What the host in memory answers to what the word names, where a row can ask for it; a line each.
 pub fn asked(
     host: &mut MemHost,
     cursor: &mut Cursor,
@@ -79,8 +113,8 @@ pub fn asked(
 ) -> Result<Option<Vec<u8>>, Trouble> {
     for (name, ask) in &ASKS {
         if *name == word {
-            return Ok(Some(answer(host, *ask, cursor)?));
+            return Ok(Some(told(host, *ask, cursor)?));
         }
     }
-    Ok(None)
+    called(host, cursor, word)
 }

@@ -7,13 +7,13 @@ ghost use Rattle.lr_copy.specs.Fits.{ArePaths, CanCopy};
 
 use crate::answer::{failed_call, number, said_path};
 use crate::tests_of::{dir_at, file_at, is_free};
-use lr_copy::{CopyStop, Job};
+use lr_copy::{CopyStop, Job, part_path};
 use lr_memhost::MemHost;
 use lr_move::finish;
 use lr_rows_line::Trouble;
 use lr_rows_read::Cursor;
 use lr_rules::Path;
-use std::alloc::{AllocError, Global};
+use std::alloc::Global;
 
 // What the words before the paths say.
 #[derive(Clone, Copy)]
@@ -66,16 +66,12 @@ fn manner(cursor: &mut Cursor) -> Result<Wanted, Trouble>
     })
 }
 
-fn part_bytes(alloc: Global, to: &Path) -> Result<Vec<u8>, AllocError> {
-    let mut bytes = Vec::from_slice(alloc, to.bytes())?;
-    bytes.extend_from_slice(b".logrotate-part")?;
-    Ok(bytes)
-}
-
 // The path of the part file.
 fn part_of(alloc: Global, to: &Path) -> Result<Path, Trouble> {
-    let bytes = part_bytes(alloc, to)?;
-    Ok(Path::new(alloc, bytes.as_slice())?)
+    if to.bytes().len() > 4081 {
+        return Err(Trouble::Odd("no part file has so long a path"));
+    }
+    Ok(part_path(alloc, to)?)
 }
 
 fn job(cursor: &mut Cursor, wanted: Wanted) -> Result<Job, Trouble>

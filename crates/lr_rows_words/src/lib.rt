@@ -24,5 +24,5 @@ mod path;
 mod state;
 mod streamed;
 
-pub use answers::{Answer, texts};
+pub use answers::Answer;
 pub use ask::answer;
