@@ -1,6 +1,5 @@
 // What a call prints, and the report that it answers.
-ghost use Rattle.std.specs.Prelude.{◌≡◌, ◌≤◌, ◌<◌, ◌+◌, ◌++◌, ◌∷◌, [], Ok, IfOk, OnErr, OnOk, vec_len, vec_capacity};
-ghost use Rattle.lr_rules.specs.declared.fault.Fault.TheVariants as fault;
+ghost use Rattle.std.specs.Prelude.{◌≡◌, ◌≤◌, ◌<◌, ◌+◌, ◌++◌, Ok, IfOk, OnErr, OnOk, vec_len, vec_capacity};
 ghost use Rattle.lr_report.specs.Lines.{report_lines};
 ghost use Rattle.lr_shown.specs.Puts.{Puts};
 ghost use Rattle.lr_audit.specs.Came.{answer_of, audit_told};
@@ -10,8 +9,8 @@ use crate::text::put_audit;
 use crate::told::Told;
 use lr_audited::Audit;
 use lr_host::{Sink, SinkFault};
-use lr_report::{Outcome, Report, printed, put_lines};
-use lr_rules::{Fault, Listed, Memory, Notice};
+use lr_report::{Outcome, printed, put_lines, report_behind};
+use lr_rules::Memory;
 
 // Puts the text of an audit, where there is one.
 fn put_told_audit<K: Sink>(audit: &Option<Audit>, out: &mut K) -> Result<(), SinkFault>
@@ -40,25 +39,6 @@ fn put_told<K: Sink>(told: &Told, out: &mut K) -> Result<(), SinkFault>
     put_said_lines(told, out)
 }
 
-fn report_of(notices: Listed<Notice>, faults: Vec<Fault>) -> Outcome
-    ensures { result ≡ Outcome.Done (record { notices = notices; faults = faults.items }) }
-{
-    Outcome::Done(Report {
-        notices,
-        faults: Listed::from_vec(faults),
-    })
-}
-
-// The report with `Out` behind these faults, for which there is room.
-fn report_with_out(notices: Listed<Notice>, faults: Vec<Fault>) -> Outcome
-    requires { vec_len faults < vec_capacity faults }
-    ensures { result ≡ Outcome.Done (record { notices = notices; faults = faults.items ++ fault.Out ∷ [] }) }
-{
-    let mut faults = faults;
-    faults.push_reserved(Fault::Out);
-    report_of(notices, faults)
-}
-
 // The report of what was told, of which all was put, or a first part, where the output failed.
 fn report_after(put: Result<(), SinkFault>, told: Told) -> Outcome
     requires { vec_len told.faults < vec_capacity told.faults }
@@ -70,10 +50,7 @@ fn report_after(put: Result<(), SinkFault>, told: Told) -> Outcome
         faults,
         ..
     } = told;
-    match put {
-        Ok(()) => report_of(notices, faults),
-        Err(_) => report_with_out(notices, faults),
-    }
+    report_behind(put, notices, faults)
 }
 
 // The report of what was told, all of which is put.

@@ -1,9 +1,10 @@
 -- The faults of a report but for its `Out`.
-use Rattle.std.proofs.Common.{◌≡◌, List, [], ◌∷◌, ◌++◌, refl, sym, ap, subst, Contains}
+use Rattle.std.proofs.Common.{◌≡◌, List, [], ◌∷◌, ◌++◌, Result, Ok, Err, OnErr, refl, sym, ap, subst, Contains}
 use Rattle.std.proofs.lemmas.List.Elements.{Contains-push, Contains-append_right}
 use Rattle.lr_rules.specs.declared.fault.Fault.{Fault}
 use Rattle.lr_rules.specs.declared.fault.Fault.TheVariants as fault
 use Rattle.lr_rules.specs.declared.fault.Notice.{Notice}
+use Rattle.lr_host.specs.declared.sink.SinkFault.{SinkFault}
 use Rattle.lr_report.specs.declared.outcome.Outcome.{Outcome}
 use Rattle.lr_report.specs.declared.outcome.Outcome.TheVariants.{Done}
 use Rattle.lr_cli.specs.Faults.{HasFault}
@@ -46,5 +47,7 @@ last_goes (f ∷ g ∷ fs) = ap (λ gs. f ∷ gs) (last_goes (g ∷ fs))
 abbrev pub report_with : List Notice → List Fault → Outcome
 report_with ns fs = Done (record { notices = ns; faults = fs })
 
-pub has_out : (o : Outcome) (ns : List Notice) (fs : List Fault) → o ≡ report_with ns (fs ++ fault.Out ∷ []) → HasFault o fault.Out
-has_out o ns fs e = subst (λ r. HasFault r fault.Out) (sym e) (Contains-push fs fault.Out)
+-- where the output failed, it is among them
+pub has_out : (put : Result (Unit {0}) SinkFault) (o : Outcome) (ns : List Notice) (fs : List Fault) → OnErr put (o ≡ report_with ns (fs ++ fault.Out ∷ [])) → OnErr put (HasFault o fault.Out)
+has_out (Ok u) o ns fs e = tt
+has_out (Err why) o ns fs e = subst (λ r. HasFault r fault.Out) (sym e) (Contains-push fs fault.Out)

@@ -6,7 +6,6 @@ ghost use Rattle.lr_host.specs.Told.{Rose};
 ghost use Rattle.lr_report.specs.Lines.{report_lines};
 ghost use Rattle.lr_shown.specs.Lines.{plan_text};
 ghost use Rattle.lr_shown.specs.Puts.{Puts};
-ghost use Rattle.lr_report.specs.declared.outcome.Report.{Report};
 ghost use Rattle.lr_cli.specs.Asked.{planned_text};
 ghost use Rattle.lr_cli.specs.Faults.{answer_of, plan_told, HasFault};
 ghost use Rattle.lr_cli.specs.Printed.{printed_of, without_out};
@@ -16,37 +15,9 @@ use crate::told::Told;
 use lr_command::Request;
 use lr_host::{Sink, SinkFault};
 use lr_plan::Plan;
-use lr_report::{Outcome, Report, printed, put_lines};
-use lr_rules::{Fault, Listed, Notice};
+use lr_report::{Outcome, printed, put_lines, report_behind};
 use lr_run::RunStop;
 use lr_shown::print;
-
-#[tactic(auto, using(crate::proofs::OutAside::all_stay))]
-fn report_of(notices: Listed<Notice>, faults: Vec<Fault>) -> Outcome
-    requires no_out { Contains faults.items fault.Out → ⊥ }
-    ensures report { result ≡ Outcome.Done (record { notices = notices; faults = faults.items }) }
-    ensures faults { without_out result ≡ Outcome.Done (record { notices = notices; faults = faults.items }) }
-{
-    Outcome::Done(Report {
-        notices,
-        faults: Listed::from_vec(faults),
-    })
-}
-
-// The report with `Out` behind these faults, for which there is room.
-#[tactic(auto, using(crate::proofs::OutAside::last_goes, crate::proofs::OutAside::has_out))]
-fn report_with_out(notices: Listed<Notice>, faults: Vec<Fault>) -> Outcome
-    requires room { vec_len faults < vec_capacity faults }
-    ensures faults { without_out result ≡ Outcome.Done (record { notices = notices; faults = faults.items }) }
-    ensures out { HasFault result fault.Out }
-{
-    let mut faults = faults;
-    faults.push(Fault::Out).unwrap();
-    Outcome::Done(Report {
-        notices,
-        faults: Listed::from_vec(faults),
-    })
-}
 
 // Puts the text of a plan, so far as the request asks for it.
 fn put_plan<K: Sink>(request: &Request, plan: &Plan, out: &mut K) -> Result<(), SinkFault>
@@ -90,6 +61,7 @@ fn put_told<K: Sink>(request: &Request, told: &Told, out: &mut K) -> Result<(), 
 }
 
 // The report of what a run told, of which all that there is to say was put, or a first part, where the output failed.
+#[tactic(auto, using(crate::proofs::OutAside::all_stay, crate::proofs::OutAside::last_goes))]
 fn report_after(put: Result<(), SinkFault>, told: Told) -> Outcome
     requires room { vec_len told.faults < vec_capacity told.faults }
     requires no_out { Contains told.faults.items fault.Out → ⊥ }
@@ -102,10 +74,7 @@ fn report_after(put: Result<(), SinkFault>, told: Told) -> Outcome
         faults,
         ..
     } = told;
-    match put {
-        Ok(()) => report_of(notices, faults),
-        Err(_) => report_with_out(notices, faults),
-    }
+    report_behind(put, notices, faults)
 }
 
 // The report of what a run told, all of which is put. Where the output fails, it has `Out` behind the other faults, for

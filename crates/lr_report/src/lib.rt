@@ -18,4 +18,4 @@ pub use kinds::phase_name;
 pub use lines::{put_fault, put_lines, put_notice, put_said};
 pub use outcome::{Outcome, Report, status};
 pub use put::{put_five, put_four, put_one, put_three, put_two};
-pub use report::{printed, put_outcome, put_report};
+pub use report::{printed, put_outcome, put_report, report_behind};

@@ -1,5 +1,6 @@
 // What there is to say of an outcome, printed.
-ghost use Rattle.std.specs.Prelude.{◌≡◌, ◌≤◌, ◌⊎◌, OnErr, OnOk};
+ghost use Rattle.std.specs.Prelude.{◌≡◌, ◌≤◌, ◌<◌, ◌⊎◌, ◌++◌, ◌∷◌, [], OnErr, OnOk, vec_len, vec_capacity};
+ghost use Rattle.lr_rules.specs.declared.fault.Fault.TheVariants as fault;
 ghost use Rattle.lr_host.specs.Told.{Rose};
 ghost use Rattle.lr_report.specs.Lines.{report_lines};
 ghost use Rattle.lr_report.specs.Outcome.{outcome_text};
@@ -8,6 +9,7 @@ ghost use Rattle.lr_report.specs.Puts.{Took, TookPart};
 use crate::lines::{put_lines, put_said};
 use crate::outcome::{Outcome, Report};
 use lr_host::{Sink, SinkFault};
+use lr_rules::{Fault, Listed, Notice};
 
 /// Puts the lines of a report: of its notices, then of its faults, each in order. It takes no memory, and stops at the
 /// first fault of the output.
@@ -45,4 +47,25 @@ pub fn printed<K: Sink>(outcome: Outcome, out: &mut K) -> Outcome
 {
     let _ = put_outcome(&outcome, out);
     outcome
+}
+
+/// The report of these notices and faults, where all that there is to say was put. Where the output failed it has `Out` behind the
+/// other faults, for which there has to be room: no memory is taken here.
+pub fn report_behind(
+    put: Result<(), SinkFault>,
+    notices: Listed<Notice>,
+    faults: Vec<Fault>,
+) -> Outcome
+    requires { vec_len faults < vec_capacity faults }
+    ensures whole { OnOk put (result ≡ Outcome.Done (record { notices = notices; faults = faults.items })) }
+    ensures broken_off { OnErr put (result ≡ Outcome.Done (record { notices = notices; faults = faults.items ++ fault.Out ∷ [] })) }
+{
+    let mut faults = faults;
+    if put.is_err() {
+        faults.push_reserved(Fault::Out);
+    }
+    Outcome::Done(Report {
+        notices,
+        faults: Listed::from_vec(faults),
+    })
 }
