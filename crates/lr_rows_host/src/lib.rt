@@ -1,5 +1,5 @@
-//! Calls of a host by words, as rows ask for them: those of any host, of which one in memory shows what stands; and of that one also
-//! cuts of the machine, and the calls of `lr_move` over it.
+//! Calls of a host by words, as rows ask for them: those of any host, of which one in memory shows what stands; and of that one
+//! also cuts of the machine, and the calls of `lr_move` over it.
 //!
 //! Begin with [`called`], which answers the call that a word names, where it is one of a host.
 #![tactic(auto)]
