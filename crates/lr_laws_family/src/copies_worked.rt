@@ -6,7 +6,7 @@ ghost use Rattle.lr_laws_family.specs.Whole.{IsCopyWhole};
 ghost use Rattle.lr_laws_family.specs.CopiesWorked.{in_order, name_pending, bytes_pending, read_on};
 
 /// Where the part file is synced, then gets the final path, and then the directory is synced, the copy is whole.
-pub fn in_order_is_whole()
+pub fn copy_in_order_is_whole()
     ensures whole { IsCopyWhole log third (Opens found) in_order }
 
     // Where the directory isn't synced, a cut may leave nothing at the final path.

@@ -14,5 +14,5 @@ mod copies_worked;
 mod family;
 
 pub use copies::copy_is_whole_before_cut;
-pub use copies_worked::in_order_is_whole;
+pub use copies_worked::copy_in_order_is_whole;
 pub use family::family_is_turned;

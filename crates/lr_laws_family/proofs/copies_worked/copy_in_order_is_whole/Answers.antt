@@ -1,5 +1,5 @@
 use Rattle.lr_laws_family.proofs.CopiesExamples.{in_order_whole, name_journal, name_lost, bytes_journal, bytes_lost, read_on_journal, read_on_lost}
-use Rattle.lr_laws_family.proofs.copies_worked.in_order_is_whole.Goals as goal
+use Rattle.lr_laws_family.proofs.copies_worked.copy_in_order_is_whole.Goals as goal
 
 pub returns-clause-whole : goal.returns-clause-whole
 returns-clause-whole c = in_order_whole
